@@ -10,5 +10,6 @@ pub mod OneList
 pub mod Parts
 pub mod Placed
 pub mod SameNeeds
+pub mod StructChoices
 pub mod Validities
 pub mod WordKernels

@@ -8,11 +8,14 @@ use Rattle.sel_bits.specs.declared.faults.Limit.{Limit}
 use Rattle.sel_bits.specs.declared.faults.PolarsError.{PolarsError}
 use Rattle.sel_bits.specs.declared.faults.PolarsError.TheVariants.{OutOfMemory, SizeLimit, ComputeError}
 use Rattle.sel_arrow.specs.Masked.{hidden, Covers, valid_at}
+use Rattle.sel_arrow.specs.Rows.{buffers_held, type_of}
 use Rattle.sel_arrow.specs.Texts.{is_text}
 use Rattle.sel_arrow.specs.Value.{Value, Null, Bytes, is_null}
 use Rattle.sel_arrow.specs.Views.{view_bytes, view_rows}
+use Rattle.sel_arrow.specs.declared.column.Column.{Column}
+use Rattle.sel_arrow.specs.declared.column.Column.TheVariants.{LargeList', FixedSizeList', Struct'}
 use Rattle.sel_arrow.specs.declared.view.View.{View}
-use Rattle.sel_gather.specs.Need.{ExceedsNone, IsLimitOrMemory}
+use Rattle.sel_gather.specs.Need.{buffer_count, ExceedsNone, IsLimitOrMemory}
 use Rattle.sel_arrow.proofs.Lists.{both, and_first, and_second}
 use Rattle.sel_arrow.proofs.ViewRows.{length-view_rows, null_view, valid_view}
 use Rattle.sel_gather.specs.Picks.{pick}
@@ -20,6 +23,7 @@ use Rattle.sel_gather.specs.Runs.{expand, unrolled}
 use Rattle.sel_gather.proofs.RunLists.{map_nulls}
 use Rattle.sel_ternary.specs.Choose.{broadcast_true, broadcast_false, broadcast_both}
 use Rattle.sel_ternary.specs.Chosen.{first_row}
+use Rattle.sel_ternary.specs.WordKernels.{first_count, has_word_kernel}
 
 -- ---- the only row of a column
 
@@ -127,3 +131,13 @@ hidden_text (b ∷ bs) [] texts = refl
 hidden_text (true ∷ bs) (v ∷ vs) texts =
     both (is_text v) (list_all is_text (hidden bs vs)) (and_first (is_text v) (list_all is_text vs) texts) (hidden_text bs vs (and_second (is_text v) (list_all is_text vs) texts))
 hidden_text (false ∷ bs) (v ∷ vs) texts = hidden_text bs vs (and_second (is_text v) (list_all is_text vs) texts)
+
+-- ---- data buffers
+
+pub held_count : (c : Column) → has_word_kernel (type_of c) ≡ true → first_count (buffers_held c) ≡ buffer_count c
+held_count (LargeList' offsets p values validity) is = absurd cc
+held_count (FixedSizeList' size len p values validity) is = absurd cc
+held_count (Struct' len n fields validity) is = absurd cc
+held_count c is = refl
+
+pub ruleset held_counts = held_count

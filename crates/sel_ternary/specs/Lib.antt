@@ -5,6 +5,7 @@ pub mod Lanes
 pub mod ListSides
 pub mod Sides
 pub mod Steps
+pub mod Structs
 pub mod Validity
 pub mod ViewSides
 pub mod WordKernels

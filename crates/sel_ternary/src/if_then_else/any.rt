@@ -1,14 +1,18 @@
 //! If-then-else for columns of any type.
 
-ghost use Rattle.std.specs.Prelude.{◌≡◌, ◌≤◌, ◌∷◌, [], length, IfOk, IfErr, IfSome};
+ghost use Rattle.std.specs.Prelude.{◌≡◌, ◌≤◌, ◌<◌, ◌∷◌, [], All, length, map, true, IfOk, IfErr, IfSome};
 ghost use Rattle.sel_bits.specs.Limits.{max_buffers, max_rows};
-ghost use Rattle.sel_arrow.specs.Rows.{rows, type_of};
+ghost use Rattle.sel_arrow.specs.Rows.{rows, type_of, IsField};
+ghost use Rattle.sel_arrow.specs.Shape.{of_struct, shapes_of};
 ghost use Rattle.sel_arrow.specs.Value.{Null};
 ghost use Rattle.sel_ternary.specs.Choose.{choose, broadcast_true, broadcast_false, broadcast_both};
 ghost use Rattle.sel_ternary.specs.Chosen.{chosen_rows, first_row, SideFits};
 ghost use Rattle.sel_ternary.specs.ChosenPicks.{bit_pick, chosen_picks, place_on};
-ghost use Rattle.sel_gather.specs.Gathers.{GathersFrom};
-ghost use Rattle.sel_gather.specs.Need.{buffer_count, exceeded_taken, ExceedsNone, IsLimitOrMemory};
+ghost use Rattle.sel_ternary.specs.Structs.{is_bare};
+ghost use Rattle.sel_gather.specs.Children.{field, fields_of, part_at};
+ghost use Rattle.sel_gather.specs.Gathers.{Collects, GathersFrom};
+ghost use Rattle.sel_gather.specs.Need.{buffer_count, exceeded_in_fields, exceeded_taken, ExceedsNone, IsLimitOrMemory};
+ghost use Rattle.sel_gather.specs.Steps.{parts_of};
 
 use crate::if_then_else::by_words::choose_by_words;
 use sel_arrow::array::Array;
@@ -21,7 +25,7 @@ use sel_arrow::utf8view::Utf8ViewArray;
 use sel_bits::bitmap::Bitmap;
 use sel_bits::faults::{Limit, PolarsError, PolarsResult};
 use sel_gather::copy::collect_runs;
-use sel_gather::gather::collect_plan;
+use sel_gather::gather::collect_rising;
 use sel_gather::row_refs::{Places, Walk};
 use sel_gather::runs::Run;
 use std::alloc::Global;
@@ -124,8 +128,10 @@ pub fn if_then_else_any_broadcast_both(
     choice(alloc, mask, if_true, if_false, false, false)
 }
 
-// Returns the if-then-else by the words of the mask if the type has such a kernel, else by row
-// references. If its flag is false, a column has one row, which is broadcast.
+// Returns the if-then-else by the words of the mask if the type has such a kernel, field by field
+// for structs without a validity, else by row references. If its flag is false, a column has one
+// row, which is broadcast.
+#[cycle(choosing)]
 fn choice(
     alloc: Global,
     mask: &Bitmap,
@@ -146,6 +152,9 @@ fn choice(
 {
     if !true_column && !false_column && if_true.has_nulls() && if_false.has_nulls() {
         return null_choice(alloc, mask, if_true, if_false);
+    }
+    if is_bare_struct(if_true.as_column()) && is_bare_struct(if_false.as_column()) {
+        return struct_choice(alloc, mask, if_true, if_false, true_column, false_column);
     }
     let quick = word_choice(alloc, mask, if_true, if_false, true_column, false_column)?;
     if let Some(chosen) = quick {
@@ -174,6 +183,149 @@ fn null_choice(
     };
     let column = collect_runs(alloc, &sources, &[run], mask.len())?;
     Ok(ArrayRef { column })
+}
+
+// Returns whether a column is a struct column without a validity.
+fn is_bare_struct(column: &Column) -> bool
+    ensures { result ≡ is_bare column.now }
+{
+    match column {
+        Column::Struct { validity, .. } => validity.is_none(),
+        _ => false,
+    }
+}
+
+// Returns the if-then-else of struct columns without a validity, field by field.
+#[cycle(choosing)]
+fn struct_choice(
+    alloc: Global,
+    mask: &Bitmap,
+    if_true: &ArrayRef,
+    if_false: &ArrayRef,
+    true_column: bool,
+    false_column: bool,
+) -> PolarsResult<ArrayRef>
+    requires true_bare { is_bare if_true.now.column ≡ true }
+    requires false_bare { is_bare if_false.now.column ≡ true }
+    requires alike { type_of if_true.now.column ≡ type_of if_false.now.column }
+    requires true_side { SideFits true_column (length (rows if_true.now.column))
+        (length mask.now.bits) }
+    requires false_side { SideFits false_column (length (rows if_false.now.column))
+        (length mask.now.bits) }
+    requires few { length mask.now.bits ≤ max_rows }
+    ensures { GathersFrom result (if_true.now.column ∷ if_false.now.column ∷ [])
+        (chosen_rows true_column false_column mask.now.bits (rows if_true.now.column)
+        (rows if_false.now.column)) }
+{
+    let Column::Struct { fields: firsts, .. } = if_true.as_column() else {
+        unreachable!()
+    };
+    let fields = field_choices(
+        alloc,
+        mask,
+        firsts,
+        if_true,
+        if_false,
+        true_column,
+        false_column,
+    )?;
+    let column = Column::Struct {
+        len: mask.len(),
+        fields,
+        validity: None,
+    };
+    Ok(ArrayRef { column })
+}
+
+// Returns the fields of the if-then-else of struct columns without a validity; `firsts` have their
+// types.
+#[cycle(choosing)]
+fn field_choices(
+    alloc: Global,
+    mask: &Bitmap,
+    firsts: &[Column],
+    if_true: &ArrayRef,
+    if_false: &ArrayRef,
+    true_column: bool,
+    false_column: bool,
+) -> PolarsResult<Vec<Column>>
+    requires true_bare { is_bare if_true.now.column ≡ true }
+    requires false_bare { is_bare if_false.now.column ≡ true }
+    requires true_type { type_of if_true.now.column ≡
+        of_struct (shapes_of (map type_of firsts.now)) }
+    requires false_type { type_of if_false.now.column ≡
+        of_struct (shapes_of (map type_of firsts.now)) }
+    requires true_side { SideFits true_column (length (rows if_true.now.column))
+        (length mask.now.bits) }
+    requires false_side { SideFits false_column (length (rows if_false.now.column))
+        (length mask.now.bits) }
+    requires few { length mask.now.bits ≤ max_rows }
+    ensures parts { IfOk result (λ fields. map rows fields.items ≡
+        parts_of (length firsts.now) (chosen_rows true_column false_column mask.now.bits
+        (rows if_true.now.column) (rows if_false.now.column))) }
+    ensures dtypes { IfOk result (λ fields. map type_of fields.items ≡ map type_of firsts.now) }
+    ensures formed { IfOk result (λ fields. All (IsField (length mask.now.bits)) fields.items) }
+    ensures within { IfOk result (λ _. ExceedsNone
+        (exceeded_in_fields (shapes_of (map type_of firsts.now)) 0
+        (if_true.now.column ∷ if_false.now.column ∷ []) (chosen_rows true_column false_column
+        mask.now.bits (rows if_true.now.column) (rows if_false.now.column)))) }
+    ensures refusal { IfErr result (IsLimitOrMemory
+        (exceeded_in_fields (shapes_of (map type_of firsts.now)) 0
+        (if_true.now.column ∷ if_false.now.column ∷ []) (chosen_rows true_column false_column
+        mask.now.bits (rows if_true.now.column) (rows if_false.now.column)))) }
+{
+    let count = firsts.len();
+    let mut fields = Vec::with_capacity(alloc, count)?;
+    for j in 0..count {
+        let field = field_choice(alloc, mask, if_true, if_false, true_column, false_column, j)?;
+        fields.push(field)?;
+    }
+    Ok(fields)
+}
+
+// Returns field `j` of the if-then-else of struct columns without a validity.
+#[cycle(choosing)]
+fn field_choice(
+    alloc: Global,
+    mask: &Bitmap,
+    if_true: &ArrayRef,
+    if_false: &ArrayRef,
+    true_column: bool,
+    false_column: bool,
+    j: usize,
+) -> PolarsResult<Column>
+    requires true_bare { is_bare if_true.now.column ≡ true }
+    requires false_bare { is_bare if_false.now.column ≡ true }
+    requires alike { type_of if_true.now.column ≡ type_of if_false.now.column }
+    requires inside { j < length (fields_of if_true.now.column) }
+    requires true_side { SideFits true_column (length (rows if_true.now.column))
+        (length mask.now.bits) }
+    requires false_side { SideFits false_column (length (rows if_false.now.column))
+        (length mask.now.bits) }
+    requires few { length mask.now.bits ≤ max_rows }
+    ensures { Collects result (type_of (field j if_true.now.column))
+        (field j if_true.now.column ∷ field j if_false.now.column ∷ [])
+        (map (part_at j) (chosen_rows true_column false_column mask.now.bits
+        (rows if_true.now.column) (rows if_false.now.column))) }
+{
+    let column = field_of(if_true.as_column(), j).try_clone(alloc)?;
+    let first = ArrayRef { column };
+    let column = field_of(if_false.as_column(), j).try_clone(alloc)?;
+    let second = ArrayRef { column };
+    let ArrayRef { column } = choice(alloc, mask, &first, &second, true_column, false_column)?;
+    Ok(column)
+}
+
+// Returns field `j` of a column, or the column itself if there is none.
+fn field_of(column: &Column, j: usize) -> &Column
+    ensures { result.now ≡ field j column.now }
+{
+    if let Column::Struct { fields, .. } = column {
+        if j < fields.len() {
+            return &fields[j];
+        }
+    }
+    column
 }
 
 // Returns the if-then-else by the words of the mask. Returns none if the type has no such kernel.
@@ -291,7 +443,7 @@ pub(crate) fn picked_choice(
         true_column,
         false_column,
     };
-    let column = collect_plan(alloc, &sources, &Walk { places, at: 0 }, false)?;
+    let column = collect_rising(alloc, &sources, &Walk { places, at: 0 })?;
     Ok(ArrayRef { column })
 }
 

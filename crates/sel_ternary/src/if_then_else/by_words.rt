@@ -4,7 +4,7 @@ ghost use Rattle.std.specs.Prelude.{◌≡◌, ◌≢◌, ◌≤◌, ◌+◌, �
 ghost use Rattle.sel_bits.specs.Faults.{IsOutOfMemory};
 ghost use Rattle.sel_bits.specs.Limits.{max_buffers, max_rows};
 ghost use Rattle.sel_arrow.specs.Masked.{hidden};
-ghost use Rattle.sel_arrow.specs.Rows.{rows as column_rows, type_of};
+ghost use Rattle.sel_arrow.specs.Rows.{rows as column_rows, buffers_held, type_of};
 ghost use Rattle.sel_arrow.specs.Value.{Null};
 ghost use Rattle.sel_ternary.specs.Choose.{choose, broadcast_true, broadcast_false, broadcast_both};
 ghost use Rattle.sel_ternary.specs.Chosen.{chosen_rows, first_row, SideFits};
@@ -13,6 +13,7 @@ ghost use Rattle.sel_gather.specs.Need.{buffer_count, exceeded_taken, ExceedsNon
 
 use sel_arrow::array::Array;
 use sel_arrow::array_ref::ArrayRef;
+use sel_arrow::from_column::FromColumn;
 use sel_bits::bitmap::Bitmap;
 use sel_bits::faults::PolarsResult;
 use std::alloc::Global;
@@ -22,17 +23,7 @@ use std::alloc::Global;
 ///
 /// # Errors
 /// Each function returns `OutOfMemory` if an allocation fails.
-pub(crate) trait WordKernel: Array + Drop {
-    /// Returns the column as an array of this type, or none if it has another type.
-    fn from_any(alloc: Global, column: &ArrayRef) -> PolarsResult<Option<Self>>
-        ensures rows { IfOk result (λ found. IfSome found
-            (λ array. Self.rows array ≡ column_rows column.now.column)) }
-        ensures dtype { IfOk result (λ found. IfSome found
-            (λ array. Self.shape array ≡ type_of column.now.column)) }
-        ensures buffers { IfOk result (λ found. IfSome found
-            (λ array. first_count (Self.held array) ≤ buffer_count column.now.column)) }
-        ensures refusal { IfErr result IsOutOfMemory };
-
+pub(crate) trait WordKernel: FromColumn + Drop {
     /// Returns the if-then-else of two columns.
     fn choose_columns(
         alloc: Global,
@@ -115,6 +106,7 @@ pub(crate) trait WordKernel: Array + Drop {
 
 /// Returns the if-then-else of columns that are arrays of type `A`. Returns none for another type,
 /// or if both values are broadcast and null.
+#[tactic(auto, using(crate::proofs::WordKernels::held_counts))]
 pub(crate) fn choose_by_words<A: WordKernel>(
     alloc: Global,
     mask: &Bitmap,
@@ -142,15 +134,34 @@ pub(crate) fn choose_by_words<A: WordKernel>(
         mask.now.bits (column_rows if_true.now.column) (column_rows if_false.now.column)))) }
     ensures refusal { IfErr result IsOutOfMemory }
 {
-    let Some(first) = A::from_any(alloc, if_true)? else {
+    let Some(first) = array_of::<A>(alloc, if_true)? else {
         return Ok(None);
     };
-    let Some(second) = A::from_any(alloc, if_false)? else {
+    let Some(second) = array_of::<A>(alloc, if_false)? else {
         return Ok(None);
     };
     match choose_arrays(alloc, mask, &first, &second, true_column, false_column)? {
         None => Ok(None),
         Some(chosen) => Ok(Some(chosen.into_ref())),
+    }
+}
+
+// Returns a column as an array of this type, or none if it has another type.
+fn array_of<A: FromColumn + Drop>(alloc: Global, column: &ArrayRef) -> PolarsResult<Option<A>>
+    ensures rows { IfOk result (λ found. IfSome found
+        (λ array. A.rows array ≡ column_rows column.now.column)) }
+    ensures dtype { IfOk result (λ found. IfSome found
+        (λ array. A.shape array ≡ type_of column.now.column)) }
+    ensures buffers { IfOk result (λ found. IfSome found
+        (λ array. A.held array ≡ buffers_held column.now.column)) }
+    ensures refusal { IfErr result IsOutOfMemory }
+{
+    match column.try_clone(alloc)?.into_array::<A>() {
+        Ok(array) => Ok(Some(array)),
+        Err(back) => {
+            drop(back);
+            Ok(None)
+        }
     }
 }
 

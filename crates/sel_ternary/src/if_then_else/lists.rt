@@ -71,7 +71,7 @@ impl Lists for ListArray<i64> {
     ghost one_type = { λ entries. of_large_list (type_of entries) };
 
     fn from_any(column: ArrayRef) -> ListArray<i64> {
-        match column.into_list() {
+        match column.into_array::<ListArray<i64>>() {
             Ok(lists) => lists,
             Err(_) => unreachable!(),
         }
@@ -107,7 +107,7 @@ impl Lists for FixedSizeListArray {
     ghost one_type = { λ entries. of_fixed_size_list (type_of entries) (length (rows entries)) };
 
     fn from_any(column: ArrayRef) -> FixedSizeListArray {
-        match column.into_fixed_size_list() {
+        match column.into_array::<FixedSizeListArray>() {
             Ok(lists) => lists,
             Err(_) => unreachable!(),
         }

@@ -14,7 +14,6 @@ use crate::if_then_else::by_words::WordKernel;
 use crate::if_then_else::lanes::ChooseLanes;
 use crate::if_then_else::view_columns::{choose_bytes, choose_bytes_false, choose_bytes_true};
 use sel_arrow::array::Array;
-use sel_arrow::array_ref::ArrayRef;
 use sel_arrow::binview::{BinaryViewArray, bytes_at};
 use sel_arrow::boolean::BooleanArray;
 use sel_arrow::datatype::ArrowDataType;
@@ -26,16 +25,6 @@ use sel_bits::faults::PolarsResult;
 use std::alloc::Global;
 
 impl<T: ArrowPrimitive + ChooseLanes> WordKernel for PrimitiveArray<T> {
-    fn from_any(alloc: Global, column: &ArrayRef) -> PolarsResult<Option<Self>> {
-        match column.try_clone(alloc)?.into_primitive::<T>() {
-            Ok(array) => Ok(Some(array)),
-            Err(back) => {
-                drop(back);
-                Ok(None)
-            }
-        }
-    }
-
     fn choose_columns(
         alloc: Global,
         mask: &Bitmap,
@@ -91,16 +80,6 @@ impl<T: ArrowPrimitive + ChooseLanes> WordKernel for PrimitiveArray<T> {
 }
 
 impl WordKernel for BooleanArray {
-    fn from_any(alloc: Global, column: &ArrayRef) -> PolarsResult<Option<Self>> {
-        match column.try_clone(alloc)?.into_boolean() {
-            Ok(array) => Ok(Some(array)),
-            Err(back) => {
-                drop(back);
-                Ok(None)
-            }
-        }
-    }
-
     fn choose_columns(
         alloc: Global,
         mask: &Bitmap,
@@ -158,16 +137,6 @@ impl WordKernel for BooleanArray {
 
 /// The data buffers of a result are those of its columns, and those of its rows as scalars.
 impl WordKernel for BinaryViewArray {
-    fn from_any(alloc: Global, column: &ArrayRef) -> PolarsResult<Option<Self>> {
-        match column.try_clone(alloc)?.into_binview() {
-            Ok(array) => Ok(Some(array)),
-            Err(back) => {
-                drop(back);
-                Ok(None)
-            }
-        }
-    }
-
     fn choose_columns(
         alloc: Global,
         mask: &Bitmap,
@@ -221,16 +190,6 @@ impl WordKernel for BinaryViewArray {
 }
 
 impl WordKernel for Utf8ViewArray {
-    fn from_any(alloc: Global, column: &ArrayRef) -> PolarsResult<Option<Self>> {
-        match column.try_clone(alloc)?.into_utf8view() {
-            Ok(array) => Ok(Some(array)),
-            Err(back) => {
-                drop(back);
-                Ok(None)
-            }
-        }
-    }
-
     fn choose_columns(
         alloc: Global,
         mask: &Bitmap,

@@ -8,8 +8,8 @@ use Rattle.sel_ternary.specs.ChosenPicks.{chosen_picks}
 use Rattle.sel_ternary.proofs.ChosenPicks.{choice_fits, choice_picked, picked_alike}
 use Rattle.sel_ternary.proofs.if_then_else.any.picked_choice.Goals as goal
 
-pub collect_plan-requires-clause-fits : goal.collect_plan-requires-clause-fits
-collect_plan-requires-clause-fits c =
+pub collect_rising-requires-clause-fits : goal.collect_rising-requires-clause-fits
+collect_rising-requires-clause-fits c =
     rw (c.as_column.ensures.column, c.as_column-2.ensures.column)
     (choice_fits c.args.true_column c.args.false_column c.args.mask.now.bits (rows c.args.if_true.now.column) (rows c.args.if_false.now.column) c.requires.true_side c.requires.false_side)
 

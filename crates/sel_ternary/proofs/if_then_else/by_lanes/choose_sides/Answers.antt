@@ -1,4 +1,4 @@
-use Rattle.std.proofs.Common.{◌≡◌, ◌+◌, ◌≤◌, ◌∙◌, length, take, drop, sym, ap, arith, []}
+use Rattle.std.proofs.Common.{◌≡◌, ◌∙◌, length, take, drop, sym, ap, arith, []}
 use Rattle.sel_bits.specs.Reading.{WordReading, reached}
 use Rattle.sel_bits.specs.Words.{bits}
 use Rattle.sel_bits.proofs.WordsOf.{length_part}

@@ -1,12 +1,11 @@
-use Rattle.std.proofs.Common.{◌≡◌, ◌+◌, ◌-◌, ◌*◌, ◌/◌, ◌^◌, ◌≤◌, ◌∙◌, length, take, drop, refl, sym, ap, subst, arith}
-use Rattle.std.proofs.lemmas.List.{length-drop, length-take}
+use Rattle.std.proofs.Common.{◌≡◌, ◌+◌, ◌-◌, ◌*◌, ◌/◌, ◌^◌, ◌≤◌, ◌∙◌, length, take, drop, refl, ap, subst, arith}
 use Rattle.std.specs.Vec.{vec_capacity}
 use Rattle.sel_bits.specs.Words.{bits}
 use Rattle.sel_bits.proofs.Packs.{length_bits}
 use Rattle.sel_bits.proofs.WordsOf.{length_part}
 use Rattle.sel_ternary.specs.Choose.{choose}
 use Rattle.sel_ternary.proofs.Chosen.{AsLong}
-use Rattle.sel_ternary.proofs.Lanes.{IsFilled, bits_part, bits_part_16, chosen_to, filled_all, filled_length, filled_next, filled_none}
+use Rattle.sel_ternary.proofs.Lanes.{IsFilled, bits_part, bits_part_16, chosen_to, filled_all, filled_length, filled_next}
 use Rattle.sel_ternary.proofs.if_then_else.by_lanes.push_word.Goals as goal
 
 pub push_16-requires-clause-room : goal.push_16-requires-clause-room

@@ -1,4 +1,4 @@
-use Rattle.std.proofs.Common.{◌≡◌, ◌≤◌, length, refl, sym, arith}
+use Rattle.std.proofs.Common.{◌≡◌, length, refl, sym, arith}
 use Rattle.std.specs.Prelude.{if◌then◌else◌}
 use Rattle.sel_bits.specs.Words.{bits, is_set}
 use Rattle.sel_bits.proofs.Packs.{length_bits}

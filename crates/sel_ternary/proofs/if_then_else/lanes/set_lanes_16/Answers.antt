@@ -1,6 +1,5 @@
-use Rattle.std.proofs.Common.{◌≡◌, ◌∙◌, ap, map, refl, Bool, ℤ, true, false, cond, w16}
+use Rattle.std.proofs.Common.{◌≡◌, refl, Bool, ℤ, true, false, cond, w16}
 use Rattle.std.specs.Int.{cast_signed}
-use Rattle.sel_bits.specs.Words.{bits}
 use Rattle.sel_ternary.specs.Lanes.{all_ones}
 use Rattle.sel_ternary.proofs.Lanes.{lanes_marked}
 use Rattle.sel_ternary.proofs.if_then_else.lanes.set_lanes_16.Goals as goal

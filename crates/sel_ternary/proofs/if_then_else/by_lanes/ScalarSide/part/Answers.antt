@@ -1,8 +1,8 @@
-use Rattle.std.proofs.Common.{◌∙◌, ap, sym, take, drop, replicate}
+use Rattle.std.proofs.Common.{◌∙◌, ap, sym, take}
 use Rattle.std.proofs.lemmas.List.{take-replicate}
 use Rattle.sel_ternary.proofs.Parts.{part_of_repeated}
 use Rattle.sel_ternary.proofs.if_then_else.by_lanes.ScalarSide.part.Goals as goal
-use Rattle.std.proofs.Common.{arith, ◌+◌, ◌≤◌, length}
+use Rattle.std.proofs.Common.{arith, ◌+◌, ◌≤◌}
 use Rattle.std.proofs.lemmas.List.{length-replicate}
 
 pub returns : goal.returns
