@@ -10,7 +10,7 @@ use Rattle.std.proofs.lemmas.Bool.{cases_lt}
 use Rattle.std.proofs.lemmas.Nat.{and_le_l, pow_pos}
 use Rattle.std.proofs.Math.Seq.{take-add}
 use Rattle.std.proofs.lemmas.Nat.Bits.{bit_at_lowest, shr_and_one}
-use Rattle.std.proofs.lemmas.List.{same_lists, length-take, length-drop, take_more, nil_from_length, get_or_default}
+use Rattle.std.proofs.lemmas.List.{same_lists, length-take, length-drop, take_all, take_at, take_more, nil_from_length, get_or_default}
 use Rattle.sel_bits.specs.Bits.{Bits, bits_from}
 use Rattle.sel_bits.specs.Reading.{WordReading, reached, next_bits, next_count}
 use Rattle.sel_bits.specs.Words.{is_set, bits, word_of}
@@ -94,26 +94,64 @@ pub few_within : {A : Type 0} → (xs : List A) (m : ℕ) → 0 < m → m < 2 ^ 
 few_within [] m some fits le = absurd (omega arith)
 few_within (x ∷ xs) m some fits le = (lowest_kept (x ∷ xs) 64 m x some fits le).0
 
--- The next set bit is processed, if there is one.
-pub few_second : {A : Type 0} → (xs kept all new : List A) (m : ℕ) (x : A) → m < 2 ^ 64 → length xs ≡ 64 → x ≡ get_or xs (trailing_zeros w64 m % 64) x
-    → new ≡ kept ++ select (x ∷ []) (not (m == 0) ∷ [])
-    → kept ++ select xs (bits (length xs) m) ≡ all → new ++ select xs (bits (length xs) (bit_and m ((m + 18446744073709551615) % 2 ^ 64))) ≡ all
-few_second xs kept all new zero x fits long is pushed before =
-    let none : bit_and 0 ((0 + 18446744073709551615) % 2 ^ 64) ≡ 0 = omega (arith, and_le_l 0 ((0 + 18446744073709551615) % 2 ^ 64)) in
-    (λ i. (pushed ∙ append-nil kept) i ++ select xs (bits (length xs) (none i))) ∙ before
-few_second xs kept all new (suc m) x fits long is pushed before =
-    let small : suc m < 2 ^ length xs = rw long fits in
-    let inside : trailing_zeros w64 (suc m) % 64 ≡ trailing_zeros w64 (suc m) = omega (arith, few_within xs (suc m) (omega arith) small (omega (arith, long)), long) in
-    let less : (suc m + 18446744073709551615) % 2 ^ 64 ≡ suc m - 1 = omega (arith, fits) in
-    (λ i. (pushed ∙ ap (λ b. kept ++ select (x ∷ []) (not b ∷ [])) (eqb-suc-zero m)) i ++ select xs (bits (length xs) (bit_and (suc m) (less i))))
-    ∙ few_step xs kept all (suc m) x (omega arith) small (omega (arith, long)) (is ∙ ap (λ t. get_or xs t x) inside) before
-
 -- One value fewer is left.
 pub few_left : {A : Type 0} → (xs : List A) (m : ℕ) (x : A) → 0 < m → m < 2 ^ length xs → length xs ≤ 64 → length (select xs (bits (length xs) (bit_and m (m - 1)))) + 1 ≡ length (select xs (bits (length xs) m))
 few_left xs m x some fits le = omega (arith, ap length (lowest_kept xs 64 m x some fits le).1)
 
 pub few_room : {A : Type 0} → (xs : List A) (m : ℕ) → length (select xs (bits (length xs) m)) ≤ length xs
 few_room xs m = few_kept xs (bits (length xs) m)
+
+-- The items so far, of which the values at the remaining bits are missing. If no bit remains, other
+-- items may follow.
+pub record FewSoFar {A : Type 0} (xs : List A) (rest capacity : ℕ) (kept all : List A) : Type 0 where
+  pub some : 0 < rest → (kept ++ select xs (bits (length xs) rest) ≡ all) × (length kept + length (select xs (bits (length xs) rest)) < capacity)
+  pub none : rest ≡ 0 → take (length all) kept ≡ all
+
+whole : {A : Type 0} → (xs kept all : List A) (m : ℕ) → m ≡ 0 → kept ++ select xs (bits (length xs) m) ≡ all → take (length all) kept ≡ all
+whole xs kept all m none is =
+    let same : kept ≡ all = none_more xs kept m none ∙ is in
+    ap (take (length all)) same ∙ take_all (length all) all (omega arith)
+
+pub few_begin : {A : Type 0} → (xs kept : List A) (m capacity : ℕ) → length kept + length (select xs (bits (length xs) m)) < capacity → FewSoFar xs m capacity kept (kept ++ select xs (bits (length xs) m))
+few_begin xs kept m capacity room = record {
+  some = λ h. (refl, room);
+  none = λ none. whole xs kept (kept ++ select xs (bits (length xs) m)) m none refl;
+}
+
+-- The next two set bits are processed, or the next one and another value.
+pub few_pair : {A : Type 0} → (xs kept new all : List A) (rest capacity : ℕ) (x y : A) → 0 < rest → rest < 2 ^ 64 → length xs ≡ 64 → x ≡ get_or xs (trailing_zeros w64 rest) x → y ≡ get_or xs (trailing_zeros w64 (bit_and rest (rest - 1)) % 64) y
+    → new ≡ (kept ++ x ∷ []) ++ y ∷ [] → FewSoFar xs rest capacity kept all → FewSoFar xs (bit_and (bit_and rest (rest - 1)) ((bit_and rest (rest - 1) + 18446744073709551615) % 2 ^ 64)) capacity new all
+few_pair {A} xs kept new all rest capacity x y some fits long at-x at-y pushed was = by (bit_and rest (rest - 1)) (omega (arith, and_le_l rest (rest - 1))) at-y one
+  where
+    few : length xs ≤ 64
+    few = omega (arith, long)
+
+    small : rest < 2 ^ length xs
+    small = rw long fits
+
+    one : (kept ++ x ∷ []) ++ select xs (bits (length xs) (bit_and rest (rest - 1))) ≡ all
+    one = few_step xs kept all rest x some small few at-x (was.some some).0
+
+    by : (next : ℕ) → next < 2 ^ 64 → y ≡ get_or xs (trailing_zeros w64 next % 64) y → (kept ++ x ∷ []) ++ select xs (bits (length xs) next) ≡ all →
+        FewSoFar xs (bit_and next ((next + 18446744073709551615) % 2 ^ 64)) capacity new all
+    by zero below at is =
+        let end : bit_and 0 ((0 + 18446744073709551615) % 2 ^ 64) ≡ 0 = omega (arith, and_le_l 0 ((0 + 18446744073709551615) % 2 ^ 64)) in
+        let same : kept ++ x ∷ [] ≡ all = none_more xs (kept ++ x ∷ []) 0 refl ∙ is in
+        record {
+          some = λ h. absurd (omega (arith, h, end));
+          none = λ h. ap (take (length all)) (pushed ∙ ap (λ l. l ++ y ∷ []) same) ∙ take_at all (y ∷ []) (length all) refl;
+        }
+    by (suc next) below at is =
+        let low : suc next < 2 ^ length xs = rw long below in
+        let inside : trailing_zeros w64 (suc next) % 64 ≡ trailing_zeros w64 (suc next) = omega (arith, few_within xs (suc next) (omega arith) low few, long) in
+        let less : (suc next + 18446744073709551615) % 2 ^ 64 ≡ suc next - 1 = omega (arith, below) in
+        let two = few_step xs (kept ++ x ∷ []) all (suc next) y (omega arith) low few (at ∙ ap (λ t. get_or xs t y) inside) is in
+        let last = bit_and (suc next) ((suc next + 18446744073709551615) % 2 ^ 64) in
+        let both : new ++ select xs (bits (length xs) last) ≡ all = (λ i. pushed i ++ select xs (bits (length xs) (bit_and (suc next) (less i)))) ∙ two in
+        record {
+          some = λ h. (both, omega (arith, (was.some some).1, ap length (was.some some).0, ap length both, length-append new (select xs (bits (length xs) last)), length-append kept (select xs (bits (length xs) rest))));
+          none = λ h. whole xs new all last h both;
+        }
 
 -- ---- one more position
 
@@ -139,6 +177,20 @@ dense_next xs m old now next i b end x lt bit is e pushed was =
     ∙ ap (λ l. l ++ select (x ∷ []) ((b == 1) ∷ [])) was
     ∙ append_assoc old _ _
     ∙ ap (λ l. old ++ l) (sym (select_more xs m i b x lt bit is))
+    ∙ ap (λ k. old ++ select (take k xs) (bits k m)) (sym e)
+
+pub dense_begin : {A : Type 0} → (xs : List A) (m : ℕ) (old : List A) → IsDense xs m old old 0
+dense_begin xs m old = sym (append-nil old) ∙ ap (λ l. old ++ l) (sym (nil_from_length (select (take 0 xs) (bits 0 m)) (omega (arith, few_kept (take 0 xs) (bits 0 m)))))
+
+-- Four more positions.
+pub dense_four : {A : Type 0} → (xs : List A) (m : ℕ) (old now next four : List A) (i w end : ℕ) → i + 4 ≤ length xs → w ≡ m / 2 ^ i → four ≡ take 4 (drop i xs) → end ≡ i + 4 → next ≡ now ++ select four (bits 4 w) → IsDense xs m old now i → IsDense xs m old next end
+dense_four xs m old now next four i w end within is part e pushed was =
+    pushed
+    ∙ (λ j. was j ++ select (part j) (bits 4 (is j)))
+    ∙ append_assoc old (select (take i xs) (bits i m)) (select (take 4 (drop i xs)) (bits 4 (m / 2 ^ i)))
+    ∙ ap (λ l. old ++ l)
+    (sym (select-append (take i xs) (bits i m) (take 4 (drop i xs)) (bits 4 (m / 2 ^ i)) (omega (arith, length-take i xs, length_bits i m, within)))
+    ∙ sym (λ j. select (take-add i 4 xs j) (bits_split i 4 m j)))
     ∙ ap (λ k. old ++ select (take k xs) (bits k m)) (sym e)
 
 -- At most as many values are kept as there are positions.

@@ -157,17 +157,16 @@ fn push_few<T: Copy>(block: &[T], mask: u64, out: &mut Vec<T>)
     // A vector of this function alone, so that its length stays in a register.
     let alloc = *out.allocator();
     let mut kept = replace(out, Vec::new(alloc));
+    let all = kept.len() + mask.count_ones() as usize;
     let mut rest = mask;
     while rest != 0 {
         kept.push_reserved(block[rest.trailing_zeros() as usize]);
         rest &= rest - 1;
-        push_if(
-            block[rest.trailing_zeros() as usize % 64],
-            rest != 0,
-            &mut kept,
-        );
+        kept.push_reserved(block[rest.trailing_zeros() as usize % 64]);
         rest &= rest.wrapping_sub(1);
     }
+    // (with an odd number of set bits, the last value is not one of them)
+    kept.truncate(all);
     *out = kept;
 }
 
@@ -185,15 +184,34 @@ fn push_dense<T: Copy>(block: &[T], mask: u64, out: &mut Vec<T>)
     let alloc = *out.allocator();
     let mut kept = replace(out, Vec::new(alloc));
     let mut word = mask;
-    for round in 0..16usize {
-        let at = 4 * round;
-        push_if(block[at], word & 1 == 1, &mut kept);
-        push_if(block[at + 1], (word >> 1) & 1 == 1, &mut kept);
-        push_if(block[at + 2], (word >> 2) & 1 == 1, &mut kept);
-        push_if(block[at + 3], (word >> 3) & 1 == 1, &mut kept);
-        word >>= 4;
+    // Rounds of 16, since processors of the Skylake family decode a short loop again in each round
+    // if its last jump is at the end of a block of 32 bytes of code.
+    for round in 0..4usize {
+        let at = 16 * round;
+        push_four(&block[at..at + 4], word, &mut kept);
+        push_four(&block[at + 4..at + 8], word >> 4, &mut kept);
+        push_four(&block[at + 8..at + 12], word >> 8, &mut kept);
+        push_four(&block[at + 12..at + 16], word >> 12, &mut kept);
+        word >>= 16;
     }
     *out = kept;
+}
+
+/// Appends those of four values whose bit is set in the four lowest bits of `word`.
+///
+/// # Requires
+/// `out` has spare capacity for four values.
+#[inline(always)]
+fn push_four<T: Copy>(four: &[T], word: u64, out: &mut Vec<T>)
+    requires four { length four.now ≡ 4 }
+    requires room { vec_len out.old + 4 ≤ vec_capacity out.old }
+    ensures appended { out.new.items ≡ out.old.items ++ select four.now (bits 4 word) }
+    ensures capacity { vec_capacity out.new ≡ vec_capacity out.old }
+{
+    push_if(four[0], word & 1 == 1, out);
+    push_if(four[1], (word >> 1) & 1 == 1, out);
+    push_if(four[2], (word >> 2) & 1 == 1, out);
+    push_if(four[3], (word >> 3) & 1 == 1, out);
 }
 
 /// Appends `value` if `keep` is true. Always writes it, so that no branch depends on `keep`.

@@ -1,42 +1,47 @@
-use Rattle.std.proofs.Common.{◌+◌, ◌-◌, ◌%◌, ◌<◌, ◌^◌, ◌∙◌, length, length-append, ap, refl, sym, arith}
-use Rattle.std.specs.Prelude.{bit_and}
-use Rattle.std.proofs.lemmas.Nat.{and_le_l}
+use Rattle.std.proofs.Common.{◌≡◌, ◌+◌, ◌-◌, ◌%◌, ◌<◌, ◌^◌, ◌++◌, ◌∙◌, ◌∷◌, [], length, length-append, take, ap, refl, sym, arith}
+use Rattle.std.specs.Prelude.{bit_and, count_ones, vec_capacity}
 use Rattle.sel_bits.specs.Words.{bits}
 use Rattle.sel_filter.specs.Select.{select}
-use Rattle.sel_filter.proofs.Dense.{few_step, few_second, few_left, few_room}
+use Rattle.sel_filter.proofs.Dense.{few_begin, few_left, few_pair, few_room, kept_count}
 use Rattle.sel_filter.proofs.block.push_few.Goals as goal
 
 pub loop-rest-init : goal.loop-rest-init
 loop-rest-init g c = rw c.replace-kept.ensures.value (record {
-  room = omega (arith, c.requires.room, few_room c.args.block.now c.args.mask, c.requires.block);
-  kept = refl;
+  capacity = refl;
+  kept = few_begin c.args.block.now c.args.out.now.items c.args.mask (vec_capacity c.args.out.now) (omega (arith, c.requires.room, few_room c.args.block.now c.args.mask, c.requires.block));
 })
 
 pub push_reserved-requires : goal.push_reserved-requires
-push_reserved-requires g c = omega (arith, c.loop-rest.invariant.room)
+push_reserved-requires g c = omega (arith, (c.loop-rest.invariant.kept.some (omega arith)).1, c.loop-rest.invariant.capacity)
 
-pub push_if-requires : goal.push_if-requires
-push_if-requires g c =
+pub push_reserved-requires-in-loop-rest : goal.push_reserved-requires-in-loop-rest
+push_reserved-requires-in-loop-rest g c =
     let block = c.args.block.now in
     let rest = c.loop-rest.rest in
     let fits : rest < 2 ^ length block = rw c.requires.block c.loop-rest.auto.rest-fits.fits in
-    record { room = omega (arith, c.loop-rest.invariant.room, c.push_reserved.ensures.len, c.push_reserved.ensures.capacity, few_left block rest c.index-block-rest.result (omega arith) fits (omega (arith, c.requires.block))) }
+    omega (arith, (c.loop-rest.invariant.kept.some (omega arith)).1, c.loop-rest.invariant.capacity, c.push_reserved.ensures.len, c.push_reserved.ensures.capacity, few_left block rest c.index-block-rest.result (omega arith) fits (omega (arith, c.requires.block)))
 
 pub loop-rest-preserved : goal.loop-rest-preserved
 loop-rest-preserved g c =
     let block = c.args.block.now in
     let rest = c.loop-rest.rest in
-    let next = bit_and rest (rest - 1) in
-    let last = bit_and next ((next + 18446744073709551615) % 2 ^ 64) in
     let old = c.loop-rest.kept.items in
-    let new = c.push_if.new.out.items in
-    let fits : rest < 2 ^ length block = rw c.requires.block c.loop-rest.auto.rest-fits.fits in
-    let below : next < 2 ^ 64 = omega (arith, and_le_l rest (rest - 1), c.loop-rest.auto.rest-fits.fits) in
-    let one = few_step block old _ rest c.index-block-rest.result (omega arith) fits (omega (arith, c.requires.block)) c.index-block-rest.is c.loop-rest.invariant.kept in
-    let two = few_second block _ _ new next c.index-block-rest-in-loop-rest.result below c.requires.block c.index-block-rest-in-loop-rest.is
-    (rw c.push_reserved.ensures.items at c.push_if.ensures.appended) one in
-    let same = ap length (two ∙ sym c.loop-rest.invariant.kept) in
+    let new = c.push_reserved-in-loop-rest.new.self.items in
     record {
-      room = omega (arith, c.loop-rest.invariant.room, c.push_if.ensures.capacity, c.push_reserved.ensures.capacity, same, length-append new (select block (bits (length block) last)), length-append old (select block (bits (length block) rest)));
-      kept = two;
+      capacity = omega (arith, c.loop-rest.invariant.capacity, c.push_reserved.ensures.capacity, c.push_reserved-in-loop-rest.ensures.capacity);
+      kept = few_pair block old new _ rest (vec_capacity c.args.out.now) c.index-block-rest.result c.index-block-rest-in-loop-rest.result (omega arith) c.loop-rest.auto.rest-fits.fits c.requires.block c.index-block-rest.is c.index-block-rest-in-loop-rest.is
+          (c.push_reserved-in-loop-rest.ensures.items ∙ ap (λ l. l ++ c.index-block-rest-in-loop-rest.result ∷ []) c.push_reserved.ensures.items) c.loop-rest.invariant.kept;
+    }
+
+pub returns : goal.returns
+returns g c =
+    let block = c.args.block.now in
+    let mask = c.args.mask in
+    let old = c.args.out.now.items in
+    let fits : mask < 2 ^ length block = rw c.requires.block c.ranges.mask.fits in
+    let before = rw c.replace-kept.ensures.value at c.len.ensures in
+    let size : c.len.result + count_ones mask ≡ length (old ++ select block (bits (length block) mask)) = omega (arith, before, kept_count block mask fits, length-append old (select block (bits (length block) mask))) in
+    record {
+      appended = c.truncate.ensures.items ∙ ap (λ n. take n c.loop-rest.kept.items) size ∙ c.loop-rest.invariant.kept.none (omega (arith, c.loop-rest-test.false))
+          ∙ ap (λ n. old ++ select block (bits n mask)) c.requires.block;
     }
