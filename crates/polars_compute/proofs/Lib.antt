@@ -12,6 +12,8 @@ pub mod KeptRuns
 pub mod KeptTuples
 pub mod LawProofs
 pub mod Meanings
+pub mod NarrowRows
+pub mod NearRows
 pub mod Needs
 pub mod Offsets
 pub mod Places
@@ -19,6 +21,7 @@ pub mod Reversed
 pub mod SelectedRows
 pub mod Selects
 pub mod TakenBits
+pub mod TakenSpans
 pub mod TakenStructs
 pub mod Takes
 pub mod Units

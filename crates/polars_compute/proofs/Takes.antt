@@ -49,7 +49,7 @@ pub taken_rows : {A : Type 0} (f : A → Value) → (validity : Option Bits) (bi
 taken_rows f validity bits xs ys d indices covers within values valid =
     (λ i. hidden (valid i) (map f (values i))) ∙ taken_list f validity xs d indices covers within
 
-hidden_trues : (n : ℕ) (vs : List Value) → hidden (replicate n true) vs ≡ vs
+pub hidden_trues : (n : ℕ) (vs : List Value) → hidden (replicate n true) vs ≡ vs
 hidden_trues zero vs = refl
 hidden_trues (suc n) [] = refl
 hidden_trues (suc n) (v ∷ vs) = ap (λ l. v ∷ l) (hidden_trues n vs)

@@ -18,6 +18,7 @@ pub mod Reverse
 pub mod Scalar
 pub mod Select
 pub mod SelectRows
+pub mod Spans
 pub mod Steps
 pub mod TakenFields
 pub mod Trim

@@ -1,11 +1,12 @@
 -- What functions of this crate state of each other; no public contract has these words.
-use Rattle.std.specs.Prelude.{ℕ, ◌+◌, ◌++◌, ◌*◌, List, map, Option, None, slice_index_or}
-use Rattle.std.specs.Prelude.{if◌then◌else◌}
+use Rattle.std.specs.Prelude.{ℕ, ℤ, pos, negsuc, ◌+◌, ◌++◌, ◌*◌, List, map, Option, None, slice_index_or}
+use Rattle.std.specs.Prelude.{if◌then◌else◌, nat_le, nat_lt}
 use Rattle.std.specs.List.{range_with_len}
 use Rattle.std.specs.Option.{option_map}
 use Rattle.sel_bits.specs.Copying.{Copying}
+use Rattle.sel_bits.specs.Limits.{max_rows}
 use Rattle.sel_bits.specs.Place.{place}
-use Rattle.sel_arrow.specs.Value.{Value, Null}
+use Rattle.sel_arrow.specs.Value.{Value, Null, Number}
 use Rattle.sel_arrow.specs.Masked.{valid_at}
 use Rattle.sel_arrow.specs.declared.fixed_size_list.FixedSizeListArray.{FixedSizeListArray}
 use Rattle.polars_compute.specs.Blocks.{block_at}
@@ -31,3 +32,16 @@ abbrev pub entry_places : FixedSizeListArray → List Value → List (Option ℕ
 entry_places arr indices =
     map (λ k. entry_place arr k (place_of arr.size (slice_index_or indices k Null)))
     (range_with_len 0 arr.len)
+
+-- The position if it is less than n, otherwise 0.
+abbrev pub near_place : ℕ → ℕ → ℕ
+near_place n place = if nat_lt place n then place else 0
+
+-- The index of that position.
+abbrev pub near_index : ℕ → ℕ → Value
+near_index n place = Number (pos (near_place n place))
+
+-- The number if it can be an index of a row, otherwise 0.
+abbrev pub narrowed : ℤ → ℕ
+narrowed (pos n) = if nat_le n max_rows then n else 0
+narrowed (negsuc n) = 0

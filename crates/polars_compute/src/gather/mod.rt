@@ -15,6 +15,7 @@ ghost use Rattle.polars_compute.specs.TakenFields.{exceeded_in_taken};
 
 pub mod binary;
 mod binview;
+mod bit_slice;
 pub mod bitmap;
 mod blocks;
 pub mod boolean;
@@ -89,7 +90,7 @@ fn take_any(alloc: Global, values: &Column, indices: &IdxArr) -> PolarsResult<Ar
         Column::UInt64(column) => take_numbers(alloc, column, indices),
         Column::UInt128(column) => take_numbers(alloc, column, indices),
         Column::LargeBinary(column) => {
-            Ok(binary::take_unchecked(alloc, column, indices)?.into_ref())
+            Ok(binary::take_binary(alloc, column, indices)?.into_ref())
         }
         Column::BinaryView(column) => Ok(take_views(alloc, column, indices)?.into_ref()),
         Column::Utf8View(column) => Ok(take_texts(alloc, column, indices)?.into_ref()),

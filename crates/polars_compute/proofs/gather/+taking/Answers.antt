@@ -21,10 +21,10 @@ use Rattle.polars_compute.proofs.TakenStructs.{taken_of, taken_is_field, length-
 use Rattle.polars_compute.proofs.gather.+taking.Goals as goal
 
 -- Only a binary column has a limit that its rows can exceed.
-pub take_any-returns-in_err-take_unchecked-in-LargeBinary-clause-refusal : goal.take_any-returns-in_err-take_unchecked-in-LargeBinary-clause-refusal
-take_any-returns-in_err-take_unchecked-in-LargeBinary-clause-refusal t c =
-    let p = err_from_is_err_and c.from_residual-in_err-take_unchecked-in-LargeBinary.result c.from_residual-in_err-take_unchecked-in-LargeBinary.ensures.1 in
-    rw (p.1, p.2, c.in-LargeBinary.is) c.in_err-take_unchecked-in-LargeBinary.ensures.refusal
+pub take_any-returns-in_err-take_binary-in-LargeBinary-clause-refusal : goal.take_any-returns-in_err-take_binary-in-LargeBinary-clause-refusal
+take_any-returns-in_err-take_binary-in-LargeBinary-clause-refusal t c =
+    let p = err_from_is_err_and c.from_residual-in_err-take_binary-in-LargeBinary.result c.from_residual-in_err-take_binary-in-LargeBinary.ensures.1 in
+    rw (p.1, p.2, c.in-LargeBinary.is) c.in_err-take_binary-in-LargeBinary.ensures.refusal
 
 pub take_any-take_struct-requires : goal.take_any-take_struct-requires
 take_any-take_struct-requires t c =

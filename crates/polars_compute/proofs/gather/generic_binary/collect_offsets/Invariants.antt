@@ -2,11 +2,12 @@
 use Rattle.std.proofs.Common.{◌≡◌, ◌+◌, ◌++◌, ◌∷◌, pos, map, drop}
 use Rattle.polars_compute.specs.JoinedBytes.{ends_from}
 use Rattle.polars_compute.specs.Need.{bytes_needed}
+use Rattle.polars_compute.specs.Spans.{span_rows}
 use Rattle.polars_compute.proofs.gather.generic_binary.collect_offsets.Given as goal
 
 abbrev pub invariant-loop-k : goal.invariant-loop-k
 invariant-loop-k g l =
-    let rows = g.S.ByteRows.rows l.source in
+    let rows = span_rows l.rows.bytes.now l.rows.spans.now in
     record {
       so_far : map g.O.NativeType.number l.offsets.items ++ map pos (ends_from l.end (drop l.k rows)) ≡ map pos (0 ∷ ends_from 0 rows);
       at : l.end + bytes_needed (drop l.k rows) ≡ bytes_needed rows;

@@ -2,11 +2,12 @@
 -- has fewer than 2^64 bytes.
 use Rattle.std.proofs.Common.{◌≡◌, ◌+◌, ◌≤◌, ◌*◌, drop}
 use Rattle.polars_compute.specs.Need.{bytes_needed}
+use Rattle.polars_compute.specs.Spans.{span_rows}
 use Rattle.polars_compute.proofs.gather.generic_binary.count_bytes.Given as goal
 
 abbrev pub invariant-loop-k : goal.invariant-loop-k
-invariant-loop-k g l =
-    let rows = g.S.ByteRows.rows l.source in
+invariant-loop-k l =
+    let rows = span_rows l.rows.bytes.now l.rows.spans.now in
     record {
       so_far : l.total + bytes_needed (drop l.k rows) ≡ bytes_needed rows;
       small : l.total ≤ 18446744073709551615 * l.k;

@@ -1,39 +1,35 @@
-use Rattle.std.proofs.Common.{◌≡◌, ◌∷◌, ◌∙◌, ℕ, List, Some, length, ap, sym, subst, arith}
+use Rattle.std.proofs.Common.{◌≡◌, ◌∷◌, ◌∙◌, ℕ, List, length, ap, sym, subst, arith}
 use Rattle.sel_bits.specs.Offsets.{IsRising}
-use Rattle.sel_arrow.specs.Masked.{Covers}
+use Rattle.sel_arrow.specs.Masked.{masked, Covers}
 use Rattle.sel_arrow.specs.Pieces.{rows_between, last_offset}
 use Rattle.polars_compute.specs.JoinedBytes.{ends_from, joined_bytes}
+use Rattle.polars_compute.specs.Spans.{span_rows}
 use Rattle.sel_gather.proofs.JoinedRows.{offsets_of, rising-ends, ends_shown, built_rows, built_ends}
-use Rattle.polars_compute.proofs.Collects.{built_covers, rebuilt}
-use Rattle.polars_compute.proofs.gather.generic_binary.collect_listed.Goals as goal
+use Rattle.polars_compute.proofs.TakenSpans.{rebuilt, length-span_rows}
+use Rattle.polars_compute.proofs.gather.generic_binary.collect_spans.Goals as goal
 
 pub of_rising-requires : goal.of_rising-requires
 of_rising-requires g c =
-    let rows = g.S.ByteRows.rows c.args.source.now in
+    let rows = span_rows c.args.rows.now.bytes.now c.args.rows.now.spans.now in
     offsets_of g.O.NativeType.number c.in_ok-offsets.offsets.items (0 ∷ ends_from 0 rows) c.in_ok-offsets.ensures.offsets (rising-ends rows)
 
 pub invariant_of-result : goal.invariant_of-result
 invariant_of-result g c =
-    let rows = g.S.ByteRows.rows c.args.source.now in
+    let rows = span_rows c.args.rows.now.bytes.now c.args.rows.now.spans.now in
     let ends : c.in_ok-offsets-2.offsets ≡ 0 ∷ ends_from 0 rows = ends_shown g.O.NativeType.number c.in_ok-offsets.offsets.items c.in_ok-offsets-2.offsets rows c.in_ok-offsets.ensures.offsets c.in_ok-offsets-2.ensures.value in
     let bytes : c.in_ok-values-2.values ≡ joined_bytes rows = c.in_ok-values-2.ensures.items ∙ c.in_ok-values.ensures.bytes in
     let between : rows_between c.in_ok-offsets-2.offsets ≡ length rows = ap rows_between ends ∙ built_rows rows in
     record {
       rising = subst IsRising (sym ends) (rising-ends rows);
-      rows_fit = omega (arith, between, c.in_ok-validity.ensures.few);
+      rows_fit = omega (arith, between, length-span_rows c.args.rows.now.bytes.now c.args.rows.now.spans.now, c.args.rows.now.few);
       values_fit = omega (arith, ap last_offset ends, ap (λ (l : List ℕ). length l) bytes, built_ends rows);
       bytes_fit = omega (arith, ap (λ (l : List ℕ). length l) c.in_ok-values-2.ensures.items, c.in_ok-values.ensures.few);
-      validity_fits = subst (λ (l : List ℕ). Covers (Some c.in_ok-validity.validity) (rows_between l)) (sym ends) (built_covers rows c.in_ok-validity.validity c.in_ok-validity.ensures.bits);
+      validity_fits = subst (λ n. Covers c.args.validity n) (sym between) c.requires;
     }
 
 pub returns-clause-rows : goal.returns-clause-rows
 returns-clause-rows g c =
-    let rows = g.S.ByteRows.rows c.args.source.now in
+    let rows = span_rows c.args.rows.now.bytes.now c.args.rows.now.spans.now in
     let ends : c.in_ok-offsets-2.offsets ≡ 0 ∷ ends_from 0 rows = ends_shown g.O.NativeType.number c.in_ok-offsets.offsets.items c.in_ok-offsets-2.offsets rows c.in_ok-offsets.ensures.offsets c.in_ok-offsets-2.ensures.value in
     rw (ends, c.in_ok-values-2.ensures.items, c.in_ok-values.ensures.bytes)
-    (rebuilt rows c.in_ok-validity.validity c.in_ok-validity.ensures.rows c.in_ok-validity.ensures.bits)
-
-pub returns-clause-offsets : goal.returns-clause-offsets
-returns-clause-offsets g c =
-    let rows = g.S.ByteRows.rows c.args.source.now in
-    ends_shown g.O.NativeType.number c.in_ok-offsets.offsets.items c.in_ok-offsets-2.offsets rows c.in_ok-offsets.ensures.offsets c.in_ok-offsets-2.ensures.value
+    (ap (masked c.args.validity) (rebuilt c.args.rows.now.bytes.now c.args.rows.now.spans.now))

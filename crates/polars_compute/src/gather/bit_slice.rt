@@ -1,0 +1,61 @@
+//! The bits of a bitmap for loops that read one bit at a time.
+#![tactic(auto, using(sel_bits::proofs::BitLists::length_bits_from))]
+
+ghost use Rattle.std.specs.Prelude.{◌≡◌, ◌+◌, ◌*◌, ◌<◌, ◌≤◌, length, false, slice_index_or};
+ghost use Rattle.sel_bits.specs.Limits.{max_rows};
+
+use sel_bits::bitmap::Bitmap;
+use std::marker::Model;
+
+/// The bits of a bitmap. Their bytes are found once, and not again for each bit.
+///
+/// Contract model: the list of the bits.
+#[derive(Drop)]
+pub(crate) struct BitSlice<'a> {
+    bytes: &'a [u8],
+    shift: usize,
+    len: usize,
+}
+
+impl<'a> Model for BitSlice<'a> {
+    ghost use Rattle.std.specs.Prelude.{Bool, List, ◌<◌, ◌≤◌, ◌+◌, ◌*◌, length};
+    ghost use Rattle.sel_bits.specs.Bits.{bits_from};
+
+    ghost Value = { List Bool };
+
+    ghost view = { λ b. bits_from b.bytes.now b.shift b.len };
+
+    ghost invariant = { λ b. (b.shift < 8) × (b.shift + b.len ≤ 8 * length b.bytes.now) };
+}
+
+impl BitSlice<'_> {
+    /// Returns the bits of a bitmap.
+    pub(crate) fn of(bitmap: &Bitmap) -> BitSlice<'_>
+        ensures { result ≡ bitmap.now.bits }
+    {
+        let (bytes, shift, len) = bitmap.as_slice();
+        BitSlice { bytes, shift, len }
+    }
+
+    /// Returns the number of bits.
+    #[inline(always)]
+    pub(crate) fn len(&self) -> usize
+        ensures { result ≡ length self.now }
+    {
+        self.len
+    }
+
+    /// Returns bit `i`.
+    ///
+    /// # Requires
+    /// `i` is less than the number of bits, and the position of a row.
+    #[inline(always)]
+    pub(crate) fn get(&self, i: usize) -> bool
+        requires inside { i < length self.now }
+        requires few { i < max_rows }
+        ensures { result ≡ slice_index_or self.now i false }
+    {
+        let at = self.shift + i;
+        (self.bytes[at / 8] >> (at % 8)) & 1 == 1
+    }
+}
