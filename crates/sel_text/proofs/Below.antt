@@ -1,28 +1,8 @@
 -- The child rows of lists.
-use Rattle.std.proofs.Common.{◌≡◌, ℕ, zero, suc, ◌+◌, ◌*◌, Bool, true, false, ◌||◌, ◌==◌, List, [], ◌∷◌, ◌++◌, map, length, replicate, Option, Some, refl, sym, ap, ◌∙◌, arith, append_assoc, length-append, not}
-use Rattle.std.specs.Prelude.{nat_lt}
-use Rattle.std.specs.List.{flat_map, list_all, slice_range, range_with_len}
-use Rattle.std.proofs.lemmas.Bool.Decides.{nat_tests}
-use Rattle.std.proofs.lemmas.List.{length-replicate}
-use Rattle.std.proofs.lemmas.List.Folds.{list_all-append}
-use Rattle.sel_bits.specs.Bits.{Bits}
-use Rattle.sel_bits.specs.declared.faults.Malformed.{Malformed}
-use Rattle.sel_bits.specs.declared.faults.Malformed.TheVariants.{ChildLength, OffsetRange, TooManyRows, ValidityLength, Width}
-use Rattle.sel_arrow.specs.Masked.{masked, too_many, validity_differs, Covers}
-use Rattle.sel_arrow.specs.Makers.{list_fault, block_fault}
-use Rattle.sel_arrow.specs.Nested.{list_of, list_rows, block_rows}
-use Rattle.sel_arrow.specs.Pieces.{rows_between, last_offset}
-use Rattle.sel_arrow.specs.Rows.{rows}
-use Rattle.sel_arrow.specs.Shape.{Shape, of_large_list, of_fixed_size_list}
-use Rattle.sel_arrow.specs.Value.{Value, Null, Truth, Number, Bytes, Items, Tuple, Values, no_values, next_value, listed, is_valid}
-use Rattle.sel_arrow.specs.declared.column.Column.{Column}
-use Rattle.sel_arrow.proofs.Lists.{both, and_first, and_second}
-use Rattle.sel_text.specs.Below.{offsets_below}
-use Rattle.sel_text.specs.Fits.{fits, all_fit}
-use Rattle.sel_text.specs.Limits.{block_in, entries_in}
-use Rattle.sel_text.specs.Steps.{ShowsRows}
-use Rattle.sel_text.specs.declared.build.NullSlots.{NullSlots}
+use Rattle.std.proofs.Common.{◌≡◌, ℕ, zero, suc, ◌+◌, ◌*◌, Bool, true, false, ◌||◌, ◌==◌, List, [], ◌∷◌, ◌++◌, map, length, Option, Some, refl, sym, ap, ◌∙◌, arith, append_assoc, length-append, not, nat_lt}
+use Rattle.sel_text.proofs.Common.{flat_map, list_all, slice_range, range_with_len, nat_tests, length-replicate, list_all-append, Bits, Malformed, ChildLength, OffsetRange, TooManyRows, ValidityLength, Width, masked, too_many, validity_differs, Covers, list_fault, block_fault, list_of, list_rows, block_rows, rows_between, last_offset, rows, Shape, of_large_list, of_fixed_size_list, Value, Null, Items, Values, no_values, next_value, listed, is_valid, Column, both, and_first, and_second, offsets_below, fits, all_fit, block_in, entries_in, ShowsRows, NullSlots}
 use Rattle.sel_text.specs.declared.build.NullSlots.TheVariants.{Zeros, Others}
+use Rattle.sel_text.proofs.FittingRows.{nulls_fit}
 use Rattle.sel_text.proofs.ItemRows.{values_back}
 use Rattle.sel_text.proofs.Making.{first_of_three, first_of_four}
 use Rattle.sel_text.proofs.OffsetsBelow.{count_between, ends_inside, parts_between, slice_here}
@@ -36,49 +16,28 @@ listed_fit s (next_value v vs) fit = both (fits s v) (list_all (fits s) (listed 
 -- ---- the child rows of each row of a list type
 
 list_entries : (s : Shape) (b : NullSlots) (row : Value) → fits (of_large_list s) row ≡ true → is_valid row ≡ true → row ≡ list_of (entries_in b row)
-list_entries s b Null fit valid = absurd cc
-list_entries s b (Truth t) fit valid = absurd cc
-list_entries s b (Number z) fit valid = absurd cc
-list_entries s b (Bytes bs) fit valid = absurd cc
 list_entries s b (Items es) fit valid = ap Items (sym (values_back es))
-list_entries s b (Tuple es) fit valid = absurd cc
+list_entries s b row fit valid = absurd cc
 
 pub list_below : (s : Shape) (b : NullSlots) (row : Value) → fits (of_large_list s) row ≡ true → list_all (fits s) (entries_in b row) ≡ true
 list_below s Zeros Null fit = refl
 list_below s Others Null fit = refl
-list_below s b (Truth t) fit = absurd cc
-list_below s b (Number z) fit = absurd cc
-list_below s b (Bytes bs) fit = absurd cc
 list_below s b (Items es) fit = listed_fit s es fit
-list_below s b (Tuple es) fit = absurd cc
+list_below s b row fit = absurd cc
 
 block_entries : (s : Shape) (size : ℕ) (row : Value) → fits (of_fixed_size_list s size) row ≡ true → is_valid row ≡ true → row ≡ list_of (block_in size row)
-block_entries s size Null fit valid = absurd cc
-block_entries s size (Truth t) fit valid = absurd cc
-block_entries s size (Number z) fit valid = absurd cc
-block_entries s size (Bytes bs) fit valid = absurd cc
 block_entries s size (Items es) fit valid = ap Items (sym (values_back es))
-block_entries s size (Tuple es) fit valid = absurd cc
-
-nulls_fit : (s : Shape) (n : ℕ) → list_all (fits s) (replicate n Null) ≡ true
-nulls_fit s zero = refl
-nulls_fit s (suc n) = nulls_fit s n
+block_entries s size row fit valid = absurd cc
 
 pub block_below : (s : Shape) (size : ℕ) (row : Value) → fits (of_fixed_size_list s size) row ≡ true → list_all (fits s) (block_in size row) ≡ true
 block_below s size Null fit = nulls_fit s size
-block_below s size (Truth t) fit = absurd cc
-block_below s size (Number z) fit = absurd cc
-block_below s size (Bytes bs) fit = absurd cc
 block_below s size (Items es) fit = listed_fit s es (and_second (length (listed es) == size) (all_fit s es) fit)
-block_below s size (Tuple es) fit = absurd cc
+block_below s size row fit = absurd cc
 
 block_long : (s : Shape) (size : ℕ) (row : Value) → fits (of_fixed_size_list s size) row ≡ true → length (block_in size row) ≡ size
 block_long s size Null fit = length-replicate size Null
-block_long s size (Truth t) fit = absurd cc
-block_long s size (Number z) fit = absurd cc
-block_long s size (Bytes bs) fit = absurd cc
 block_long s size (Items es) fit = let same = and_first (length (listed es) == size) (all_fit s es) fit in grind (arith, nat_tests, same)
-block_long s size (Tuple es) fit = absurd cc
+block_long s size row fit = absurd cc
 
 -- ---- if the rows of a list fit a type
 

@@ -1,13 +1,6 @@
 -- The child rows of fixed-size lists, counted.
 use Rattle.std.proofs.Common.{◌≡◌, ℕ, ◌*◌, ◌<◌, true, List, length, replicate, ap, sym, ◌∙◌, arith}
-use Rattle.std.specs.List.{flat_map, list_all}
-use Rattle.std.proofs.lemmas.Bool.Decides.{nat_tests}
-use Rattle.sel_bits.specs.Limits.{max_rows}
-use Rattle.sel_arrow.specs.Shape.{Shape, of_fixed_size_list, of_null}
-use Rattle.sel_arrow.specs.Value.{Value, Null}
-use Rattle.sel_text.specs.Fits.{fits}
-use Rattle.sel_text.specs.Limits.{block_in, exceeds_limit}
-use Rattle.sel_text.specs.declared.build.NullSlots.{NullSlots}
+use Rattle.sel_text.proofs.Common.{flat_map, list_all, nat_tests, max_rows, Shape, of_fixed_size_list, of_null, Value, Null, fits, block_in, exceeds_limit, NullSlots}
 use Rattle.sel_text.proofs.Below.{all_below, block_below, blocks_count}
 use Rattle.sel_text.proofs.Making.{all_nulls}
 use Rattle.sel_text.proofs.Refusals.{many_past}

@@ -1,24 +1,8 @@
 -- Views into one data buffer that grows.
-use Rattle.std.proofs.Common.{◌≡◌, ℕ, ◌+◌, ◌≤◌, ◌<◌, Bool, true, false, true≢false, cond, Bor, List, [], ◌∷◌, ◌++◌, length, take, drop, map, arith, refl, ap, sym, subst, ◌∙◌, length-append}
-use Rattle.std.specs.Prelude.{leb, IsTrue}
-use Rattle.std.specs.List.{list_all}
-use Rattle.std.proofs.lemmas.Bool.{leb-true, ltb-true}
-use Rattle.std.proofs.lemmas.Bool.Decides.{nat_tests}
-use Rattle.std.proofs.lemmas.List.{map-append, length-map, take-append-drop}
-use Rattle.sel_bits.specs.Limits.{max_buffer_bytes}
-use Rattle.sel_arrow.specs.Value.{Value, Null, Truth, Number, Bytes, Items, Tuple}
-use Rattle.sel_arrow.specs.Shape.{Shape}
-use Rattle.sel_arrow.specs.Views.{all_placed, inline_bytes, view_of, view_value}
-use Rattle.sel_arrow.specs.declared.view.View.{View}
+use Rattle.std.proofs.Common.{◌≡◌, ℕ, ◌+◌, ◌≤◌, ◌<◌, Bool, true, false, true≢false, cond, Bor, List, [], ◌∷◌, ◌++◌, length, take, drop, map, arith, refl, ap, sym, subst, ◌∙◌, length-append, leb, IsTrue, leb-true, ltb-true}
+use Rattle.sel_text.proofs.Common.{list_all, nat_tests, map-append, length-map, take-append-drop, max_buffer_bytes, Value, Null, Truth, Number, Bytes, Items, Tuple, Shape, all_placed, inline_bytes, view_of, view_value, View, and_first, and_second, fits as fits_type, item_value, rows_read, all_placed_bytes, bytes_placed, exceeds_max, bytes_behind, bytes_stored, NullSlots, Item}
 use Rattle.sel_arrow.proofs.GrownViews.{Named, far_new, near_new, placed_more}
-use Rattle.sel_arrow.proofs.Lists.{and_first, and_second}
-use Rattle.sel_text.specs.Fits.{fits as fits_type}
-use Rattle.sel_text.specs.ItemValues.{item_value, rows_read}
-use Rattle.sel_text.specs.Limits.{all_placed_bytes, bytes_placed, exceeds_max}
-use Rattle.sel_text.specs.Stored.{bytes_behind, bytes_stored}
-use Rattle.sel_text.specs.declared.build.NullSlots.{NullSlots}
 use Rattle.sel_text.specs.declared.build.NullSlots.TheVariants.{Zeros, Others}
-use Rattle.sel_text.specs.declared.item.Item.{Item}
 use Rattle.sel_text.proofs.Shown.{IsOfBytes, stored_bytes}
 
 -- ---- the view of the bytes that are appended

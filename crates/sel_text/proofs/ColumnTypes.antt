@@ -1,15 +1,6 @@
 -- The list sizes in the type of a well-formed column.
-use Rattle.std.proofs.Common.{◌≡◌, ℕ, ◌≤◌, true, refl, arith}
-use Rattle.std.specs.Prelude.{◌==◌, ◌&&◌, ◌*◌, ◌^◌, nat_lt, nat_le}
-use Rattle.std.proofs.lemmas.Bool.Decides.{nat_tests}
-use Rattle.sel_bits.specs.Limits.{max_rows}
-use Rattle.sel_arrow.specs.Masked.{covers, is_few}
-use Rattle.sel_arrow.specs.Pieces.{is_rising, last_offset, rows_between}
-use Rattle.sel_arrow.specs.Rows.{row_count, type_of, types_of_each, well_formed, all_well_formed}
-use Rattle.sel_arrow.specs.declared.column.Column.{Column, Row_of-Column, end_of-Column, more_of-Column}
-use Rattle.sel_arrow.specs.declared.column.Column.TheVariants.{LargeList', FixedSizeList', Struct'}
-use Rattle.sel_arrow.proofs.Lists.{both, and_first, and_second}
-use Rattle.sel_text.specs.Written.{widths_written, all_widths_written}
+use Rattle.std.proofs.Common.{◌≡◌, ℕ, ◌≤◌, true, refl, arith, ◌==◌, ◌&&◌, ◌*◌, ◌^◌, nat_lt, nat_le}
+use Rattle.sel_text.proofs.Common.{nat_tests, max_rows, covers, is_few, is_rising, last_offset, rows_between, row_count, type_of, types_of_each, well_formed, all_well_formed, Column, Row_of-Column, end_of-Column, more_of-Column, LargeList', FixedSizeList', Struct', both, and_first, and_second, widths_written, all_widths_written}
 
 narrow : (size : ℕ) → is_few size ≡ true → nat_lt size (2 ^ 64) ≡ true
 narrow size few = let small : size ≤ max_rows = grind (arith, nat_tests, few) in grind (arith, nat_tests, small)

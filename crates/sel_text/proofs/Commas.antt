@@ -1,7 +1,6 @@
 -- Parts followed by commas, as they are parsed.
 use Rattle.std.proofs.Common.{◌≡◌, ℕ, List, [], ◌∷◌, ◌++◌, refl, ap, sym, ◌∙◌, append_assoc, append-nil}
-use Rattle.std.specs.List.{flat_map, join_with_byte}
-use Rattle.std.proofs.lemmas.Grind.{flat_map-append}
+use Rattle.sel_text.proofs.Common.{flat_map, join_with_byte, flat_map-append}
 
 -- Each part, followed by a comma.
 abbrev pub commas : List (List ℕ) → List ℕ

@@ -1,20 +1,8 @@
 -- Every beginning of a text can be completed to one that can be read.
-use Rattle.std.proofs.Common.{◌≡◌, ◌<◌, ℕ, ◌+◌, true, false, List, [], ◌∷◌, ◌++◌, length, take, drop, get_or, refl, ap, sym, ◌∙◌, append_assoc, append-nil, add-one, arith, Some, None}
-use Rattle.std.specs.Prelude.{Option, suc}
+use Rattle.std.proofs.Common.{◌≡◌, ◌<◌, ℕ, ◌+◌, true, false, List, [], ◌∷◌, ◌++◌, length, take, drop, get_or, refl, ap, sym, ◌∙◌, append_assoc, append-nil, arith, None, Option, suc, take-append-drop, take_all}
 use Rattle.std.proofs.Math.Seq.{take-suc}
-use Rattle.std.proofs.lemmas.List.{take-append-drop, take_all}
-use Rattle.sel_text.specs.Notation.{after_byte, changed, closing, goes_on, innermost, is_end, is_some_and, IsFirstError}
-use Rattle.sel_text.specs.declared.notation.Bracket.{Bracket}
-use Rattle.sel_text.specs.declared.notation.Bracket.TheVariants.{Square, Round, Child, Fields}
-use Rattle.sel_text.specs.declared.notation.Change.{Change}
-use Rattle.sel_text.specs.declared.notation.Next.{Next}
+use Rattle.sel_text.proofs.Common.{after_byte, changed, closing, goes_on, innermost, is_end, is_some_and, IsFirstError, Bracket, Square, Round, Child, Fields, Change, Next, TypeWordSoFar, B, Bo, Boo, Bi, Bin, Bina, Binar, Binv, Binvi, Binvie, FixedF, Fi, Fix, Fixe, I, I1, I12, I3, I6, L, Li, Lis, S, St, Str, Stru, Struc, U, Ut, Utf, Within, Text, Escape, UnitFirst, UnitSecond, LastThree, LastTwo, LastOne, HighTwo, HighOne, LowBackslash, LowLetter, LowFirst, LowSecond, ByteOne, ByteTwo, ByteThree, AfterE0, AfterEd, AfterF0, AfterF4, WordSoFar, N, Nu, Nul, T, Tr, Tru, FalseF, Fa, Fal, Fals}
 use Rattle.sel_text.specs.declared.notation.Next.TheVariants.{Rows, FirstValue, Value, FirstName, Name, ListBracket, FixedBracket, StructBracket, Size, SizeDigit, SizeComma, After, Negative, Digit, HexQuote, HexFirst, HexSecond, Word, TypeWord, Quoted}
-use Rattle.sel_text.specs.declared.tokens.TypeWord.{TypeWord as TypeWordSoFar}
-use Rattle.sel_text.specs.declared.tokens.TypeWord.TheVariants.{B, Bo, Boo, Bi, Bin, Bina, Binar, Binv, Binvi, Binvie, F as FixedF, Fi, Fix, Fixe, I, I1, I12, I3, I6, L, Li, Lis, S, St, Str, Stru, Struc, U, Ut, Utf}
-use Rattle.sel_text.specs.declared.tokens.Within.{Within}
-use Rattle.sel_text.specs.declared.tokens.Within.TheVariants.{Text, Escape, UnitFirst, UnitSecond, LastThree, LastTwo, LastOne, HighTwo, HighOne, LowBackslash, LowLetter, LowFirst, LowSecond, ByteOne, ByteTwo, ByteThree, AfterE0, AfterEd, AfterF0, AfterF4}
-use Rattle.sel_text.specs.declared.tokens.Word.{Word as WordSoFar}
-use Rattle.sel_text.specs.declared.tokens.Word.TheVariants.{N, Nu, Nul, T, Tr, Tru, F as FalseF, Fa, Fal, Fals}
 
 -- The closing brackets of open brackets.
 closings : List Bracket → List ℕ
@@ -147,12 +135,6 @@ split text more i inside = ap (λ front. front ++ more) (take-suc text i 0 insid
 steps : (next : Next) (brackets : List Bracket) (byte : ℕ) (more : List ℕ) (step : Option (Next × Change)) → step ≡ after_byte next (innermost brackets) byte →
     goes_on next brackets (byte ∷ more) ≡ is_some_and (λ step. goes_on step.0 (changed step.1 brackets) more) step
 steps next brackets byte more step told = ap (is_some_and (λ step. goes_on step.0 (changed step.1 brackets) more)) (sym told)
-
-pub leads_on : (start : Next) (text : List ℕ) (next after : Next) (brackets changed_brackets : List Bracket) (change : Change) (i byte : ℕ) → i < length text → byte ≡ get_or text i 0 →
-    Some (after, change) ≡ after_byte next (innermost brackets) byte → changed_brackets ≡ changed change brackets → LeadsTo start text next brackets i → LeadsTo start text after changed_brackets (i + 1)
-leads_on start text next after brackets changed_brackets change i byte inside first told now so_far =
-    rw (add-one i, now) (λ more. ap (goes_on start []) (split text more i inside) ∙ so_far (get_or text i 0 ∷ more)
-    ∙ steps next brackets (get_or text i 0) more (Some (after, change)) (rw (← first) told))
 
 pub fails_at : (start : Next) (text : List ℕ) (next : Next) (brackets : List Bracket) (i byte : ℕ) → i < length text → byte ≡ get_or text i 0 →
     None ≡ after_byte next (innermost brackets) byte → LeadsTo start text next brackets i → IsFirstError (goes_on start []) text i

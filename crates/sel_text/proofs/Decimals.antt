@@ -1,13 +1,7 @@
 -- Digits as they are parsed.
-use Rattle.std.proofs.Common.{◌≡◌, ℕ, ◌+◌, ◌-◌, ◌*◌, ◌≤◌, ◌<◌, ◌^◌, List, length, take, get_or, ap, ◌∙◌, arith, length-take}
-use Rattle.std.specs.Char.{digit_value}
-use Rattle.std.specs.Fmt.{decimal}
-use Rattle.std.specs.Int.{IsInRange}
-use Rattle.std.specs.Str.Parse.{AllDigits, digits_value}
-use Rattle.std.proofs.lemmas.Bool.Decides.{nat_tests}
-use Rattle.std.proofs.lemmas.Fmt.{decimal-digits_value}
+use Rattle.std.proofs.Common.{◌≡◌, ℕ, ◌+◌, ◌-◌, ◌*◌, ◌≤◌, ◌<◌, ◌^◌, List, length, take, get_or, ap, ◌∙◌, arith, length-take, get_or-take}
+use Rattle.sel_text.proofs.Common.{digit_value, decimal, IsInRange, AllDigits, digits_value, nat_tests, decimal-digits_value}
 use Rattle.std.proofs.lemmas.Int.Digits.{digits_value_more}
-use Rattle.std.proofs.lemmas.List.{get_or-take}
 use Rattle.std.proofs.lemmas.Str.Parse.{numerals_by_value, tells_by_index, tells_digits, digit_at, digits_value-take-le}
 
 -- Digits, position by position.

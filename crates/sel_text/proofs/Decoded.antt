@@ -1,16 +1,8 @@
 -- Printed digits, and printed bytes in quotes, parse to the original.
-use Rattle.std.proofs.Common.{◌≡◌, ◌≢◌, ℕ, ℤ, pos, negsuc, suc, ◌+◌, ◌-◌, ◌*◌, ◌^◌, ◌/◌, ◌%◌, ◌<◌, Bool, true, false, List, [], ◌∷◌, ◌++◌, length, refl, ap, sym, ◌∙◌, arith, append_assoc}
-use Rattle.std.specs.Prelude.{nat_lt, ◌==◌, if◌then◌else◌}
-use Rattle.std.specs.Char.{digit_char, digit_value}
-use Rattle.std.specs.Fmt.{decimal, signed_decimal}
-use Rattle.std.specs.Int.Signed.{mag}
-use Rattle.std.specs.List.{flat_map}
-use Rattle.std.specs.Str.Parse.{AllDigits, digits_value}
-use Rattle.std.proofs.lemmas.Bool.Decides.{nat_tests}
-use Rattle.std.proofs.lemmas.Fmt.{decimal_is_IsNumeral_wide}
-use Rattle.sel_text.specs.Digits.{NoDigit}
-use Rattle.sel_text.specs.Texts.{escaped, hex_byte}
+use Rattle.std.proofs.Common.{◌≡◌, ◌≢◌, ℕ, ℤ, pos, negsuc, suc, ◌+◌, ◌-◌, ◌*◌, ◌^◌, ◌/◌, ◌%◌, ◌<◌, false, List, [], ◌∷◌, ◌++◌, length, refl, ap, sym, ◌∙◌, arith, append_assoc, nat_lt, ◌==◌, if◌then◌else◌}
+use Rattle.sel_text.proofs.Common.{digit_char, digit_value, decimal, signed_decimal, mag, flat_map, AllDigits, digits_value, nat_tests, decimal_is_IsNumeral_wide, NoDigit, escaped, hex_byte}
 use Rattle.sel_text.proofs.Ends.{digits_apart, few_digits}
+use Rattle.sel_text.proofs.Escapes.{each_escape}
 
 -- ---- numbers
 
@@ -99,42 +91,27 @@ read_one (c ∷ d ∷ rest) = if c == 92 then read_escape d rest else (c, d ∷ 
 abbrev pub one_then : ℕ → List ℕ → ℕ × List ℕ
 one_then a r = (a, r)
 
-pick : (P : List ℕ → Type 0) (b : Bool) (x y : List ℕ) → (b ≡ true → P x) → (b ≡ false → P y) → P (if b then x else y)
-pick P true x y f g = f refl
-pick P false x y f g = g refl
+plain_read : (a : ℕ) (r : List ℕ) → a ≢ 92 → read_one (a ∷ r) ≡ one_then a r
+plain_read a [] not = refl
+plain_read a (d ∷ r) not = let other : (a == 92) ≡ false = grind (arith, nat_tests, not) in ap (λ t. if t then read_escape d r else (a, d ∷ r)) other
 
-plain_read : (a : ℕ) (r : List ℕ) → (a == 92) ≡ false → read_one (a ∷ r) ≡ one_then a r
-plain_read a [] is = refl
-plain_read a (d ∷ r) is = ap (λ t. if t then read_escape d r else (a, d ∷ r)) is
+low_value : (a : ℕ) → a < 32 → 16 * hex_value (digit_char (a / 16)) + hex_value (digit_char (a % 16)) ≡ a
+low_value a low =
+    let h = hex_value_back (a / 16) (omega arith) in
+    let l = hex_value_back (a % 16) (omega arith) in
+    omega (arith, h, l)
 
 -- An escape parses to the byte.
 pub read_escaped : (a : ℕ) (r : List ℕ) → read_one (escaped a ++ r) ≡ one_then a r
 read_escaped a r =
-    let P = λ (l : List ℕ). read_one (l ++ r) ≡ one_then a r in
-    let back : (n : ℕ) → (a == n) ≡ true → one_then n r ≡ one_then a r = λ n is. (let same : n ≡ a = grind (arith, nat_tests, is) in ap (λ x. one_then x r) same) in
-    pick P (a == 34) _ _ (back 34) (λ n34.
-    pick P (a == 92) _ _ (back 92) (λ n92.
-    pick P (a == 10) _ _ (back 10) (λ n10.
-    pick P (a == 13) _ _ (back 13) (λ n13.
-    pick P (a == 9) _ _ (back 9) (λ n9.
-    pick P (a == 8) _ _ (back 8) (λ n8.
-    pick P (a == 12) _ _ (back 12) (λ n12.
-    pick P (nat_lt a 32) _ _
-    (λ low. let value : 16 * hex_value (digit_char (a / 16)) + hex_value (digit_char (a % 16)) ≡ a = low_value a low in ap (λ x. one_then x r) value)
-    (λ high. plain_read a r n92))))))))
-  where
-    low_value : (a : ℕ) → nat_lt a 32 ≡ true → 16 * hex_value (digit_char (a / 16)) + hex_value (digit_char (a % 16)) ≡ a
-    low_value a low =
-        let small : a < 32 = grind (arith, nat_tests, low) in
-        let h = hex_value_back (a / 16) (omega arith) in
-        let l = hex_value_back (a % 16) (omega arith) in
-        omega (arith, h, l)
+    each_escape (λ b word. read_one (word ++ r) ≡ one_then b r) refl refl refl refl refl refl refl
+    (λ b low n8 n9 n10 n12 n13. ap (λ x. one_then x r) (low_value b low)) (λ b high quote not. plain_read b r not) a
 
 -- No escape begins with a quote.
 pub unquoted : (a : ℕ) (r t : List ℕ) → escaped a ++ r ≡ 34 ∷ t → ⊥
 unquoted a r t e =
     let read : one_then a r ≡ read_one (34 ∷ t) = sym (read_escaped a r) ∙ ap read_one e in
-    let same : a ≡ 34 = ap (λ p. p.0) (read ∙ plain_read 34 t refl) in
+    let same : a ≡ 34 = ap (λ p. p.0) (read ∙ plain_read 34 t (λ e. omega arith)) in
     let head : escaped 34 ++ r ≡ 34 ∷ t = ap (λ x. escaped x ++ r) (sym same) ∙ e in
     cc
 

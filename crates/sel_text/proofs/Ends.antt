@@ -1,14 +1,7 @@
 -- Decimal numbers, and the bytes after them.
-use Rattle.std.proofs.Common.{◌≡◌, ◌≢◌, ℕ, zero, suc, ◌+◌, ◌/◌, ◌^◌, ◌≤◌, ◌<◌, Bool, true, false, List, [], ◌∷◌, ◌++◌, length, take, drop, get_or, refl, ap, sym, ◌∙◌, arith, lit<, length-take, subst}
-use Rattle.std.specs.Char.{digit_value}
-use Rattle.std.specs.Fmt.{decimal}
-use Rattle.std.specs.Prelude.{nat_lt}
-use Rattle.std.specs.Str.Parse.{AllDigits, IsNumeral, digits_value}
+use Rattle.std.proofs.Common.{◌≡◌, ◌≢◌, ℕ, zero, suc, ◌+◌, ◌/◌, ◌^◌, ◌≤◌, ◌<◌, Bool, true, false, List, [], ◌∷◌, ◌++◌, length, take, drop, get_or, refl, ap, sym, ◌∙◌, arith, lit<, length-take, subst, nat_lt, get_or-take, take-append-drop}
+use Rattle.sel_text.proofs.Common.{digit_value, decimal, AllDigits, IsNumeral, digits_value, nat_tests, decimal_is_IsNumeral_wide, decimal_digit, decimal_step_wide, NoDigit}
 use Rattle.std.proofs.Math.ListN.{get_or-append}
-use Rattle.std.proofs.lemmas.Bool.Decides.{nat_tests}
-use Rattle.std.proofs.lemmas.Fmt.{decimal_is_IsNumeral_wide, decimal_digit, decimal_step_wide}
-use Rattle.std.proofs.lemmas.List.{get_or-take, take-append-drop}
-use Rattle.sel_text.specs.Digits.{NoDigit}
 
 pub digits_apart : (a b r t : List ℕ) → AllDigits 10 a → AllDigits 10 b → NoDigit r → NoDigit t → a ++ r ≡ b ++ t → (a ≡ b) × (r ≡ t)
 digits_apart [] [] r t da db nr nt e = (refl, e)

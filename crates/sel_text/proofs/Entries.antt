@@ -1,14 +1,7 @@
 -- The values of lists and structs that are still to be parsed.
 use Rattle.std.proofs.Common.{◌≡◌, ◌≢◌, ℕ, zero, suc, ◌+◌, ◌≤◌, ◌<◌, true, true≢false, List, [], ◌∷◌, ◌++◌, length, drop, map, get_or, refl, ap, sym, ◌∙◌, arith, append_assoc, append-nil, length-append, subst}
-use Rattle.std.proofs.lemmas.List.{drop_more, drop_all}
-use Rattle.sel_arrow.specs.DataType.{shape_of}
-use Rattle.sel_arrow.specs.Shape.{Shape, Shapes, no_shapes, next_shape, shapes_of}
-use Rattle.sel_arrow.specs.Value.{Value, Values, no_values, next_value, listed}
-use Rattle.sel_arrow.specs.declared.datatype.ArrowDataType.{ArrowDataType}
-use Rattle.sel_arrow.proofs.Lists.{and_first, and_second}
-use Rattle.sel_text.specs.Fits.{fits, all_fit, fields_fit}
+use Rattle.sel_text.proofs.Common.{drop_more, drop_all, shape_of, Shape, Shapes, no_shapes, next_shape, shapes_of, Value, Values, no_values, next_value, listed, ArrowDataType, and_first, and_second, fits, all_fit, fields_fit, bracketed, item_texts, parenthesized, part_texts, value_text}
 use Rattle.sel_text.specs.Readings.{BeginsWith}
-use Rattle.sel_text.specs.Texts.{bracketed, item_texts, parenthesized, part_texts, value_text}
 use Rattle.sel_text.proofs.Told.{after, inside, joined_inside, after_no_digit, no_value}
 
 -- ---- lists

@@ -1,13 +1,7 @@
 -- Equality of rows.
-use Rattle.std.proofs.Common.{◌≡◌, ◌≢◌, ℕ, ◌+◌, ◌-◌, ◌≤◌, ◌<◌, Bool, List, [], ◌∷◌, ◌++◌, length, take, drop, map, refl, ap, sym, ◌∙◌, arith, get_or, length-take, length-drop}
-use Rattle.std.specs.Prelude.{◌↔◌, IsTrue, bytes_eq}
+use Rattle.std.proofs.Common.{◌≡◌, ◌≢◌, ℕ, ◌+◌, ◌-◌, ◌≤◌, ◌<◌, Bool, List, [], ◌∷◌, ◌++◌, length, take, drop, map, refl, ap, sym, ◌∙◌, arith, get_or, length-take, length-drop, ◌↔◌, IsTrue, bytes_eq}
 use Rattle.std.proofs.lemmas.Slice.Eq.{bytes_eq-Decides}
-use Rattle.std.specs.List.{slice_range}
-use Rattle.std.proofs.lemmas.List.{take_more, get_or-drop, get_or-take, take_all}
-use Rattle.sel_arrow.specs.Rows.{rows}
-use Rattle.sel_arrow.specs.declared.column.Column.{Column}
-use Rattle.sel_arrow.specs.Nested.{list_of, struct_at}
-use Rattle.sel_arrow.specs.Value.{Value, Null, Bytes, Items, Tuple, values_of, listed}
+use Rattle.sel_text.proofs.Common.{slice_range, take_more, get_or-drop, get_or-take, take_all, rows, Column, list_of, struct_at, Value, Null, Bytes, Items, Tuple, values_of, listed}
 
 -- The result of comparing the stored bytes is whether the rows are equal.
 pub bytes_told : (r : Bool) (bytes seen named : List ℕ) (v : Value) → r ≡ bytes_eq bytes seen → seen ≡ named → v ≡ Bytes named → (IsTrue r ↔ (Bytes bytes ≡ v))

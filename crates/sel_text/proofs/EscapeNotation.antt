@@ -1,16 +1,8 @@
 -- Escapes of strings in the notation of rows.
-use Rattle.std.proofs.Common.{◌≡◌, ◌≢◌, ◌≤◌, ◌<◌, ℕ, ◌+◌, ◌-◌, ◌*◌, Bool, true, false, List, [], ◌∷◌, drop, refl, ap, sym, ◌∙◌, arith, Some, None, subst}
-use Rattle.std.specs.Prelude.{Option, unwrap_or, option_map, option_and_then, nat_lt, ◌&&◌, ◌==◌, if◌then◌else◌}
-use Rattle.std.specs.Char.{digit_value, is_digit}
-use Rattle.std.proofs.lemmas.Bool.Decides.{nat_tests}
+use Rattle.std.proofs.Common.{◌≡◌, ◌≢◌, ◌≤◌, ◌<◌, ℕ, ◌+◌, ◌-◌, ◌*◌, Bool, true, false, List, [], ◌∷◌, drop, refl, ap, sym, ◌∙◌, arith, Some, None, subst, Option, unwrap_or, option_map, option_and_then, nat_lt, ◌&&◌, ◌==◌, if◌then◌else◌}
+use Rattle.sel_text.proofs.Common.{digit_value, is_digit, nat_tests, goes_on, escape_at, is_high, is_low, next_unit, paired, short_escape, unit_at, unit_escape, escape_byte, is_hexadecimal, low_first_byte, low_second_byte, unit_first_byte, unit_second_byte, Bracket, Quoted, Text, Escape, UnitFirst, UnitSecond, LastThree, LastTwo, LastOne, HighTwo, HighOne, LowBackslash, LowLetter, LowFirst, LowSecond}
 use lib.Utf8.{scalar}
 use Rattle.sel_text.proofs.StringNotation.{hex_step, inside, leads_byte, leads_none, Leads}
-use Rattle.sel_text.specs.Notation.{goes_on}
-use Rattle.sel_text.specs.Spelling.{escape_at, is_high, is_low, next_unit, paired, short_escape, unit_at, unit_escape}
-use Rattle.sel_text.specs.Tokens.{escape_byte, is_hexadecimal, low_first_byte, low_second_byte, unit_first_byte, unit_second_byte}
-use Rattle.sel_text.specs.declared.notation.Bracket.{Bracket}
-use Rattle.sel_text.specs.declared.notation.Next.TheVariants.{Quoted}
-use Rattle.sel_text.specs.declared.tokens.Within.TheVariants.{Text, Escape, UnitFirst, UnitSecond, LastThree, LastTwo, LastOne, HighTwo, HighOne, LowBackslash, LowLetter, LowFirst, LowSecond}
 
 -- An escape is that of a character, and leads to the next byte of the string.
 abbrev pub Escapes : List ℕ → ℕ → ℕ → Type 0
@@ -58,10 +50,6 @@ of_digit : (x : ℕ) → is_digit x 16 ≡ true → digit_value x < 16
 of_digit x is = grind (arith, nat_tests, is)
 
 read_unit : (text : List ℕ) (unit : ℕ) → unit_at text ≡ Some unit → Unit_at text unit
-read_unit [] unit is = absurd cc
-read_unit (a ∷ []) unit is = absurd cc
-read_unit (a ∷ b ∷ []) unit is = absurd cc
-read_unit (a ∷ b ∷ c ∷ []) unit is = absurd cc
 read_unit (a ∷ b ∷ c ∷ d ∷ rest) unit is = go (is_digit a 16) (is_digit b 16) (is_digit c 16) (is_digit d 16) refl refl refl refl is
   where
     go : (p q r s : Bool) → is_digit a 16 ≡ p → is_digit b 16 ≡ q → is_digit c 16 ≡ r → is_digit d 16 ≡ s →
@@ -83,6 +71,7 @@ read_unit (a ∷ b ∷ c ∷ d ∷ rest) unit is = go (is_digit a 16) (is_digit 
     go true true false s da db dc dd is = absurd cc
     go true false r s da db dc dd is = absurd cc
     go false q r s da db dc dd is = absurd cc
+read_unit text unit is = absurd cc
 
 hexadecimal : (x : ℕ) → digit_value x < 16 → is_hexadecimal x ≡ true
 hexadecimal x small = grind (arith, nat_tests, small)

@@ -1,13 +1,7 @@
 -- Characters of quoted strings.
-use Rattle.std.proofs.Common.{◌≡◌, ◌≢◌, ℕ, ◌+◌, ◌/◌, ◌≤◌, ◌<◌, Bool, true, false, cond, List, [], ◌∷◌, ◌++◌, refl, ap, sym, ◌∙◌, arith, append_assoc, append-nil}
-use Rattle.std.specs.Prelude.{nat_lt}
-use Rattle.std.specs.List.{flat_map}
-use Rattle.std.proofs.lemmas.Bool.Decides.{nat_tests}
-use Rattle.std.specs.Str.{IsUtf8, chars}
-use Rattle.std.proofs.lemmas.Grind.{flat_map-append}
-use Rattle.std.proofs.lemmas.Str.{encode_ascii, encodes-append, chars-encodes}
+use Rattle.std.proofs.Common.{◌≡◌, ◌≢◌, ℕ, ◌+◌, ◌/◌, ◌≤◌, ◌<◌, Bool, true, false, cond, List, [], ◌∷◌, ◌++◌, refl, ap, sym, ◌∙◌, arith, append_assoc, append-nil, nat_lt, ◌==◌, codes, subst, if◌then◌else◌}
+use Rattle.sel_text.proofs.Common.{flat_map, nat_tests, IsUtf8, chars, flat_map-append, encode_ascii, encodes-append, chars-encodes, escaped, quoted, hex_byte}
 use lib.Utf8.{encode, encodes, next}
-use Rattle.sel_text.specs.Texts.{escaped, quoted}
 
 -- A byte that needs no escape.
 pub escaped_plain : (b : ℕ) → b ≢ 34 → b ≢ 92 → 32 ≤ b → escaped b ≡ b ∷ []
@@ -15,6 +9,34 @@ escaped_plain b q s high = grind (arith, nat_tests)
 
 escaped_high : (b : ℕ) → 128 ≤ b → escaped b ≡ b ∷ []
 escaped_high b high = escaped_plain b (λ e. omega arith) (λ e. omega arith) (omega arith)
+
+-- A property of each escape and of each byte without one.
+module _ (P : ℕ → List ℕ → Type 0)
+    (quote : P 34 (codes "\\\"")) (backslash : P 92 (codes "\\\\")) (line : P 10 (codes "\\n")) (return : P 13 (codes "\\r")) (tab : P 9 (codes "\\t")) (back : P 8 (codes "\\b")) (feed : P 12 (codes "\\f"))
+    (control : (b : ℕ) → b < 32 → b ≢ 8 → b ≢ 9 → b ≢ 10 → b ≢ 12 → b ≢ 13 → P b (codes "\\u00" ++ hex_byte b))
+    (plain : (b : ℕ) → 32 ≤ b → b ≢ 34 → b ≢ 92 → P b (b ∷ [])) where
+  at_byte : (b n : ℕ) (word : List ℕ) → (b == n) ≡ true → P n word → P b word
+  at_byte b n word is here = let same : n ≡ b = grind (arith, nat_tests, is) in subst (λ x. P x word) same here
+
+  not_byte : (b n : ℕ) → (b == n) ≡ false → b ≢ n
+  not_byte b n is = grind (arith, nat_tests, is)
+
+  choose : (b : ℕ) (t : Bool) (x y : List ℕ) → (t ≡ true → P b x) → (t ≡ false → P b y) → P b (if t then x else y)
+  choose b true x y f g = f refl
+  choose b false x y f g = g refl
+
+  pub each_escape : (b : ℕ) → P b (escaped b)
+  each_escape b =
+      choose b (b == 34) _ _ (λ is. at_byte b 34 _ is quote) (λ n34.
+      choose b (b == 92) _ _ (λ is. at_byte b 92 _ is backslash) (λ n92.
+      choose b (b == 10) _ _ (λ is. at_byte b 10 _ is line) (λ n10.
+      choose b (b == 13) _ _ (λ is. at_byte b 13 _ is return) (λ n13.
+      choose b (b == 9) _ _ (λ is. at_byte b 9 _ is tab) (λ n9.
+      choose b (b == 8) _ _ (λ is. at_byte b 8 _ is back) (λ n8.
+      choose b (b == 12) _ _ (λ is. at_byte b 12 _ is feed) (λ n12.
+      choose b (nat_lt b 32) _ _
+      (λ low. control b (grind (arith, nat_tests, low)) (not_byte b 8 n8) (not_byte b 9 n9) (not_byte b 10 n10) (not_byte b 12 n12) (not_byte b 13 n13))
+      (λ high. plain b (grind (arith, nat_tests, high)) (not_byte b 34 n34) (not_byte b 92 n92)))))))))
 
 -- A character from 128 on needs no escape.
 pub high_letter : (c : ℕ) → 128 ≤ c → flat_map escaped (encode c) ≡ encode c

@@ -1,18 +1,6 @@
 -- The texts of types that are still to be parsed.
-use Rattle.std.proofs.Common.{◌≡◌, ◌≢◌, ℕ, ◌+◌, ◌-◌, ◌<◌, ◌≤◌, true, List, [], ◌∷◌, ◌++◌, length, map, get_or, drop, refl, ap, sym, ◌∙◌, arith, append_assoc, length-append, subst}
-use Rattle.std.specs.List.{join_with_byte}
-use Rattle.std.specs.Prelude.{◌^◌, nat_lt, IsTrue}
-use Rattle.std.proofs.lemmas.Bool.Decides.{nat_tests}
-use Rattle.std.proofs.lemmas.List.{map-append}
-use Rattle.sel_arrow.specs.DataType.{shape_of}
-use Rattle.sel_arrow.specs.Shape.{Shape, Shapes, no_shapes, next_shape, shapes_of, of_large_list, of_fixed_size_list, of_struct}
-use Rattle.sel_arrow.specs.declared.datatype.ArrowDataType.{ArrowDataType}
-use Rattle.sel_arrow.proofs.Lists.{and_first, and_second, both}
-use Rattle.sel_text.specs.Types.{angled, type_text, type_texts}
-use Rattle.sel_text.specs.Steps.{ReportsLimit}
-use Rattle.sel_arrow.specs.Depth.{deepest, depth}
-use Rattle.sel_text.specs.Written.{widths_written, all_widths_written}
-use Rattle.sel_text.specs.declared.text_error.Fault.{Fault}
+use Rattle.std.proofs.Common.{◌≡◌, ◌≢◌, ℕ, ◌+◌, ◌-◌, ◌<◌, ◌≤◌, true, List, [], ◌∷◌, ◌++◌, map, get_or, drop, refl, ap, sym, ◌∙◌, arith, append_assoc, subst, ◌^◌, nat_lt, IsTrue}
+use Rattle.sel_text.proofs.Common.{join_with_byte, nat_tests, map-append, shape_of, Shape, Shapes, no_shapes, next_shape, shapes_of, of_fixed_size_list, of_struct, ArrowDataType, and_first, and_second, both, angled, type_text, type_texts, ReportsLimit, deepest, depth, widths_written, all_widths_written, Fault}
 use Rattle.sel_text.proofs.Making.{told_more}
 
 -- The text after the first of several types.
@@ -97,18 +85,6 @@ pub bracket_or_comma : (others : Shapes) (text more : List ℕ) → text ≡ beh
 bracket_or_comma no_shapes text more is no_bracket no_comma = no_bracket _ is
 bracket_or_comma (next_shape s ss) text more is no_bracket no_comma = no_comma _ is
 
--- So the text does not end there.
-pub not_ended : (all : Shapes) (read : List ArrowDataType) (rest more : List ℕ) → IsLeft all read rest more → length rest ≡ 0 → ⊥
-not_ended all read rest more left none =
-    let long = ap length left.text in
-    let parts = length-append (type_text left.first) (behind_first left.others more) in
-    let some = has_some left.others in
-    omega (arith, none, long, parts, some)
-  where
-    has_some : (others : Shapes) → 0 < length (behind_first others more)
-    has_some no_shapes = omega arith
-    has_some (next_shape s ss) = omega arith
-
 -- The list sizes of the first remaining type have 64 bits.
 pub left_narrow : (all : Shapes) (read : List ArrowDataType) (rest more : List ℕ) (left : IsLeft all read rest more) → IsTrue (widths_written left.first)
 left_narrow all read rest more left = first_narrow left.first left.others left.narrow
@@ -119,7 +95,6 @@ no_types no_shapes rest more is = (refl, ap (drop 2) is)
 no_types (next_shape s ss) rest more is = absurd (letter s (behind_first ss more) rest (behind_bracket s ss (62 ∷ rest) more is))
   where
     letter : (s : Shape) (more rest : List ℕ) → 62 ∷ rest ≡ type_text s ++ more → ⊥
-    letter (of_large_list s) more rest is = let first = ap (λ l. get_or l 0 0) is in omega (arith, first)
     letter (of_fixed_size_list s n) more rest is = let first = ap (λ l. get_or l 0 0) is in omega (arith, first)
     letter s more rest is = let first = ap (λ l. get_or l 0 0) is in omega (arith, first)
 

@@ -1,37 +1,15 @@
 -- Rows of each layout fit the type of their column.
-use Rattle.std.proofs.Common.{◌≡◌, ℕ, zero, suc, ℤ, ◌+◌, ◌-◌, ◌*◌, ◌≤◌, ◌<◌, Bool, true, false, All, List, [], ◌∷◌, ◌++◌, map, length, take, Option, Some, None, Vec, Box, Global, refl, ap, sym, subst, ◌∙◌, arith, length-take, length-drop, get_or}
-use Rattle.std.specs.Prelude.{◌==◌, ◌/◌, ◌%◌, ◌^◌, nat_lt, replicate, slice_index_or, if◌then◌else◌}
-use Rattle.std.specs.Int.{w32, byte_at, bytes_low_first, to_le_bytes}
-use Rattle.std.specs.List.{list_all, range_with_len, slice_range}
-use Rattle.std.specs.Str.{is_utf8}
-use Rattle.std.proofs.lemmas.Bool.Decides.{nat_tests}
-use Rattle.std.proofs.lemmas.List.{take_all}
-use Rattle.std.proofs.lemmas.List.Elements.{All-head, All-tail, All-weaker}
-use Rattle.std.proofs.lemmas.List.Folds.{list_all-append}
+use Rattle.std.proofs.Common.{◌≡◌, ℕ, zero, suc, ℤ, ◌+◌, ◌-◌, ◌*◌, ◌≤◌, ◌<◌, Bool, true, false, All, List, [], ◌∷◌, ◌++◌, map, length, take, Option, Some, None, Vec, Box, Global, refl, ap, sym, subst, ◌∙◌, arith, length-take, length-drop, get_or, ◌==◌, ◌/◌, ◌%◌, ◌^◌, nat_lt, replicate, slice_index_or, if◌then◌else◌, take_all}
+use Rattle.sel_text.proofs.Common.{w32, byte_at, bytes_low_first, to_le_bytes, list_all, range_with_len, slice_range, is_utf8, nat_tests, All-head, All-tail, All-weaker, list_all-append, Bits, utf8view_rows, hidden, masked, number_rows, list_of, blocks, list_rows, struct_at, byte_rows, pieces_after, rows, type_of, well_formed, IsField, IsWellFormed, Shape, shapes_of, of_binary_view, of_boolean, of_fixed_size_list, of_large_binary, of_large_list, of_null, of_struct, of_utf8_view, all_text, Value, Null, Truth, Number, Bytes, values_of, listed, buffer_at, inline_bytes, inline_space, is_inline, view_bytes, view_rows, view_value, Column, LargeList, FixedSizeList, Struct, NullColumn, Boolean, LargeBinary, BinaryView, Utf8View, View, both, all_part, and_first, and_second, all_fit, are_bytes, fields_fit, fits, fits_number, RowsFit}
 use Rattle.std.proofs.Math.Nat.{mul-le-mul_right}
-use Rattle.sel_bits.specs.Bits.{Bits}
-use Rattle.sel_arrow.specs.Columns.{utf8view_rows}
-use Rattle.sel_arrow.specs.Masked.{hidden, masked, number_rows}
-use Rattle.sel_arrow.specs.Nested.{list_of, blocks, list_rows, struct_at}
-use Rattle.sel_arrow.specs.Pieces.{byte_rows, pieces_after}
-use Rattle.sel_arrow.specs.Rows.{rows, type_of, well_formed, IsField, IsWellFormed}
-use Rattle.sel_arrow.specs.Shape.{Shape, shapes_of, of_binary_view, of_boolean, of_fixed_size_list, of_large_binary, of_large_list, of_null, of_struct, of_utf8_view}
-use Rattle.sel_arrow.specs.Texts.{all_text}
-use Rattle.sel_arrow.specs.Value.{Value, Null, Truth, Number, Bytes, values_of, listed}
-use Rattle.sel_arrow.specs.Views.{buffer_at, inline_bytes, inline_space, is_inline, view_bytes, view_rows, view_value}
-use Rattle.sel_arrow.specs.declared.column.Column.{Column, LargeList, FixedSizeList, Struct}
 use Rattle.sel_arrow.specs.declared.binary.BinaryArray.{BinaryArray}
 use Rattle.sel_arrow.specs.declared.binview.BinaryViewArray.{BinaryViewArray}
 use Rattle.sel_arrow.specs.declared.boolean.BooleanArray.{BooleanArray}
-use Rattle.sel_arrow.specs.declared.column.Column.TheVariants.{Null as NullColumn, Boolean, LargeBinary, BinaryView, Utf8View}
 use Rattle.sel_arrow.specs.declared.null.NullArray.{NullArray}
 use Rattle.sel_arrow.specs.declared.utf8view.Utf8ViewArray.{Utf8ViewArray}
-use Rattle.sel_arrow.specs.declared.view.View.{View}
-use Rattle.sel_arrow.proofs.Lists.{both, all_part, and_first, and_second}
 use Rattle.sel_arrow.proofs.NestedRows.{has_blocks, length-rows}
 use Rattle.sel_arrow.proofs.Trees.{has_fields, rows-Struct}
 use Rattle.sel_arrow.proofs.Types.{struct_type}
-use Rattle.sel_text.specs.Fits.{all_fit, are_bytes, fields_fit, fits, fits_number, RowsFit}
 use Rattle.sel_text.proofs.Equalities.{list_back}
 use Rattle.sel_text.proofs.Told.{all_fits}
 

@@ -1,11 +1,6 @@
 -- The child rows of parsed items.
-use Rattle.std.proofs.Common.{◌≡◌, Bor, ℕ, ◌+◌, ◌<◌, ◌≤◌, List, [], ◌∷◌, ◌++◌, map, take, length, get_or, Vec, Global, sym, ap, ◌∙◌}
-use Rattle.std.specs.Prelude.{slice_index_or}
-use Rattle.std.proofs.lemmas.List.{length-map, get_or-map, get_or_past, map_more, take_all}
-use Rattle.sel_arrow.specs.Value.{Value, Null, Values, Items, Tuple, values_of, listed}
-use Rattle.sel_text.specs.ItemValues.{item_value, rows_read}
-use Rattle.sel_text.specs.Limits.{part_in}
-use Rattle.sel_text.specs.declared.item.Item.{Item, Items as ItemsItem, Parts as PartsItem}
+use Rattle.std.proofs.Common.{◌≡◌, Bor, ℕ, ◌+◌, ◌<◌, ◌≤◌, List, [], ◌∷◌, ◌++◌, map, take, length, get_or, Vec, Global, sym, ap, ◌∙◌, slice_index_or}
+use Rattle.sel_text.proofs.Common.{length-map, get_or-map, get_or_past, map_more, take_all, Value, Null, Values, Items, Tuple, values_of, listed, item_value, rows_read, part_in, Item, ItemsItem, PartsItem}
 use Rattle.sel_text.proofs.Equalities.{list_back}
 use Rattle.sel_text.proofs.ItemRows.{items_value, parts_value}
 

@@ -1,10 +1,7 @@
 -- The values of parsed rows with entries.
 use Rattle.std.proofs.Common.{◌≡◌, List, [], ◌∷◌, ◌++◌, map, Vec, Global, refl, ap, ◌∙◌}
-use Rattle.std.proofs.lemmas.List.{map-append}
+use Rattle.sel_text.proofs.Common.{map-append, Value, Items, Tuple, Values, no_values, next_value, listed, values_of, item_value, values_read, Item, Row_of-Item, end_of-Item, more_of-Item, items-the_row-Item, items_hidden-the_row-Item-0}
 use mathlib.Core.Former.{Count}
-use Rattle.sel_arrow.specs.Value.{Value, Items, Tuple, Values, no_values, next_value, listed, values_of}
-use Rattle.sel_text.specs.ItemValues.{item_value, values_read}
-use Rattle.sel_text.specs.declared.item.Item.{Item, Row_of-Item, end_of-Item, more_of-Item, items-the_row-Item, items_hidden-the_row-Item-0}
 use Rattle.sel_text.specs.declared.item.Item.TheVariants.{Items as ItemsItem, Parts as PartsItem, Items', Parts'}
 
 abbrev items_in : Item → (n : Count) × Row_of-Item n

@@ -1,18 +1,8 @@
 -- The text of parsed rows, and whether they fit their types.
-use Rattle.std.proofs.Common.{◌≡◌, ◌≢◌, ℕ, zero, suc, ◌+◌, ◌<◌, Bool, true, false, ◌&&◌, List, [], ◌∷◌, ◌++◌, length, map, get_or, Vec, Box, Global, refl, ap, sym, ◌∙◌, arith}
-use Rattle.std.specs.Prelude.{◌==◌}
-use Rattle.std.specs.List.{list_all}
-use Rattle.std.proofs.lemmas.Bool.{eq-eqb, eqb-true, false_from_ne_true}
-use Rattle.sel_arrow.specs.DataType.{shape_of}
-use Rattle.sel_arrow.specs.Shape.{Shape, shapes_of}
-use Rattle.sel_arrow.specs.Value.{Value, Items, Tuple, Values, values_of}
-use Rattle.sel_arrow.proofs.Lists.{both, and_first, and_second}
-use Rattle.sel_arrow.specs.declared.datatype.ArrowDataType.{ArrowDataType, LargeList, FixedSizeList, Struct}
-use Rattle.sel_arrow.specs.declared.datatype.ArrowDataType.TheVariants.{LargeBinary, BinaryView, Utf8View, LargeList', FixedSizeList', Struct'}
-use Rattle.sel_text.specs.Fits.{fits, fits_bytes, all_fit, fields_fit}
-use Rattle.sel_text.specs.ItemValues.{item_value}
-use Rattle.sel_text.specs.Texts.{part_texts, value_text}
-use Rattle.sel_text.specs.declared.item.Item.{Item, Items as ItemsItem, Parts as PartsItem}
+use Rattle.std.proofs.Common.{◌≡◌, ◌≢◌, ℕ, zero, suc, ◌+◌, ◌<◌, Bool, true, false, ◌&&◌, List, [], ◌∷◌, ◌++◌, length, map, get_or, Vec, Box, Global, refl, ap, sym, ◌∙◌, arith, ◌==◌}
+use Rattle.sel_text.proofs.Common.{list_all, eq-eqb, eqb-true, false_from_ne_true, shape_of, Shape, shapes_of, Value, Items, Tuple, Values, values_of, both, and_first, and_second, fits, fits_bytes, all_fit, fields_fit, item_value, part_texts, value_text, Item, ItemsItem, PartsItem}
+use Rattle.sel_arrow.specs.declared.datatype.ArrowDataType.{ArrowDataType, LargeList, FixedSizeList}
+use Rattle.sel_arrow.specs.declared.datatype.ArrowDataType.TheVariants.{LargeBinary, BinaryView, Utf8View, LargeList', FixedSizeList'}
 use Rattle.sel_text.proofs.Equalities.{list_back}
 use Rattle.sel_text.proofs.ItemRows.{items_value, parts_value}
 

@@ -4,6 +4,7 @@ pub mod BuiltViews
 pub mod CellRows
 pub mod ColumnTypes
 pub mod Commas
+pub mod Common
 pub mod Completions
 pub mod Decimals
 pub mod Decoded

@@ -1,18 +1,8 @@
 -- The results of column constructors, and their errors.
 use Rattle.std.proofs.Common.{◌≡◌, Bool, true, false, ◌||◌, List, [], ◌∷◌, length, replicate, Option, Some, None, refl, ap}
-use Rattle.std.specs.List.{list_all}
-use Rattle.sel_arrow.specs.Shape.{of_null}
-use Rattle.sel_arrow.specs.Value.{Value, Null, Truth, Number, Bytes, Items, Tuple}
-use Rattle.sel_bits.specs.Faults.{first_broken, IsFaultOrMemory}
-use Rattle.sel_bits.specs.declared.faults.Malformed.{Malformed}
+use Rattle.sel_text.proofs.Common.{list_all, of_null, Value, Null, first_broken, IsFaultOrMemory, Malformed, fits, ReportsLimit, make_fault, IsMemoryFault, Fault, Syntax, «Type», Limit, OutOfMemory}
 use Rattle.sel_bits.specs.declared.faults.MakeError.{MakeError}
 use Rattle.sel_bits.specs.declared.faults.MakeError.TheVariants.{Malformed as Broken, OutOfMemory as WantOfMemory}
-use Rattle.sel_text.specs.Fits.{fits}
-use Rattle.sel_text.specs.Steps.{ReportsLimit}
-use Rattle.sel_text.specs.TextErrors.{make_fault}
-use Rattle.sel_text.specs.Steps.{IsMemoryFault}
-use Rattle.sel_text.specs.declared.text_error.Fault.{Fault}
-use Rattle.sel_text.specs.declared.text_error.Fault.TheVariants.{Syntax, «Type», Limit, OutOfMemory}
 
 pub or_first : (a b : Bool) → a ≡ true → (a || b) ≡ true
 or_first true b e = refl
@@ -30,10 +20,8 @@ told_more p q (Syntax n) more told = absurd told
 told_more p q («Type» n) more told = absurd told
 
 pub told_wanting : (p : Bool) (fault : Fault) → IsMemoryFault fault → ReportsLimit p fault
-told_wanting p Limit wants = absurd wants
 told_wanting p OutOfMemory wants = tt
-told_wanting p (Syntax n) wants = absurd wants
-told_wanting p («Type» n) wants = absurd wants
+told_wanting p fault wants = absurd wants
 
 -- An error of a constructor for an exceeded limit is reported as `Limit`.
 pub maker_told : (rule : Option Malformed) (error : MakeError) (p : Bool) → IsFaultOrMemory rule error → ((m : Malformed) → rule ≡ Some m → p ≡ true) → ReportsLimit p (make_fault error)
@@ -59,8 +47,4 @@ first_of_four false b d e r s t u m third fourth is = first_of_three b d e s t u
 pub all_nulls : (vs : List Value) → list_all (fits of_null) vs ≡ true → replicate (length vs) Null ≡ vs
 all_nulls [] fit = refl
 all_nulls (Null ∷ vs) fit = ap (λ l. Null ∷ l) (all_nulls vs fit)
-all_nulls (Truth t ∷ vs) fit = absurd cc
-all_nulls (Number z ∷ vs) fit = absurd cc
-all_nulls (Bytes bs ∷ vs) fit = absurd cc
-all_nulls (Items es ∷ vs) fit = absurd cc
-all_nulls (Tuple es ∷ vs) fit = absurd cc
+all_nulls vs fit = absurd cc

@@ -1,16 +1,8 @@
 -- Numbers as they are parsed.
-use Rattle.std.proofs.Common.{◌≡◌, ℕ, ℤ, pos, negsuc, suc, ◌^◌, ◌<◌, true, List, ◌++◌, ap, sym, ◌∙◌, ◌∷◌, drop, arith, subst}
-use Rattle.std.specs.Prelude.{◌-ℤ◌, FitsSigned}
-use Rattle.std.specs.Fmt.{decimal}
-use Rattle.std.specs.Fmt.{signed_decimal}
-use Rattle.std.specs.Int.{w128}
-use Rattle.std.specs.Int.Signed.{mag}
-use Rattle.std.specs.Str.Parse.{AllDigits, digits_value}
+use Rattle.std.proofs.Common.{◌≡◌, ℕ, ℤ, pos, negsuc, suc, ◌^◌, ◌<◌, true, List, ◌++◌, ap, sym, ◌∙◌, ◌∷◌, drop, arith, subst, ◌-ℤ◌, FitsSigned}
+use Rattle.sel_text.proofs.Common.{decimal, signed_decimal, w128, mag, AllDigits, digits_value, Shape, NoDigit, fits_number}
 use Rattle.std.proofs.lemmas.Int.{ints, to_z-of_z}
 use mir.Val.{to_z, of_z}
-use Rattle.sel_arrow.specs.Shape.{Shape}
-use Rattle.sel_text.specs.Digits.{NoDigit}
-use Rattle.sel_text.specs.Fits.{fits_number}
 use Rattle.sel_text.proofs.Decoded.{no_minus}
 use Rattle.sel_text.proofs.Ends.{numeral_is, numeral_told}
 use Rattle.sel_text.proofs.Told.{small_number, small_below}

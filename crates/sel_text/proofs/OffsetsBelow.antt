@@ -1,15 +1,9 @@
 -- Offsets of rows of any type, by the entries of each row.
-use Rattle.std.proofs.Common.{◌≡◌, ℕ, ◌+◌, ◌<◌, ℤ, pos, suc, false, ◌||◌, List, [], ◌∷◌, ◌++◌, length, map, None, refl, ap, sym, subst, ◌∙◌, arith, append_assoc, length-append, w64, FitsSigned, to_z, of_z}
-use Rattle.std.specs.Prelude.{nat_lt, slice_index}
-use Rattle.std.specs.List.{flat_map, slice_range}
-use Rattle.std.proofs.lemmas.Bool.Decides.{nat_tests}
-use Rattle.std.proofs.lemmas.Grind.{common_steps}
+use Rattle.std.proofs.Common.{◌≡◌, ℕ, ◌+◌, ◌<◌, ℤ, pos, suc, false, ◌||◌, List, [], ◌∷◌, ◌++◌, length, map, None, refl, ap, sym, subst, ◌∙◌, arith, append_assoc, length-append, w64, FitsSigned, to_z, of_z, nat_lt, slice_index}
+use Rattle.sel_text.proofs.Common.{flat_map, slice_range, nat_tests, common_steps, append-nil, map-append, map-id, last_offset, pieces, pieces_after, rows_between, ends_below, offsets_below}
 use Rattle.std.proofs.lemmas.Int.{to_z-of_z}
-use Rattle.std.proofs.lemmas.List.{append-nil, map-append, map-id}
 use Rattle.std.proofs.lemmas.List.Concat.{flat_map-append}
 use Rattle.sel_bits.specs.Offsets.{falls_after, has_negative, offsets_fault}
-use Rattle.sel_arrow.specs.Pieces.{last_offset, pieces, pieces_after, rows_between}
-use Rattle.sel_text.specs.Below.{ends_below, offsets_below}
 
 -- A position that is stored as an offset.
 pub end_kept : (z : ℤ) (n : ℕ) → z ≡ pos n → n < 9223372036854775808 → to_z w64 (of_z w64 z) ≡ pos n

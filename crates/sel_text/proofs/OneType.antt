@@ -1,13 +1,6 @@
 -- Types with the same text are equal.
-use Rattle.std.proofs.Common.{◌≡◌, ℕ, ◌<◌, true, List, [], ◌∷◌, ◌++◌, drop, get_or, refl, ap, sym, ◌∙◌, arith, lit<, append_assoc}
-use Rattle.std.specs.Prelude.{◌^◌, codes}
-use Rattle.std.specs.Fmt.{decimal}
-use Rattle.sel_arrow.specs.Shape.{Shape, Shapes, no_shapes, next_shape, of_large_list, of_fixed_size_list, of_struct}
-use Rattle.sel_arrow.proofs.Lists.{and_first, and_second}
-use Rattle.sel_text.specs.Types.{angled, type_text, type_texts}
-use Rattle.sel_text.specs.Spelling.{spelled}
-use Rattle.std.specs.Prelude.{Some, unwrap_or}
-use Rattle.sel_text.specs.Written.{widths_written, all_widths_written}
+use Rattle.std.proofs.Common.{◌≡◌, ℕ, ◌<◌, true, List, [], ◌∷◌, ◌++◌, drop, get_or, refl, ap, sym, ◌∙◌, arith, lit<, append_assoc, ◌^◌, codes, Some, unwrap_or}
+use Rattle.sel_text.proofs.Common.{decimal, Shape, Shapes, no_shapes, next_shape, of_large_list, of_fixed_size_list, of_struct, and_first, and_second, angled, type_text, type_texts, spelled, widths_written, all_widths_written}
 use Rattle.sel_text.proofs.Ends.{numbers_told}
 use Rattle.sel_text.proofs.Fields.{behind_first, behind_bracket, block_narrow, no_types}
 use Rattle.sel_text.proofs.TypesTold.{plain_told, blocks_told, tuples_told}

@@ -1,33 +1,12 @@
 -- The fields of struct rows, and struct rows made of fields.
-use Rattle.std.proofs.Common.{◌≡◌, ℕ, zero, suc, ◌+◌, ◌-◌, ◌<◌, true, false, ◌==◌, List, [], ◌∷◌, ◌++◌, map, length, take, get_or, Option, Some, refl, sym, ap, subst, ◌∙◌, arith, append_assoc, length-append, not}
-use Rattle.std.specs.Prelude.{slice_index_or}
-use Rattle.std.specs.List.{list_all, range_with_len}
-use Rattle.std.proofs.lemmas.Bool.Decides.{nat_tests}
-use Rattle.std.proofs.lemmas.List.{get_or-append_right, length-map, length-take, map-append, map_more}
+use Rattle.std.proofs.Common.{◌≡◌, ℕ, zero, suc, ◌+◌, ◌-◌, ◌<◌, true, false, ◌==◌, List, [], ◌∷◌, ◌++◌, map, length, take, get_or, Option, Some, refl, sym, ap, subst, ◌∙◌, arith, append_assoc, length-append, not, slice_index_or}
+use Rattle.sel_text.proofs.Common.{list_all, range_with_len, nat_tests, get_or-append_right, length-map, length-take, map-append, map_more, Bits, Malformed, TooManyRows, FieldLength, ValidityLength, shape_of, struct_fault, masked, too_many, validity_differs, Covers, struct_at, struct_rows, rows, row_count, type_of, Shape, of_struct, shapes_of, Value, Null, Tuple, Values, no_values, next_value, values_of, listed, is_valid, ArrayRef, ArrowDataType, both, and_first, and_second, parts_below, HasParts, fits, fields_fit, any_exceeds_limit, part_in, exceeds_limit, ShowsRows, NullSlots}
 use Rattle.std.proofs.lemmas.List.FromFn.{map-range_with_len_more}
-use Rattle.sel_bits.specs.Bits.{Bits}
-use Rattle.sel_bits.specs.declared.faults.Malformed.{Malformed}
-use Rattle.sel_bits.specs.declared.faults.Malformed.TheVariants.{TooManyRows, FieldLength, ValidityLength}
-use Rattle.sel_arrow.specs.DataType.{shape_of}
-use Rattle.sel_arrow.specs.Makers.{struct_fault}
-use Rattle.sel_arrow.specs.Masked.{masked, too_many, validity_differs, Covers}
-use Rattle.sel_arrow.specs.Nested.{struct_at, struct_rows}
 use Rattle.sel_arrow.specs.NestedArrays.{struct_column}
-use Rattle.sel_arrow.specs.Rows.{rows, row_count, type_of}
-use Rattle.sel_arrow.specs.Shape.{Shape, of_struct, shapes_of}
-use Rattle.sel_arrow.specs.Value.{Value, Null, Truth, Number, Bytes, Items, Tuple, Values, no_values, next_value, values_of, listed, is_valid}
-use Rattle.sel_arrow.specs.declared.array_ref.ArrayRef.{ArrayRef}
-use Rattle.sel_arrow.specs.declared.datatype.ArrowDataType.{ArrowDataType}
 use Rattle.sel_arrow.specs.declared.structure.StructArray.{StructArray}
-use Rattle.sel_arrow.proofs.Lists.{both, and_first, and_second}
 use Rattle.sel_arrow.proofs.NestedRows.{length-rows}
 use Rattle.sel_arrow.proofs.Trees.{rows-Struct}
 use Rattle.sel_arrow.proofs.Types.{type_of-Struct}
-use Rattle.sel_text.specs.Below.{parts_below, HasParts}
-use Rattle.sel_text.specs.Fits.{fits, fields_fit}
-use Rattle.sel_text.specs.Limits.{any_exceeds_limit, part_in, exceeds_limit}
-use Rattle.sel_text.specs.Steps.{ShowsRows}
-use Rattle.sel_text.specs.declared.build.NullSlots.{NullSlots}
 use Rattle.sel_text.proofs.ItemRows.{values_back}
 use Rattle.sel_text.proofs.Making.{first_of_three, or_first, or_second}
 use Rattle.sel_text.proofs.Refusals.{no_difference}
@@ -42,12 +21,8 @@ part_fits (x ∷ xs) (next_value v vs) zero s fit below is = subst (λ t. fits t
 part_fits (x ∷ xs) (next_value v vs) (suc k) s fit below is = part_fits xs vs k s (and_second (fits x v) (fields_fit (shapes_of xs) vs) fit) (omega arith) is
 
 row_part : (shapes : List Shape) (k : ℕ) (s : Shape) → k < length shapes → s ≡ get_or shapes k s → (row : Value) → fits (of_struct (shapes_of shapes)) row ≡ true → fits s (part_in k row) ≡ true
-row_part shapes k s below is Null fit = refl
-row_part shapes k s below is (Truth t) fit = refl
-row_part shapes k s below is (Number z) fit = refl
-row_part shapes k s below is (Bytes bs) fit = refl
-row_part shapes k s below is (Items es) fit = refl
 row_part shapes k s below is (Tuple es) fit = part_fits shapes es k s fit below is
+row_part shapes k s below is row fit = refl
 
 pub parts_kept : (shapes : List Shape) (k : ℕ) (s : Shape) → k < length shapes → s ≡ get_or shapes k s → (vs : List Value) → list_all (fits (of_struct (shapes_of shapes))) vs ≡ true → list_all (fits s) (map (part_in k) vs) ≡ true
 parts_kept shapes k s below is [] fit = refl
@@ -85,14 +60,10 @@ entries_from all (v ∷ left) pre k is long =
     ∙ ap (λ l. v ∷ l) (entries_from all left (pre ++ v ∷ []) (k + 1) (is ∙ sym (append_assoc pre (v ∷ []) left)) longer)
 
 tuple_of_parts : (shapes : List Shape) (row : Value) → fits (of_struct (shapes_of shapes)) row ≡ true → is_valid row ≡ true → row ≡ Tuple (values_of (map (λ place. part_in place row) (range_with_len 0 (length shapes))))
-tuple_of_parts shapes Null fit valid = absurd cc
-tuple_of_parts shapes (Truth t) fit valid = absurd cc
-tuple_of_parts shapes (Number z) fit valid = absurd cc
-tuple_of_parts shapes (Bytes bs) fit valid = absurd cc
-tuple_of_parts shapes (Items es) fit valid = absurd cc
 tuple_of_parts shapes (Tuple es) fit valid =
     let entries = ap (λ n. map (λ place. slice_index_or (listed es) place Null) (range_with_len 0 n)) (sym (count_parts shapes es fit)) ∙ entries_from (listed es) (listed es) [] 0 refl refl in
     ap Tuple (sym (values_back es)) ∙ ap (λ l. Tuple (values_of l)) (sym entries)
+tuple_of_parts shapes row fit valid = absurd cc
 
 part_here : (vs : List Value) (k place : ℕ) → slice_index_or (map (part_in place) vs) k Null ≡ part_in place (slice_index_or vs k Null)
 part_here [] k place = refl

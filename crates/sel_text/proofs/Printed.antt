@@ -1,14 +1,6 @@
 -- Texts that grow part by part.
 use Rattle.std.proofs.Common.{◌≡◌, ℕ, ◌+◌, ◌-◌, ◌≤◌, ◌<◌, List, [], ◌∷◌, ◌++◌, length, take, drop, map, get_or, length-take, length-drop, refl, ap, sym, ◌∙◌, arith, append_assoc}
-use Rattle.std.specs.List.{join_with_byte, slice_range}
-use Rattle.std.proofs.lemmas.List.{get_or-drop, map_more, length-map}
-use Rattle.sel_arrow.specs.Nested.{list_of, struct_at}
-use Rattle.sel_arrow.specs.Rows.{rows, type_of}
-use Rattle.sel_arrow.specs.Shape.{Shape, shapes_of}
-use Rattle.sel_arrow.specs.Value.{Value, Null, values_of}
-use Rattle.sel_arrow.specs.declared.column.Column.{Column}
-use Rattle.sel_text.specs.Texts.{value_text, item_texts, item_shape, part_texts, part_shapes, text_of, parenthesized}
-use Rattle.sel_text.specs.Steps.{field_text}
+use Rattle.sel_text.proofs.Common.{join_with_byte, slice_range, get_or-drop, map_more, length-map, list_of, struct_at, rows, type_of, Shape, shapes_of, Value, Null, values_of, Column, value_text, item_texts, item_shape, part_texts, part_shapes, text_of, parenthesized, field_text}
 
 -- ---- parts separated by commas
 

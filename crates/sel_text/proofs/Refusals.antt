@@ -1,56 +1,19 @@
 -- The rules that rows which fit their type can break.
-use Rattle.std.proofs.Common.{◌≡◌, ◌≤◌, ℕ, Bool, true, false, true≢false, List, [], ◌∷◌, length, Option, Some, None, Result, Ok, Err, refl, ap, sym, ◌∙◌, subst, arith}
-use Rattle.std.specs.Prelude.{◌||◌, ◌==◌, nat_lt, IsTrue, if◌then◌else◌, not, IfErr, IsErrAnd}
-use Rattle.std.specs.List.{flat_map, list_all}
-use Rattle.std.proofs.lemmas.Bool.Decides.{nat_tests}
-use Rattle.sel_bits.specs.Limits.{max_rows}
-use Rattle.sel_bits.specs.Bits.{Bits}
-use Rattle.sel_bits.specs.Faults.{IsFault, IsFaultOrMemory, first_broken}
+use Rattle.std.proofs.Common.{◌≡◌, ◌≤◌, ℕ, Bool, true, false, true≢false, List, [], ◌∷◌, length, Option, Some, None, Result, Ok, Err, refl, ap, sym, ◌∙◌, subst, arith, ◌||◌, ◌==◌, nat_lt, IsTrue, if◌then◌else◌, not, IfErr, IsErrAnd}
+use Rattle.sel_text.proofs.Common.{flat_map, list_all, nat_tests, max_rows, Bits, IsFault, IsFaultOrMemory, first_broken, Malformed, TooManyRows, TooManyBuffers, OffsetRange, ValidityLength, ViewRange, ViewPrefix, Utf8, binary_fault, binview_fault, flat_fault, or_else, utf8view_fault, view_fault, views_fault, Covers, too_many, validity_differs, last_offset, rows_between, all_text, is_text, all_placed, has_prefix, is_in_range, is_placed, view_rows, View, both, and_first, and_second, Shape, of_binary_view, of_utf8_view, of_large_list, of_fixed_size_list, of_struct, Value, Bytes, binview_rows, ArrayRef, fits, all_placed_bytes, any_exceeds_limit, block_in, entries_in, exceeds_limit, exceeds_max, is_view_shape, ReportsLimit, MakesColumn, make_fault, NullSlots, Fault}
 use Rattle.sel_bits.specs.declared.faults.MakeError.{MakeError}
 use Rattle.sel_bits.specs.declared.faults.MakeError.TheVariants.{Malformed as Broken, OutOfMemory as WantOfMemory}
-use Rattle.sel_bits.specs.declared.faults.Malformed.{Malformed}
-use Rattle.sel_bits.specs.declared.faults.Malformed.TheVariants.{TooManyRows, TooManyBuffers, OffsetRange, ValidityLength, ViewRange, ViewPrefix, Utf8}
-use Rattle.sel_arrow.specs.Makers.{binary_fault, binview_fault, flat_fault, or_else, utf8view_fault, view_fault, views_fault}
-use Rattle.sel_arrow.specs.Masked.{Covers, too_many, validity_differs}
-use Rattle.sel_arrow.specs.Pieces.{last_offset, rows_between}
-use Rattle.sel_arrow.specs.Texts.{all_text, is_text}
-use Rattle.sel_arrow.specs.Views.{all_placed, has_prefix, is_in_range, is_placed, view_rows}
-use Rattle.sel_arrow.specs.declared.view.View.{View}
-use Rattle.sel_arrow.proofs.Lists.{both, and_first, and_second}
-use Rattle.sel_arrow.specs.Shape.{Shape, of_null, of_boolean, of_int8, of_int16, of_int32, of_int64, of_int128, of_uint8, of_uint16, of_uint32, of_uint64, of_uint128, of_large_binary, of_binary_view, of_utf8_view, of_large_list, of_fixed_size_list, of_struct}
-use Rattle.sel_arrow.specs.Value.{Value, Null, Truth, Number, Bytes, Items, Tuple}
-use Rattle.sel_arrow.specs.Columns.{binview_rows}
 use Rattle.sel_arrow.specs.declared.binview.BinaryViewArray.{BinaryViewArray}
-use Rattle.sel_arrow.specs.declared.array_ref.ArrayRef.{ArrayRef}
-use Rattle.sel_text.specs.Fits.{fits}
-use Rattle.sel_text.specs.Limits.{all_placed_bytes, any_exceeds_limit, block_in, entries_in, exceeds_limit, exceeds_max}
-use Rattle.sel_text.specs.Steps.{is_view_shape, ReportsLimit, MakesColumn}
-use Rattle.sel_text.specs.TextErrors.{make_fault}
-use Rattle.sel_text.specs.Steps.{IsMemoryFault}
-use Rattle.sel_text.specs.declared.build.NullSlots.{NullSlots}
-use Rattle.sel_text.specs.declared.text_error.Fault.{Fault}
-use Rattle.sel_text.specs.declared.text_error.Fault.TheVariants.{Syntax, «Type», Limit, OutOfMemory}
+use Rattle.sel_text.proofs.Making.{or_second}
 
 -- Too many rows exceed a limit of any type.
 pub many_past : (beneath : NullSlots) (s : Shape) (rows : List Value) → exceeds_max (length rows) ≡ true → exceeds_limit beneath s rows ≡ true
-many_past beneath of_null rows many = many
-many_past beneath of_boolean rows many = many
-many_past beneath of_int8 rows many = many
-many_past beneath of_int16 rows many = many
-many_past beneath of_int32 rows many = many
-many_past beneath of_int64 rows many = many
-many_past beneath of_int128 rows many = many
-many_past beneath of_uint8 rows many = many
-many_past beneath of_uint16 rows many = many
-many_past beneath of_uint32 rows many = many
-many_past beneath of_uint64 rows many = many
-many_past beneath of_uint128 rows many = many
-many_past beneath of_large_binary rows many = many
 many_past beneath of_binary_view rows many = ap (λ b. b || exceeds_max (all_placed_bytes rows)) many
 many_past beneath of_utf8_view rows many = ap (λ b. b || exceeds_max (all_placed_bytes rows)) many
 many_past beneath (of_large_list s) rows many = ap (λ b. b || exceeds_limit beneath s (flat_map (entries_in beneath) rows)) many
 many_past beneath (of_fixed_size_list s size) rows many = ap (λ b. b || exceeds_max size || exceeds_limit beneath s (flat_map (block_in size) rows)) many
 many_past beneath (of_struct ss) rows many = ap (λ b. b || any_exceeds_limit beneath ss 0 rows) many
+many_past beneath s rows many = many
 
 -- A validity that covers the rows has their length.
 pub no_difference : (validity : Option Bits) (n : ℕ) → Covers validity n → validity_differs validity n ≡ false
@@ -135,22 +98,6 @@ pub if_made : {T : Type 0} (r : Result T Fault) (error : MakeError) (P : Fault �
 if_made (Ok x) error P is holds = absurd is
 if_made (Err fault) error P is holds = holds fault is
 
-pub told_more : (less more : Bool) (fault : Fault) → (less ≡ true → more ≡ true) → ReportsLimit less fault → ReportsLimit more fault
-told_more less more Limit past told = past told
-told_more less more OutOfMemory past told = tt
-told_more less more (Syntax left) past told = told
-told_more less more («Type» left) past told = told
-
-pub wanting_told : (passed : Bool) (fault : Fault) → IsMemoryFault fault → ReportsLimit passed fault
-wanting_told passed Limit is = absurd is
-wanting_told passed OutOfMemory is = tt
-wanting_told passed (Syntax left) is = is
-wanting_told passed («Type» left) is = is
-
-or_second : (a b : Bool) → b ≡ true → (a || b) ≡ true
-or_second true b is = refl
-or_second false b is = is
-
 other_shape : {A : Type 0} → false ≡ true → A
 other_shape is = absurd (true≢false (sym is))
 
@@ -158,32 +105,13 @@ other_shape is = absurd (true≢false (sym is))
 pub bytes_past : (beneath : NullSlots) (s : Shape) (rows : List Value) → is_view_shape s ≡ true → exceeds_max (all_placed_bytes rows) ≡ true → exceeds_limit beneath s rows ≡ true
 bytes_past beneath of_binary_view rows view many = or_second (exceeds_max (length rows)) (exceeds_max (all_placed_bytes rows)) many
 bytes_past beneath of_utf8_view rows view many = or_second (exceeds_max (length rows)) (exceeds_max (all_placed_bytes rows)) many
-bytes_past beneath of_null rows view many = other_shape view
-bytes_past beneath of_boolean rows view many = other_shape view
-bytes_past beneath of_int8 rows view many = other_shape view
-bytes_past beneath of_int16 rows view many = other_shape view
-bytes_past beneath of_int32 rows view many = other_shape view
-bytes_past beneath of_int64 rows view many = other_shape view
-bytes_past beneath of_int128 rows view many = other_shape view
-bytes_past beneath of_uint8 rows view many = other_shape view
-bytes_past beneath of_uint16 rows view many = other_shape view
-bytes_past beneath of_uint32 rows view many = other_shape view
-bytes_past beneath of_uint64 rows view many = other_shape view
-bytes_past beneath of_uint128 rows view many = other_shape view
-bytes_past beneath of_large_binary rows view many = other_shape view
-bytes_past beneath (of_large_list s) rows view many = other_shape view
-bytes_past beneath (of_fixed_size_list s size) rows view many = other_shape view
-bytes_past beneath (of_struct ss) rows view many = other_shape view
+bytes_past beneath s rows view many = other_shape view
 
 -- ---- strings
 
 text_fits : (row : Value) → fits of_utf8_view row ≡ true → is_text row ≡ true
-text_fits Null fit = refl
-text_fits (Truth b) fit = refl
-text_fits (Number z) fit = refl
 text_fits (Bytes bs) fit = fit
-text_fits (Items es) fit = refl
-text_fits (Tuple es) fit = refl
+text_fits row fit = refl
 
 pub texts_fit : (rows : List Value) → list_all (fits of_utf8_view) rows ≡ true → all_text rows ≡ true
 texts_fit [] fit = refl

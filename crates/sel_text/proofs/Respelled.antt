@@ -1,60 +1,22 @@
 -- A text is in the notation if its canonical spelling is: white space between tokens makes no
 -- difference, and neither do escapes.
-use Rattle.std.proofs.Common.{◌≡◌, ◌≤◌, ◌<◌, ℕ, Bool, true, false, List, [], ◌∷◌, ◌++◌, length, length-drop, drop, refl, ap, sym, ◌∙◌, arith, Some, None, subst, inl, inr}
-use Rattle.std.specs.Prelude.{◌⊎◌, option_and_then, encode_utf8, Option, suc, zero, option_map, nat_lt, ◌==◌, not, if◌then◌else◌}
-use Rattle.std.specs.List.{flat_map, list_all}
+use Rattle.std.proofs.Common.{true≢false, ◌≡◌, ◌≤◌, ◌<◌, ℕ, Bool, true, false, List, [], ◌∷◌, ◌++◌, length, length-drop, drop, refl, ap, sym, ◌∙◌, arith, Some, None, subst, inl, inr, ◌⊎◌, option_and_then, encode_utf8, Option, suc, zero, option_map, nat_lt, ◌==◌, not, if◌then◌else◌}
+use Rattle.sel_text.proofs.Common.{flat_map, list_all, nat_tests, Shape, after_byte, changed, goes_on, innermost, is_end, is_last, is_some_and, is_row_notation, is_type_notation, kept, after_name_byte, after_word_byte, is_between, escape_at, escape_spelled, is_mark, is_space, place_in_word, spelled, spelled_from, Value as RowValue, fits, escaped, text_of, type_text, widths_written, Bracket, Change, Keep, Next, Place, Between, Gap, Prefix, PlaceWord, InString, InHex, TypeWordSoFar, Lis, U, Within, Text, Escape, ByteOne, ByteTwo, ByteThree, AfterE0, AfterEd, AfterF0, AfterF4, WordSoFar, N}
 use lib.Utf8.{scalar}
-use Rattle.std.proofs.lemmas.Bool.Decides.{nat_tests}
-use Rattle.sel_arrow.specs.Shape.{Shape}
-use Rattle.sel_text.specs.Notation.{after_byte, changed, goes_on, innermost, is_end, is_last, is_some_and, is_row_notation, is_type_notation, kept}
-use Rattle.sel_text.specs.Tokens.{after_name_byte, after_word_byte, is_between}
-use Rattle.sel_text.specs.Spelling.{escape_at, escape_spelled, is_mark, is_space, place_in_word, spelled, spelled_from}
 use Rattle.sel_text.proofs.Spellings.{begins}
 use Rattle.sel_text.proofs.EscapeNotation.{escape_read}
-use Rattle.sel_text.proofs.RowNotation.{rows_in_notation}
+use Rattle.sel_text.proofs.RowNotation.{no_digit, rows_in_notation}
 use Rattle.sel_text.proofs.StringNotation.{letter_leads, starts, Starts}
 use Rattle.sel_text.proofs.TypeNotation.{step_to, type_in_notation}
-use Rattle.sel_arrow.specs.Value.{Value as RowValue}
-use Rattle.sel_text.specs.Fits.{fits}
-use Rattle.sel_text.specs.Texts.{escaped, text_of}
-use Rattle.sel_text.specs.Types.{type_text}
-use Rattle.sel_text.specs.Written.{widths_written}
-use Rattle.sel_text.specs.declared.notation.Bracket.{Bracket}
-use Rattle.sel_text.specs.declared.notation.Change.{Change}
-use Rattle.sel_text.specs.declared.notation.Change.TheVariants.{Keep}
-use Rattle.sel_text.specs.declared.notation.Next.{Next}
-use Rattle.sel_text.specs.declared.notation.Next.TheVariants.{Rows, FirstValue, Value, FirstName, Name, ListBracket, FixedBracket, StructBracket, Size, SizeDigit, SizeComma, After, Negative, Digit, HexQuote, HexFirst, HexSecond, Word, TypeWord, Quoted}
-use Rattle.sel_text.specs.declared.spelling.Place.{Place}
-use Rattle.sel_text.specs.declared.spelling.Place.TheVariants.{Between, Gap, Prefix, Word as PlaceWord, Quoted as InString, Hexadecimal as InHex}
-use Rattle.sel_text.specs.declared.tokens.TypeWord.{TypeWord as TypeWordSoFar}
-use Rattle.sel_text.specs.declared.tokens.TypeWord.TheVariants.{B, Bo, Boo, Bi, Bin, Bina, Binar, Binv, Binvi, Binvie, F as FixedF, Fi, Fix, Fixe, I, I1, I12, I3, I6, L, Li, Lis, S, St, Str, Stru, Struc, U, Ut, Utf}
-use Rattle.sel_text.specs.declared.tokens.Within.{Within}
-use Rattle.sel_text.specs.declared.tokens.Within.TheVariants.{Text, Escape, UnitFirst, UnitSecond, LastThree, LastTwo, LastOne, HighTwo, HighOne, LowBackslash, LowLetter, LowFirst, LowSecond, ByteOne, ByteTwo, ByteThree, AfterE0, AfterEd, AfterF0, AfterF4}
-use Rattle.sel_text.specs.declared.tokens.Word.{Word as WordSoFar}
-use Rattle.sel_text.specs.declared.tokens.Word.TheVariants.{N, Nu, Nul, T, Tr, Tru, F as FalseF, Fa, Fal, Fals}
+use Rattle.sel_text.specs.declared.notation.Next.TheVariants.{Rows, Name, SizeDigit, SizeComma, After, Negative, Digit, HexQuote, Word, TypeWord, Quoted}
 use Rattle.sel_text.proofs.Following.{is_spaced, is_unquoted, is_character, is_in_string, is_prefix, is_in_hex, may_follow, every, leads, byte_leads, hex_leads, string_leads, prefix_after, prefix_leads, stays, spaced_unquoted}
 
 -- ---- the canonical spelling, byte by byte
 
-space_between : (byte : ℕ) (rest bytes : List ℕ) → is_space byte ≡ true → spelled_from Between 0 (byte ∷ rest) ≡ Some bytes → spelled_from Between 0 rest ≡ Some bytes
-space_between byte rest bytes space is =
-    let same : spelled_from Between 0 (byte ∷ rest) ≡ option_map (λ more. [] ++ more) (spelled_from Between 0 rest) = rw space refl in
-    sym (begins [] (spelled_from Between 0 rest)) ∙ sym same ∙ is
-
-space_gap : (byte : ℕ) (rest bytes : List ℕ) → is_space byte ≡ true → spelled_from Gap 0 (byte ∷ rest) ≡ Some bytes → spelled_from Gap 0 rest ≡ Some bytes
-space_gap byte rest bytes space is =
-    let same : spelled_from Gap 0 (byte ∷ rest) ≡ option_map (λ more. [] ++ more) (spelled_from Gap 0 rest) = rw space refl in
-    sym (begins [] (spelled_from Gap 0 rest)) ∙ sym same ∙ is
-
-space_word : (byte : ℕ) (rest bytes : List ℕ) → is_space byte ≡ true → spelled_from PlaceWord 0 (byte ∷ rest) ≡ Some bytes → spelled_from Gap 0 rest ≡ Some bytes
-space_word byte rest bytes space is =
-    let same : spelled_from PlaceWord 0 (byte ∷ rest) ≡ option_map (λ more. [] ++ more) (spelled_from Gap 0 rest) = rw space refl in
-    sym (begins [] (spelled_from Gap 0 rest)) ∙ sym same ∙ is
-
-space_prefix : (byte : ℕ) (rest bytes : List ℕ) → is_space byte ≡ true → spelled_from Prefix 0 (byte ∷ rest) ≡ Some bytes → spelled_from Gap 0 rest ≡ Some bytes
-space_prefix byte rest bytes space is =
-    let same : spelled_from Prefix 0 (byte ∷ rest) ≡ option_map (λ more. [] ++ more) (spelled_from Gap 0 rest) = rw space refl in
-    sym (begins [] (spelled_from Gap 0 rest)) ∙ sym same ∙ is
+-- White space is no part of the spelling.
+unspaced : (place after : Place) (byte : ℕ) (rest bytes : List ℕ) → spelled_from place 0 (byte ∷ rest) ≡ option_map (λ more. [] ++ more) (spelled_from after 0 rest) → spelled_from place 0 (byte ∷ rest) ≡ Some bytes →
+    spelled_from after 0 rest ≡ Some bytes
+unspaced place after byte rest bytes same is = sym (begins [] (spelled_from after 0 rest)) ∙ sym same ∙ is
 
 from_map : (byte : ℕ) (o : Option (List ℕ)) (bytes : List ℕ) → option_map (λ more. (byte ∷ []) ++ more) o ≡ Some bytes → (more : List ℕ) × (o ≡ Some more) × (bytes ≡ byte ∷ more)
 from_map byte None bytes is = absurd cc
@@ -69,7 +31,7 @@ gap_ended [] bytes is = inl cc
 gap_ended (byte ∷ rest) bytes is = go (gap_ended rest) (is_space byte) refl
   where
     go : ((bytes : List ℕ) → spelled_from Gap 0 rest ≡ Some bytes → Ended bytes) → (b : Bool) → is_space byte ≡ b → Ended bytes
-    go later true space = later bytes (space_gap byte rest bytes space is)
+    go later true space = later bytes (unspaced Gap Gap byte rest bytes (rw space refl) is)
     go later false space = token (is_mark byte) refl
       where
         token : (b : Bool) → is_mark byte ≡ b → Ended bytes
@@ -96,62 +58,21 @@ dead next brackets bytes last none (inr m) =
 -- A number that a mark or the end follows is ended.
 ended : (next behind : Next) (brackets : List Bracket) (bytes : List ℕ) → is_last next ≡ false → ((top : Option Bracket) (mark : ℕ) → is_mark mark ≡ true → after_byte next top mark ≡ after_byte behind top mark) → Ended bytes →
     goes_on next brackets bytes ≡ true → goes_on behind brackets bytes ≡ true
-ended next behind brackets bytes last same (inl empty) on =
-    let none : true ≡ false = sym on ∙ ap (goes_on next brackets) empty ∙ unfinished next brackets last in
-    absurd cc
+ended next behind brackets bytes last same (inl empty) on = absurd (true≢false (sym on ∙ ap (goes_on next brackets) empty ∙ unfinished next brackets last))
 ended next behind brackets bytes last same (inr m) on =
     ap (goes_on behind brackets) m.3 ∙ ap (is_some_and (λ (step : Next × Change). goes_on step.0 (changed step.1 brackets) m.1)) (sym (same (innermost brackets) m.0 m.2))
     ∙ sym (ap (goes_on next brackets) m.3) ∙ on
-
-no_digit : (mark : ℕ) → is_mark mark ≡ true → is_between mark 48 57 ≡ false
-no_digit mark is = grind (arith, nat_tests, is)
 
 no_first_digit : (mark : ℕ) → is_mark mark ≡ true → is_between mark 49 57 ≡ false
 no_first_digit mark is = grind (arith, nat_tests, is)
 
 word_dead : (word : WordSoFar) (mark : ℕ) → is_mark mark ≡ true → after_word_byte word mark ≡ None
 word_dead N mark is = grind (arith, nat_tests, is)
-word_dead Nu mark is = grind (arith, nat_tests, is)
-word_dead Nul mark is = grind (arith, nat_tests, is)
-word_dead T mark is = grind (arith, nat_tests, is)
-word_dead Tr mark is = grind (arith, nat_tests, is)
-word_dead Tru mark is = grind (arith, nat_tests, is)
-word_dead FalseF mark is = grind (arith, nat_tests, is)
-word_dead Fa mark is = grind (arith, nat_tests, is)
-word_dead Fal mark is = grind (arith, nat_tests, is)
-word_dead Fals mark is = grind (arith, nat_tests, is)
+word_dead word mark is = grind (arith, nat_tests, is)
 
 name_dead : (word : TypeWordSoFar) (mark : ℕ) → is_mark mark ≡ true → after_name_byte word mark ≡ None
-name_dead B mark is = grind (arith, nat_tests, is)
-name_dead Bo mark is = grind (arith, nat_tests, is)
-name_dead Boo mark is = grind (arith, nat_tests, is)
-name_dead Bi mark is = grind (arith, nat_tests, is)
-name_dead Bin mark is = grind (arith, nat_tests, is)
-name_dead Bina mark is = grind (arith, nat_tests, is)
-name_dead Binar mark is = grind (arith, nat_tests, is)
-name_dead Binv mark is = grind (arith, nat_tests, is)
-name_dead Binvi mark is = grind (arith, nat_tests, is)
-name_dead Binvie mark is = grind (arith, nat_tests, is)
-name_dead FixedF mark is = grind (arith, nat_tests, is)
-name_dead Fi mark is = grind (arith, nat_tests, is)
-name_dead Fix mark is = grind (arith, nat_tests, is)
-name_dead Fixe mark is = grind (arith, nat_tests, is)
-name_dead I mark is = grind (arith, nat_tests, is)
-name_dead I1 mark is = grind (arith, nat_tests, is)
-name_dead I12 mark is = grind (arith, nat_tests, is)
-name_dead I3 mark is = grind (arith, nat_tests, is)
-name_dead I6 mark is = grind (arith, nat_tests, is)
-name_dead L mark is = grind (arith, nat_tests, is)
-name_dead Li mark is = grind (arith, nat_tests, is)
 name_dead Lis mark is = grind (arith, nat_tests, is)
-name_dead S mark is = grind (arith, nat_tests, is)
-name_dead St mark is = grind (arith, nat_tests, is)
-name_dead Str mark is = grind (arith, nat_tests, is)
-name_dead Stru mark is = grind (arith, nat_tests, is)
-name_dead Struc mark is = grind (arith, nat_tests, is)
-name_dead U mark is = grind (arith, nat_tests, is)
-name_dead Ut mark is = grind (arith, nat_tests, is)
-name_dead Utf mark is = grind (arith, nat_tests, is)
+name_dead word mark is = grind (arith, nat_tests, is)
 
 hex_quote_dead : (top : Option Bracket) (mark : ℕ) → is_mark mark ≡ true → after_byte HexQuote top mark ≡ None
 hex_quote_dead top mark is = grind (arith, nat_tests, is)
@@ -180,40 +101,20 @@ space_no_digit byte space = grind (arith, nat_tests, space)
 -- White space after a token that is not ended by its last byte.
 gap : (byte : ℕ) (rest : List ℕ) → Respelled rest → (next : Next) (brackets : List Bracket) (bytes : List ℕ) → is_space byte ≡ true → is_spaced next ≡ false → is_unquoted next ≡ true →
     spelled_from Gap 0 rest ≡ Some bytes → goes_on next brackets bytes ≡ true → goes_on next brackets (byte ∷ rest) ≡ true
-gap byte rest later Rows brackets bytes space not outside is on = absurd cc
-gap byte rest later FirstValue brackets bytes space not outside is on = absurd cc
-gap byte rest later Value brackets bytes space not outside is on = absurd cc
-gap byte rest later FirstName brackets bytes space not outside is on = absurd cc
-gap byte rest later Name brackets bytes space not outside is on = absurd cc
-gap byte rest later ListBracket brackets bytes space not outside is on = absurd cc
-gap byte rest later FixedBracket brackets bytes space not outside is on = absurd cc
-gap byte rest later StructBracket brackets bytes space not outside is on = absurd cc
-gap byte rest later Size brackets bytes space not outside is on = absurd cc
 gap byte rest later SizeDigit brackets bytes space not outside is on =
     let number : is_between byte 48 57 ≡ false = space_no_digit byte space in
     let step : after_byte SizeDigit (innermost brackets) byte ≡ Some (SizeComma, Keep) = rw (number, space) refl in
     step_to SizeDigit SizeComma Keep brackets byte rest step
     ∙ later Gap SizeComma brackets bytes refl is (ended SizeDigit SizeComma brackets bytes refl (λ top mark is_token. rw (no_digit mark is_token) refl) (gap_ended rest bytes is) on)
-gap byte rest later SizeComma brackets bytes space not outside is on = absurd cc
-gap byte rest later After brackets bytes space not outside is on = absurd cc
-gap byte rest later Negative brackets bytes space not outside is on =
-    let none : true ≡ false = sym on ∙ dead Negative brackets bytes refl (λ top mark is_token. rw (no_first_digit mark is_token) refl) (gap_ended rest bytes is) in
-    absurd cc
+gap byte rest later Negative brackets bytes space not outside is on = absurd (true≢false (sym on ∙ dead Negative brackets bytes refl (λ top mark is_token. rw (no_first_digit mark is_token) refl) (gap_ended rest bytes is)))
 gap byte rest later Digit brackets bytes space not outside is on =
     let number : is_between byte 48 57 ≡ false = space_no_digit byte space in
     let step : after_byte Digit (innermost brackets) byte ≡ Some (After, Keep) = rw (number, space) refl in
     step_to Digit After Keep brackets byte rest step
     ∙ later Gap After brackets bytes refl is (ended Digit After brackets bytes refl (λ top mark is_token. rw (no_digit mark is_token) refl) (gap_ended rest bytes is) on)
-gap byte rest later HexQuote brackets bytes space not outside is on = absurd cc
-gap byte rest later HexFirst brackets bytes space not outside is on = absurd cc
-gap byte rest later HexSecond brackets bytes space not outside is on = absurd cc
-gap byte rest later (Word word) brackets bytes space not outside is on =
-    let none : true ≡ false = sym on ∙ dead (Word word) brackets bytes refl (λ top mark is_token. ap kept (word_dead word mark is_token)) (gap_ended rest bytes is) in
-    absurd cc
-gap byte rest later (TypeWord word) brackets bytes space not outside is on =
-    let none : true ≡ false = sym on ∙ dead (TypeWord word) brackets bytes refl (λ top mark is_token. ap kept (name_dead word mark is_token)) (gap_ended rest bytes is) in
-    absurd cc
-gap byte rest later (Quoted within) brackets bytes space not outside is on = absurd cc
+gap byte rest later (Word word) brackets bytes space not outside is on = absurd (true≢false (sym on ∙ dead (Word word) brackets bytes refl (λ top mark is_token. ap kept (word_dead word mark is_token)) (gap_ended rest bytes is)))
+gap byte rest later (TypeWord word) brackets bytes space not outside is on = absurd (true≢false (sym on ∙ dead (TypeWord word) brackets bytes refl (λ top mark is_token. ap kept (name_dead word mark is_token)) (gap_ended rest bytes is)))
+gap byte rest later next brackets bytes space not outside is on = absurd cc
 
 -- White space outside of strings.
 spaced_step : (byte : ℕ) (rest : List ℕ) → Respelled rest → (after : Place) (next : Next) (brackets : List Bracket) (bytes : List ℕ) → is_space byte ≡ true →
@@ -244,35 +145,18 @@ leads_word byte (Some step) mark is =
     word_may (byte == 34) (byte == 104) step.0 ∙ sym (ap (λ t. if t then is_spaced step.0 else if byte == 34 then is_in_string step.0 else if byte == 104 then is_prefix step.0 else is_unquoted step.0) mark) ∙ is
 
 -- Another byte, outside of strings.
-between_step : (byte : ℕ) (rest : List ℕ) → Respelled rest → (next : Next) (brackets : List Bracket) (bytes : List ℕ) → is_spaced next ≡ true → is_space byte ≡ false → spelled_from Between 0 (byte ∷ rest) ≡ Some bytes →
-    goes_on next brackets bytes ≡ true → goes_on next brackets (byte ∷ rest) ≡ true
-between_step byte rest later next brackets bytes may space is on = go (is_mark byte) refl
-  where
-    leads_to : every (leads byte) (after_byte next (innermost brackets) byte) ≡ true
-    leads_to = byte_leads next (innermost brackets) byte (spaced_unquoted next may) space
-
-    go : (b : Bool) → is_mark byte ≡ b → goes_on next brackets (byte ∷ rest) ≡ true
-    go true mark =
-        let same : spelled_from Between 0 (byte ∷ rest) ≡ option_map (λ more. (byte ∷ []) ++ more) (spelled_from Between 0 rest) = rw space (rw mark refl) in
-        follow byte rest later next brackets Between bytes (sym same ∙ is) on (leads_mark byte (after_byte next (innermost brackets) byte) mark leads_to)
-    go false mark =
-        let same : spelled_from Between 0 (byte ∷ rest) ≡ option_map (λ more. (byte ∷ []) ++ more) (spelled_from (word_place byte) 0 rest) = rw space (rw mark refl) in
-        follow byte rest later next brackets (word_place byte) bytes (sym same ∙ is) on (leads_word byte (after_byte next (innermost brackets) byte) mark leads_to)
-
-word_step : (byte : ℕ) (rest : List ℕ) → Respelled rest → (next : Next) (brackets : List Bracket) (bytes : List ℕ) → is_unquoted next ≡ true → is_space byte ≡ false → spelled_from PlaceWord 0 (byte ∷ rest) ≡ Some bytes →
-    goes_on next brackets bytes ≡ true → goes_on next brackets (byte ∷ rest) ≡ true
-word_step byte rest later next brackets bytes outside space is on = go (is_mark byte) refl
+unquoted_step : (place : Place) (byte : ℕ) (rest : List ℕ) → Respelled rest → (next : Next) (brackets : List Bracket) (bytes : List ℕ) → is_unquoted next ≡ true → is_space byte ≡ false →
+    (is_mark byte ≡ true → spelled_from place 0 (byte ∷ rest) ≡ option_map (λ more. (byte ∷ []) ++ more) (spelled_from Between 0 rest)) →
+    (is_mark byte ≡ false → spelled_from place 0 (byte ∷ rest) ≡ option_map (λ more. (byte ∷ []) ++ more) (spelled_from (word_place byte) 0 rest)) →
+    spelled_from place 0 (byte ∷ rest) ≡ Some bytes → goes_on next brackets bytes ≡ true → goes_on next brackets (byte ∷ rest) ≡ true
+unquoted_step place byte rest later next brackets bytes outside space at_mark in_word is on = go (is_mark byte) refl
   where
     leads_to : every (leads byte) (after_byte next (innermost brackets) byte) ≡ true
     leads_to = byte_leads next (innermost brackets) byte outside space
 
     go : (b : Bool) → is_mark byte ≡ b → goes_on next brackets (byte ∷ rest) ≡ true
-    go true mark =
-        let same : spelled_from PlaceWord 0 (byte ∷ rest) ≡ option_map (λ more. (byte ∷ []) ++ more) (spelled_from Between 0 rest) = rw space (rw mark refl) in
-        follow byte rest later next brackets Between bytes (sym same ∙ is) on (leads_mark byte (after_byte next (innermost brackets) byte) mark leads_to)
-    go false mark =
-        let same : spelled_from PlaceWord 0 (byte ∷ rest) ≡ option_map (λ more. (byte ∷ []) ++ more) (spelled_from (word_place byte) 0 rest) = rw space (rw mark refl) in
-        follow byte rest later next brackets (word_place byte) bytes (sym same ∙ is) on (leads_word byte (after_byte next (innermost brackets) byte) mark leads_to)
+    go true mark = follow byte rest later next brackets Between bytes (sym (at_mark mark) ∙ is) on (leads_mark byte (after_byte next (innermost brackets) byte) mark leads_to)
+    go false mark = follow byte rest later next brackets (word_place byte) bytes (sym (in_word mark) ∙ is) on (leads_word byte (after_byte next (innermost brackets) byte) mark leads_to)
 
 gap_step : (byte : ℕ) (rest : List ℕ) → Respelled rest → (next : Next) (brackets : List Bracket) (bytes : List ℕ) → is_spaced next ≡ true → is_space byte ≡ false → spelled_from Gap 0 (byte ∷ rest) ≡ Some bytes →
     goes_on next brackets bytes ≡ true → goes_on next brackets (byte ∷ rest) ≡ true
@@ -300,8 +184,7 @@ prefix_dead next byte rest brackets after bytes may other is on =
     go : (more : List ℕ) (step : Option (Next × Change)) → is_some_and (λ (step : Next × Change). goes_on step.0 (changed step.1 brackets) more) step ≡ true → every (prefix_after byte) step ≡ true → goes_on next brackets (byte ∷ rest) ≡ true
     go more None so_far leads_to = absurd cc
     go more (Some step) so_far leads_to =
-        let none : false ≡ true = sym (ap (λ t. if t then is_in_hex step.0 else false) other) ∙ leads_to in
-        absurd cc
+        absurd (true≢false (sym (sym (ap (λ t. if t then is_in_hex step.0 else false) other) ∙ leads_to)))
 
 prefix_quote : (byte : ℕ) (step : Option (Next × Change)) → (byte == 34) ≡ true → every (prefix_after byte) step ≡ true → every (λ (step : Next × Change). may_follow InHex step.0) step ≡ true
 prefix_quote byte None quote is = refl
@@ -322,8 +205,7 @@ prefix_step byte rest later next brackets bytes may is on = go (byte == 34) (is_
         let same : spelled_from Prefix 0 (byte ∷ rest) ≡ option_map (λ more. (byte ∷ []) ++ more) (spelled_from InHex 0 rest) = rw space (rw mark (rw quote refl)) in
         follow byte rest later next brackets InHex bytes (sym same ∙ is) on (prefix_quote byte (after_byte next (innermost brackets) byte) quote (prefix_leads next (innermost brackets) byte may))
     go false true m quote space _ =
-        let none : true ≡ false = sym on ∙ prefix_ended next brackets bytes may (gap_ended rest bytes (space_prefix byte rest bytes space is)) in
-        absurd cc
+        absurd (true≢false (sym on ∙ prefix_ended next brackets bytes may (gap_ended rest bytes (unspaced Prefix Gap byte rest bytes (rw space refl) is))))
       where
         prefix_ended : (next : Next) (brackets : List Bracket) (bytes : List ℕ) → is_prefix next ≡ true → Ended bytes → goes_on next brackets bytes ≡ false
         prefix_ended HexQuote brackets bytes may end = dead HexQuote brackets bytes refl hex_quote_dead end
@@ -335,29 +217,26 @@ prefix_step byte rest later next brackets bytes may is on = go (byte == 34) (is_
         let same : spelled_from Prefix 0 (byte ∷ rest) ≡ option_map (λ more. (byte ∷ []) ++ more) (spelled_from (place_in_word Prefix byte) 0 rest) = rw space (rw mark refl) in
         prefix_dead next byte rest brackets (place_in_word Prefix byte) bytes may quote (sym same ∙ is) on
 
--- In bytes in hexadecimal.
-hex_may : (quote : Bool) (step : Option (Next × Change)) → every (λ (step : Next × Change). if quote then is_unquoted step.0 else is_in_hex step.0) step ≡ true → every (λ (step : Next × Change). may_follow (if quote then PlaceWord else InHex) step.0) step ≡ true
-hex_may quote None is = refl
-hex_may true (Some step) is = is
-hex_may false (Some step) is = is
+-- A quote ends a string, or bytes in hexadecimal.
+quote_may : (inside : Place) (quote : Bool) (step : Option (Next × Change)) → every (λ (step : Next × Change). if quote then is_unquoted step.0 else may_follow inside step.0) step ≡ true →
+    every (λ (step : Next × Change). may_follow (if quote then PlaceWord else inside) step.0) step ≡ true
+quote_may inside quote None is = refl
+quote_may inside true (Some step) is = is
+quote_may inside false (Some step) is = is
 
+-- In bytes in hexadecimal.
 hex_step : (byte : ℕ) (rest : List ℕ) → Respelled rest → (next : Next) (brackets : List Bracket) (bytes : List ℕ) → is_in_hex next ≡ true → spelled_from InHex 0 (byte ∷ rest) ≡ Some bytes →
     goes_on next brackets bytes ≡ true → goes_on next brackets (byte ∷ rest) ≡ true
 hex_step byte rest later next brackets bytes may is on =
-    follow byte rest later next brackets (if byte == 34 then PlaceWord else InHex) bytes is on (hex_may (byte == 34) (after_byte next (innermost brackets) byte) (hex_leads next (innermost brackets) byte may))
+    follow byte rest later next brackets (if byte == 34 then PlaceWord else InHex) bytes is on (quote_may InHex (byte == 34) (after_byte next (innermost brackets) byte) (hex_leads next (innermost brackets) byte may))
 
 -- In a string.
-string_may : (quote : Bool) (step : Option (Next × Change)) → every (λ (step : Next × Change). if quote then is_unquoted step.0 else is_in_string step.0) step ≡ true → every (λ (step : Next × Change). may_follow (if quote then PlaceWord else InString) step.0) step ≡ true
-string_may quote None is = refl
-string_may true (Some step) is = is
-string_may false (Some step) is = is
-
 string_step : (byte : ℕ) (rest : List ℕ) → Respelled rest → (next : Next) (brackets : List Bracket) (bytes : List ℕ) → is_in_string next ≡ true → (byte == 92) ≡ false → spelled_from InString 0 (byte ∷ rest) ≡ Some bytes →
     goes_on next brackets bytes ≡ true → goes_on next brackets (byte ∷ rest) ≡ true
 string_step byte rest later next brackets bytes may other is on = go (byte == 34) (nat_lt byte 32) refl refl
   where
     leads_to : every (λ (step : Next × Change). may_follow (if byte == 34 then PlaceWord else InString) step.0) (after_byte next (innermost brackets) byte) ≡ true
-    leads_to = string_may (byte == 34) (after_byte next (innermost brackets) byte) (string_leads next (innermost brackets) byte may other)
+    leads_to = quote_may InString (byte == 34) (after_byte next (innermost brackets) byte) (string_leads next (innermost brackets) byte may other)
 
     go : (q c : Bool) → (byte == 34) ≡ q → nat_lt byte 32 ≡ c → goes_on next brackets (byte ∷ rest) ≡ true
     go true c quote _ =
@@ -383,18 +262,6 @@ from_front front (Some more) bytes is = (more, refl, cc)
 -- Inside of a character there is no escape.
 no_start : (within : Within) (first : ℕ) → (first < 128) ⊎ (192 ≤ first) → is_character within ≡ true → (top : Option Bracket) → (within ≡ Text) ⊎ (after_byte (Quoted within) top first ≡ None)
 no_start Text first apart may top = inl refl
-no_start Escape first apart may top = absurd cc
-no_start UnitFirst first apart may top = absurd cc
-no_start UnitSecond first apart may top = absurd cc
-no_start LastThree first apart may top = absurd cc
-no_start LastTwo first apart may top = absurd cc
-no_start LastOne first apart may top = absurd cc
-no_start HighTwo first apart may top = absurd cc
-no_start HighOne first apart may top = absurd cc
-no_start LowBackslash first apart may top = absurd cc
-no_start LowLetter first apart may top = absurd cc
-no_start LowFirst first apart may top = absurd cc
-no_start LowSecond first apart may top = absurd cc
 no_start ByteOne first (inl low) may top = inr (grind (arith, nat_tests, low))
 no_start ByteOne first (inr high) may top = inr (grind (arith, nat_tests, high))
 no_start ByteTwo first (inl low) may top = inr (grind (arith, nat_tests, low))
@@ -409,6 +276,7 @@ no_start AfterF0 first (inl low) may top = inr (grind (arith, nat_tests, low))
 no_start AfterF0 first (inr high) may top = inr (grind (arith, nat_tests, high))
 no_start AfterF4 first (inl low) may top = inr (grind (arith, nat_tests, low))
 no_start AfterF4 first (inr high) may top = inr (grind (arith, nat_tests, high))
+no_start within first apart may top = absurd cc
 
 escaped_read : (rest : List ℕ) → ((k : ℕ) → Respelled (drop k rest)) → (within : Within) (brackets : List Bracket) (bytes : List ℕ) → is_character within ≡ true → (c n : ℕ) → ◌≡◌ {A = Option (ℕ × ℕ)} (escape_at rest) (Some (c, n)) →
     option_map (λ more. flat_map escaped (encode_utf8 c) ++ more) (spelled_from InString n rest) ≡ Some bytes → goes_on (Quoted within) brackets bytes ≡ true → goes_on (Quoted within) brackets (92 ∷ rest) ≡ true
@@ -427,8 +295,7 @@ escaped_read rest later within brackets bytes may c n escape is on =
     go more told so_far character leads_to start (inr none) =
         let stops : goes_on (Quoted within) brackets (flat_map escaped (encode_utf8 c) ++ more) ≡ false =
         ap (λ text. goes_on (Quoted within) brackets (text ++ more)) start.2 ∙ ap (is_some_and (λ (step : Next × Change). goes_on step.0 (changed step.1 brackets) (start.1 ++ more))) none in
-        let wrong : true ≡ false = sym so_far ∙ stops in
-        absurd cc
+        absurd (true≢false (sym so_far ∙ stops))
 
 escape_step : (rest : List ℕ) → ((k : ℕ) → Respelled (drop k rest)) → (next : Next) (brackets : List Bracket) (bytes : List ℕ) → is_in_string next ≡ true → spelled_from InString 0 (92 ∷ rest) ≡ Some bytes →
     goes_on next brackets bytes ≡ true → goes_on next brackets (92 ∷ rest) ≡ true
@@ -446,18 +313,18 @@ step : (byte : ℕ) (rest : List ℕ) → ((k : ℕ) → Respelled (drop k rest)
 step byte rest later Between next brackets bytes may is on = go (is_space byte) refl
   where
     go : (b : Bool) → is_space byte ≡ b → goes_on next brackets (byte ∷ rest) ≡ true
-    go true space = spaced_step byte rest (later 0) Between next brackets bytes space (λ spaced. spaced) (λ not. let none : true ≡ false = sym may ∙ not in absurd cc) (spaced_unquoted next may) (space_between byte rest bytes space is) on
-    go false space = between_step byte rest (later 0) next brackets bytes may space is on
+    go true space = spaced_step byte rest (later 0) Between next brackets bytes space (λ spaced. spaced) (λ not. absurd (true≢false (sym may ∙ not))) (spaced_unquoted next may) (unspaced Between Between byte rest bytes (rw space refl) is) on
+    go false space = unquoted_step Between byte rest (later 0) next brackets bytes (spaced_unquoted next may) space (λ mark. rw space (rw mark refl)) (λ mark. rw space (rw mark refl)) is on
 step byte rest later Gap next brackets bytes may is on = go (is_space byte) refl
   where
     go : (b : Bool) → is_space byte ≡ b → goes_on next brackets (byte ∷ rest) ≡ true
-    go true space = spaced_step byte rest (later 0) Gap next brackets bytes space (λ spaced. spaced) (λ not. refl) (spaced_unquoted next may) (space_gap byte rest bytes space is) on
+    go true space = spaced_step byte rest (later 0) Gap next brackets bytes space (λ spaced. spaced) (λ not. refl) (spaced_unquoted next may) (unspaced Gap Gap byte rest bytes (rw space refl) is) on
     go false space = gap_step byte rest (later 0) next brackets bytes may space is on
 step byte rest later PlaceWord next brackets bytes may is on = go (is_space byte) refl
   where
     go : (b : Bool) → is_space byte ≡ b → goes_on next brackets (byte ∷ rest) ≡ true
-    go true space = spaced_step byte rest (later 0) Gap next brackets bytes space (λ spaced. spaced) (λ not. refl) may (space_word byte rest bytes space is) on
-    go false space = word_step byte rest (later 0) next brackets bytes may space is on
+    go true space = spaced_step byte rest (later 0) Gap next brackets bytes space (λ spaced. spaced) (λ not. refl) may (unspaced PlaceWord Gap byte rest bytes (rw space refl) is) on
+    go false space = unquoted_step PlaceWord byte rest (later 0) next brackets bytes may space (λ mark. rw space (rw mark refl)) (λ mark. rw space (rw mark refl)) is on
 step byte rest later Prefix next brackets bytes may is on = prefix_step byte rest (later 0) next brackets bytes may is on
 step byte rest later InHex next brackets bytes may is on = hex_step byte rest (later 0) next brackets bytes may is on
 step byte rest later InString next brackets bytes may is on = go (byte == 92) refl

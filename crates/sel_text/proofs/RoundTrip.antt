@@ -1,21 +1,6 @@
 -- What is printed is parsed again.
-use Rattle.std.proofs.Common.{◌≡◌, ℕ, ◌≤◌, ◌<◌, true, List, [], Option, Some, None, Ok, Err, ap, sym, subst, ◌∙◌}
-use Rattle.std.specs.Prelude.{IfErr, IfOk, IsTrue, Result}
-use Rattle.std.specs.List.{list_all}
-use Rattle.std.proofs.lemmas.Result.{IfErr-weaker}
-use Rattle.sel_arrow.specs.DataType.{shape_of}
-use Rattle.sel_arrow.specs.Depth.{depth}
-use Rattle.sel_arrow.specs.Rows.{rows, type_of}
-use Rattle.sel_arrow.specs.Shape.{Shape}
-use Rattle.sel_arrow.specs.Value.{Value}
-use Rattle.sel_arrow.specs.declared.column.Column.{Column}
-use Rattle.sel_arrow.specs.declared.datatype.ArrowDataType.{ArrowDataType}
-use Rattle.sel_text.specs.Fits.{fits, RowsFit}
-use Rattle.sel_text.specs.Spelling.{spelled}
-use Rattle.sel_text.specs.TextErrors.{IsLimitOrMemoryError}
-use Rattle.sel_text.specs.Texts.{text_of}
-use Rattle.sel_text.specs.Types.{type_text}
-use Rattle.sel_text.specs.Written.{widths_written}
+use Rattle.std.proofs.Common.{◌≡◌, ℕ, ◌≤◌, ◌<◌, true, List, [], Option, Some, None, Ok, Err, ap, sym, subst, ◌∙◌, IfErr, IfOk, IsTrue, Result}
+use Rattle.sel_text.proofs.Common.{list_all, IfErr-weaker, shape_of, depth, rows, type_of, Shape, Value, Column, ArrowDataType, fits, RowsFit, spelled, IsLimitOrMemoryError, text_of, type_text, widths_written}
 use Rattle.sel_text.specs.declared.text_error.TextError.{TextError}
 use Rattle.sel_text.specs.declared.text_error.TextError.TheVariants.{Limit}
 use Rattle.sel_text.proofs.OneType.{one_type}

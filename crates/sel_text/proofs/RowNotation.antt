@@ -1,34 +1,11 @@
 -- The text of rows that fit a type is in the notation of rows.
 use Rattle.std.proofs.Common.{◌≡◌, ◌<◌, ℕ, ℤ, pos, negsuc, suc, zero, ◌/◌, ◌%◌, ◌^◌, Bool, true, false, List, [], ◌∷◌, ◌++◌, length, map, get_or, refl, ap, sym, ◌∙◌, append_assoc, append-nil, arith, lit<, Some, subst}
-use Rattle.std.specs.Prelude.{⊤, Option, codes, nat_lt, not, ◌&&◌, ◌==◌, if◌then◌else◌}
-use Rattle.std.specs.Char.{digit_char, digit_value}
-use Rattle.std.specs.Fmt.{decimal, signed_decimal}
-use Rattle.std.specs.Int.Signed.{mag}
-use Rattle.std.specs.List.{flat_map, join_with_byte, list_all}
-use Rattle.std.specs.Str.{IsUtf8}
-use Rattle.std.specs.Str.Parse.{AllDigits}
-use Rattle.std.proofs.lemmas.Bool.Decides.{nat_tests}
-use Rattle.std.proofs.lemmas.Fmt.{decimal_digit, decimal_is_IsNumeral_wide}
-use Rattle.std.proofs.lemmas.Str.{IsUtf8-from_is_utf8}
-use Rattle.sel_arrow.proofs.Lists.{and_first, and_second}
-use Rattle.sel_arrow.specs.Shape.{Shape, Shapes, no_shapes, next_shape, is_struct_shape, of_large_binary, of_binary_view, of_utf8_view}
-use Rattle.sel_arrow.specs.Value.{Value as RowValue, Null, Truth, Number, Bytes, Items, Tuple, Values, no_values, next_value, listed}
+use Rattle.sel_text.proofs.Common.{⊤, Option, codes, nat_lt, not, ◌&&◌, ◌==◌, if◌then◌else◌, digit_char, digit_value, decimal, signed_decimal, mag, flat_map, join_with_byte, list_all, IsUtf8, AllDigits, nat_tests, decimal_digit, decimal_is_IsNumeral_wide, IsUtf8-from_is_utf8, and_first, and_second, Shape, Shapes, no_shapes, next_shape, is_struct_shape, of_large_binary, of_binary_view, of_utf8_view, Value as RowValue, Null, Truth, Number, Bytes, Items, Tuple, Values, no_values, next_value, listed, all_fit, are_bytes, fields_fit, fits, fits_bytes, fits_count, after_byte, changed, closes, closing, goes_on, innermost, is_lower, is_row_notation, is_some_and, is_mark, is_space, bytes_text, escaped, hex_byte, hex_text, item_shape, item_texts, part_shapes, part_texts, quoted, text_of, value_text, is_between, Bracket, Square, Round, Child, Fields, Change, Keep, Next, Text}
 use Rattle.sel_text.proofs.Ends.{few_digits, first_digit}
 use Rattle.sel_text.proofs.StringNotation.{letters_lead}
 use Rattle.sel_text.proofs.Told.{small_number}
-use Rattle.sel_text.proofs.TypeNotation.{step_to}
-use Rattle.sel_text.specs.Fits.{all_fit, are_bytes, fields_fit, fits, fits_bytes, fits_count}
-use Rattle.sel_text.specs.Notation.{after_byte, changed, closes, closing, goes_on, innermost, is_lower, is_row_notation, is_some_and}
-use Rattle.sel_text.specs.Spelling.{is_mark, is_space}
-use Rattle.sel_text.specs.Texts.{bytes_text, escaped, hex_byte, hex_text, item_shape, item_texts, part_shapes, part_texts, quoted, text_of, value_text}
-use Rattle.sel_text.specs.Tokens.{is_between}
-use Rattle.sel_text.specs.declared.notation.Bracket.{Bracket}
-use Rattle.sel_text.specs.declared.notation.Bracket.TheVariants.{Square, Round, Child, Fields}
-use Rattle.sel_text.specs.declared.notation.Change.{Change}
-use Rattle.sel_text.specs.declared.notation.Change.TheVariants.{Keep}
-use Rattle.sel_text.specs.declared.notation.Next.{Next}
+use Rattle.sel_text.proofs.TypeNotation.{digit_between, step_to}
 use Rattle.sel_text.specs.declared.notation.Next.TheVariants.{FirstValue, Value, After, Negative, Digit, HexFirst, HexSecond, Quoted}
-use Rattle.sel_text.specs.declared.tokens.Within.TheVariants.{Text}
 
 -- Before a mark, a text is a value. It begins with a byte that is no white space and closes nothing.
 abbrev pub begins_value : ℕ → Bool
@@ -43,11 +20,8 @@ record Reads (text : List ℕ) : Type 0 where
 
 -- ---- numbers
 
-no_digit : (mark : ℕ) → is_mark mark ≡ true → is_between mark 48 57 ≡ false
+pub no_digit : (mark : ℕ) → is_mark mark ≡ true → is_between mark 48 57 ≡ false
 no_digit mark is = grind (arith, nat_tests, is)
-
-digit_between : (c : ℕ) → digit_value c < 10 → is_between c 48 57 ≡ true
-digit_between c small = grind (arith, nat_tests, small)
 
 digits_read : (ds : List ℕ) (brackets : List Bracket) (mark : ℕ) (more : List ℕ) → AllDigits 10 ds → is_mark mark ≡ true → goes_on Digit brackets (ds ++ (mark ∷ more)) ≡ goes_on After brackets (mark ∷ more)
 digits_read [] brackets mark more all is =
@@ -180,9 +154,7 @@ holds_values Fields = false
 
 closed : (bracket : Bracket) (brackets : List Bracket) (more : List ℕ) → goes_on After (bracket ∷ brackets) (closing bracket ∷ more) ≡ goes_on After brackets more
 closed Square brackets more = refl
-closed Round brackets more = refl
-closed Child brackets more = refl
-closed Fields brackets more = refl
+closed bracket brackets more = refl
 
 comma : (bracket : Bracket) (brackets : List Bracket) (more : List ℕ) → holds_values bracket ≡ true → goes_on After (bracket ∷ brackets) (44 ∷ more) ≡ goes_on Value (bracket ∷ brackets) more
 comma Square brackets more holds = refl
@@ -192,9 +164,7 @@ comma Fields brackets more holds = absurd cc
 
 closing_mark : (bracket : Bracket) → is_mark (closing bracket) ≡ true
 closing_mark Square = refl
-closing_mark Round = refl
-closing_mark Child = refl
-closing_mark Fields = refl
+closing_mark bracket = refl
 
 -- What follows a value begins with a mark.
 marked : (texts : List (List ℕ)) (bracket : Bracket) (more : List ℕ) → (mark : ℕ) × (rest : List ℕ) × (after_commas texts ++ (closing bracket ∷ more) ≡ mark ∷ rest) × (is_mark mark ≡ true)
@@ -218,9 +188,7 @@ commas_read (text ∷ texts) each bracket brackets more holds =
 -- The first value after an opening bracket.
 closes_none : (bracket : Bracket) (c : ℕ) → begins_value c ≡ true → closes (Some bracket) c ≡ false
 closes_none Square c begins = grind (arith, nat_tests, begins)
-closes_none Round c begins = grind (arith, nat_tests, begins)
-closes_none Child c begins = grind (arith, nat_tests, begins)
-closes_none Fields c begins = grind (arith, nat_tests, begins)
+closes_none bracket c begins = grind (arith, nat_tests, begins)
 
 no_space : (c : ℕ) → begins_value c ≡ true → is_space c ≡ false
 no_space c begins = grind (arith, nat_tests, begins)
@@ -249,24 +217,16 @@ all_read (text ∷ texts) each bracket brackets more holds =
     ∙ first_read text each.0 bracket brackets (after_commas texts ++ (closing bracket ∷ more))
     ∙ read_before text each.0 (bracket ∷ brackets) texts bracket more ∙ commas_read texts each.1 bracket brackets more holds
 
-list_reads : (texts : List (List ℕ)) → EachReads texts → Reads (91 ∷ join_with_byte 44 texts ++ 93 ∷ [])
-list_reads texts each = record {
-  first = 91;
-  rest = join_with_byte 44 texts ++ 93 ∷ [];
+bracketed_reads : (opening : ℕ) (bracket : Bracket) (texts : List (List ℕ)) → begins_value opening ≡ true → holds_values bracket ≡ true →
+    ((brackets : List Bracket) (more : List ℕ) → goes_on Value brackets (opening ∷ more) ≡ goes_on FirstValue (bracket ∷ brackets) more) → EachReads texts → Reads (opening ∷ join_with_byte 44 texts ++ closing bracket ∷ [])
+bracketed_reads opening bracket texts begins holds opens each = record {
+  first = opening;
+  rest = join_with_byte 44 texts ++ closing bracket ∷ [];
   text_is = refl;
-  begins = refl;
+  begins = begins;
   read = λ brackets mark more is.
-      ap (goes_on FirstValue (Square ∷ brackets)) (append_assoc (join_with_byte 44 texts) (93 ∷ []) (mark ∷ more)) ∙ all_read texts each Square brackets (mark ∷ more) refl;
-}
-
-struct_reads : (texts : List (List ℕ)) → EachReads texts → Reads (40 ∷ join_with_byte 44 texts ++ 41 ∷ [])
-struct_reads texts each = record {
-  first = 40;
-  rest = join_with_byte 44 texts ++ 41 ∷ [];
-  text_is = refl;
-  begins = refl;
-  read = λ brackets mark more is.
-      ap (goes_on FirstValue (Round ∷ brackets)) (append_assoc (join_with_byte 44 texts) (41 ∷ []) (mark ∷ more)) ∙ all_read texts each Round brackets (mark ∷ more) refl;
+      opens brackets ((join_with_byte 44 texts ++ closing bracket ∷ []) ++ (mark ∷ more))
+      ∙ ap (goes_on FirstValue (bracket ∷ brackets)) (append_assoc (join_with_byte 44 texts) (closing bracket ∷ []) (mark ∷ more)) ∙ all_read texts each bracket brackets (mark ∷ more) holds;
 }
 
 -- ---- values
@@ -277,8 +237,8 @@ mutual
   value_reads (Truth t) s fit = truth_reads t
   value_reads (Number z) s fit = number_reads z (small_number s z fit)
   value_reads (Bytes bytes) s fit = bytes_read s bytes fit
-  value_reads (Items vs) s fit = list_reads (item_texts (item_shape s) vs) (items_read vs (item_shape s) (and_second (fits_count s (length (listed vs))) (all_fit (item_shape s) vs) fit))
-  value_reads (Tuple vs) s fit = struct_reads (part_texts (part_shapes s) vs) (parts_read vs (part_shapes s) (and_second (is_struct_shape s) (fields_fit (part_shapes s) vs) fit))
+  value_reads (Items vs) s fit = bracketed_reads 91 Square (item_texts (item_shape s) vs) refl refl (λ brackets more. refl) (items_read vs (item_shape s) (and_second (fits_count s (length (listed vs))) (all_fit (item_shape s) vs) fit))
+  value_reads (Tuple vs) s fit = bracketed_reads 40 Round (part_texts (part_shapes s) vs) refl refl (λ brackets more. refl) (parts_read vs (part_shapes s) (and_second (is_struct_shape s) (fields_fit (part_shapes s) vs) fit))
 
   items_read : (vs : Values) (s : Shape) → all_fit s vs ≡ true → EachReads (item_texts s vs)
   items_read no_values s fit = tt

@@ -1,13 +1,7 @@
 -- Rows that are repeated, and the rows that an iterator over them has left.
 use Rattle.std.proofs.Common.{◌≡◌, Bor, ℕ, zero, suc, ◌+◌, ◌-◌, ◌*◌, ◌<◌, ◌≤◌, List, [], ◌∷◌, ◌++◌, length, map, take, drop, get_or, replicate, refl, ap, sym, ◌∙◌, arith, append_assoc}
-use Rattle.std.specs.List.{flat_map, slice_range}
-use Rattle.std.proofs.lemmas.List.{append-nil, length-drop, replicate-append-replicate, length-map, map-append, take_all, take_more}
+use Rattle.sel_text.proofs.Common.{flat_map, slice_range, append-nil, replicate-append-replicate, length-map, map-append, take_all, take_more, Value, Null, block_in, item_value, rows_read, all_items, repeated, rows_repeated, Item}
 use Rattle.std.proofs.lemmas.List.Concat.{flat_map-append}
-use Rattle.sel_arrow.specs.Value.{Value, Null}
-use Rattle.sel_text.specs.Limits.{block_in}
-use Rattle.sel_text.specs.ItemValues.{item_value, rows_read}
-use Rattle.sel_text.specs.RowRuns.{all_items, repeated, rows_repeated}
-use Rattle.sel_text.specs.declared.item.Item.{Item}
 use Rattle.sel_text.specs.declared.row_runs.RowRun.{RowRun}
 
 -- ---- the rows of runs
@@ -25,9 +19,6 @@ rows_with runs run =
 
 pub rows_more : (runs : List RowRun) (i : ℕ) (run : RowRun) → i < length runs → run ≡ get_or runs i run → rows_repeated (take (i + 1) runs) ≡ rows_repeated (take i runs) ++ replicate run.times (item_value run.item.now)
 rows_more runs i run inside is = ap rows_repeated (take_more runs i run inside ∙ ap (λ r. take i runs ++ r ∷ []) (sym is)) ∙ rows_with (take i runs) run
-
-pub rows_all : (runs : List RowRun) (i : ℕ) → length runs ≤ i → rows_repeated (take i runs) ≡ rows_repeated runs
-rows_all runs i past = ap rows_repeated (take_all i runs past)
 
 pub count_rows : (runs : List RowRun) → length (rows_repeated runs) ≡ length (all_items runs)
 count_rows runs = length-map (all_items runs) (λ (item : Bor Item). item_value item.now)
@@ -85,9 +76,6 @@ left_in (r ∷ runs) d e used some more = in_run r.times used r.item (all_items 
 pub some_runs : (runs : List RowRun) (used : ℕ) → 0 < length (drop used (all_items runs)) → 0 < length runs
 some_runs [] used some = absurd (let none = ap length (none_left (all_items []) used refl) in omega (arith, some, none))
 some_runs (r ∷ runs) used some = omega arith
-
-pub some_left : {A : Type 0} (xs ys : List A) (k : ℕ) → ys ≡ drop k xs → k < length xs → 0 < length ys
-some_left xs ys k is inside = let long = ap length is ∙ length-drop k xs in omega (arith, long, inside)
 
 -- ---- repeated rows of fixed-size lists
 

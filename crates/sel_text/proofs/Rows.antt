@@ -1,14 +1,7 @@
 -- Rows that are not null, by their type.
-use Rattle.std.proofs.Common.{◌≡◌, ◌≢◌, ℕ, ℤ, Bool, true, false, true≢false, List, ◌++◌, [], length, drop, append-nil, refl, ap, sym, ◌∙◌}
-use Rattle.std.specs.Prelude.{codes}
-use Rattle.std.specs.Fmt.{signed_decimal}
-use Rattle.sel_arrow.specs.Shape.{Shape, Shapes, of_large_list, of_fixed_size_list, of_struct, is_struct_shape}
-use Rattle.sel_arrow.specs.Value.{Value, Null, Truth, Number, Bytes, Items, Tuple, Values, listed, values_of}
-use Rattle.sel_arrow.proofs.Lists.{and_first, and_second}
-use Rattle.sel_text.specs.Digits.{NoDigit}
-use Rattle.sel_text.specs.Fits.{all_fit, fields_fit, fits_bytes, fits_count, fits_number, is_boolean_shape}
+use Rattle.std.proofs.Common.{◌≡◌, ◌≢◌, ℕ, ℤ, Bool, true, false, true≢false, List, ◌++◌, [], length, drop, append-nil, refl, ap, sym, ◌∙◌, codes}
+use Rattle.sel_text.proofs.Common.{signed_decimal, Shape, Shapes, of_large_list, of_fixed_size_list, of_struct, is_struct_shape, Value, Null, Truth, Number, Bytes, Items, Tuple, Values, listed, values_of, and_first, and_second, NoDigit, all_fit, fields_fit, fits_bytes, fits_count, fits_number, is_boolean_shape, bracketed, bytes_text, item_shape, item_texts, parenthesized, part_shapes, part_texts, text_of, bool_text}
 use Rattle.sel_text.specs.Readings.{BeginsWith}
-use Rattle.sel_text.specs.Texts.{bracketed, bytes_text, item_shape, item_texts, parenthesized, part_shapes, part_texts, text_of, bool_text}
 use Rattle.sel_text.proofs.Printed.{listed_texts}
 use Rattle.sel_text.proofs.Told.{unlike}
 
@@ -57,11 +50,7 @@ module _ (R : Value → List ℕ → Type 0) (text : List ℕ) (filled : NotNull
 -- A text that begins with `null` begins with no other value.
 pub null_read : (s : Shape) (v : Value) (text rest more : List ℕ) → text ≡ codes "null" ++ rest → BeginsWith s v text more → (Null ≡ v) × (rest ≡ more)
 null_read s Null text rest more is begins = (refl, ap (drop 4) (sym is ∙ begins.whole))
-null_read s (Truth b) text rest more is begins = absurd (unlike s Null (Truth b) rest more refl begins.fit (sym is ∙ begins.whole) refl)
-null_read s (Number z) text rest more is begins = absurd (unlike s Null (Number z) rest more refl begins.fit (sym is ∙ begins.whole) refl)
-null_read s (Bytes bs) text rest more is begins = absurd (unlike s Null (Bytes bs) rest more refl begins.fit (sym is ∙ begins.whole) refl)
-null_read s (Items vs) text rest more is begins = absurd (unlike s Null (Items vs) rest more refl begins.fit (sym is ∙ begins.whole) refl)
-null_read s (Tuple vs) text rest more is begins = absurd (unlike s Null (Tuple vs) rest more refl begins.fit (sym is ∙ begins.whole) refl)
+null_read s v text rest more is begins = absurd (unlike s Null v rest more refl begins.fit (sym is ∙ begins.whole) refl)
 
 -- The text of rows is that of a list of these rows.
 pub rows_text : (s : Shape) (vs : List Value) (text : List ℕ) → text ≡ text_of s vs → text ≡ bracketed (item_texts s (values_of vs)) ++ []

@@ -1,46 +1,21 @@
 -- Values that equal rows except in null slots.
-use Rattle.std.proofs.Common.{◌≡◌, ℕ, zero, suc, ℤ, ◌+◌, ◌<◌, Bool, true, false, true≢false, List, [], ◌∷◌, ◌++◌, length, map, take, get_or, refl, ap, sym, ◌∙◌, subst, arith}
-use Rattle.std.specs.Prelude.{if◌then◌else◌}
+use Rattle.std.proofs.Common.{◌≡◌, ℕ, zero, suc, ℤ, ◌+◌, ◌<◌, Bool, true, false, true≢false, List, [], ◌∷◌, ◌++◌, length, map, take, get_or, refl, ap, sym, ◌∙◌, subst, arith, if◌then◌else◌}
 use Rattle.std.specs.Borrow.{Bor}
-use Rattle.std.specs.List.{list_all}
-use Rattle.std.proofs.lemmas.List.{length-map, map-append, map_more, take_more}
-use Rattle.sel_arrow.specs.Masked.{hidden}
-use Rattle.sel_arrow.specs.Shape.{Shape, of_null, of_boolean, of_int8, of_int16, of_int32, of_int64, of_int128, of_uint8, of_uint16, of_uint32, of_uint64, of_uint128, of_large_binary, of_binary_view, of_utf8_view, of_large_list, of_fixed_size_list, of_struct, is_struct_shape}
-use Rattle.sel_arrow.specs.Value.{Value, Null, Truth, Number, Bytes, Items, Tuple, is_valid, listed}
-use Rattle.sel_arrow.proofs.Lists.{and_first, and_second}
-use Rattle.sel_text.specs.Fits.{fits, fits_count, fits_number, is_boolean_shape, all_fit, fields_fit}
-use Rattle.sel_text.specs.ItemValues.{item_value, rows_read}
-use Rattle.sel_text.specs.Steps.{ShowsRows, is_view_shape}
-use Rattle.sel_text.specs.Stored.{bytes_stored, bool_stored}
-use Rattle.sel_text.specs.Texts.{item_shape, part_shapes}
-use Rattle.sel_text.specs.declared.build.NullSlots.{NullSlots}
-use Rattle.sel_text.specs.declared.item.Item.{Item}
+use Rattle.sel_text.proofs.Common.{list_all, length-map, map-append, map_more, take_more, hidden, Shape, of_boolean, of_large_binary, of_binary_view, of_utf8_view, is_struct_shape, Value, Null, Truth, Number, Bytes, Items, Tuple, is_valid, listed, and_first, and_second, fits, fits_count, fits_number, is_boolean_shape, all_fit, fields_fit, item_value, rows_read, ShowsRows, is_view_shape, bytes_stored, bool_stored, item_shape, part_shapes, NullSlots, Item}
 
 -- The first row is shown, and so are the others.
 each_shown : (row : Value) (rows : List Value) (v : Value) (vs : List Value) → ShowsRows (row ∷ rows) (v ∷ vs) → ((if is_valid row then v else Null) ≡ row) × ShowsRows rows vs
 each_shown Null rows v vs s = (refl, s)
-each_shown (Truth b) rows v vs s = (sym s.0, s.1)
-each_shown (Number z) rows v vs s = (sym s.0, s.1)
-each_shown (Bytes bs) rows v vs s = (sym s.0, s.1)
-each_shown (Items es) rows v vs s = (sym s.0, s.1)
-each_shown (Tuple es) rows v vs s = (sym s.0, s.1)
+each_shown row rows v vs s = (sym s.0, s.1)
 
 -- A row before others that are shown.
 pub show_next : (row v : Value) (rows vs : List Value) → (is_valid row ≡ true → row ≡ v) → ShowsRows rows vs → ShowsRows (row ∷ rows) (v ∷ vs)
 show_next Null v rows vs same s = s
-show_next (Truth b) v rows vs same s = (same refl, s)
-show_next (Number z) v rows vs same s = (same refl, s)
-show_next (Bytes bs) v rows vs same s = (same refl, s)
-show_next (Items es) v rows vs same s = (same refl, s)
-show_next (Tuple es) v rows vs same s = (same refl, s)
+show_next row v rows vs same s = (same refl, s)
 
 never_none : (row : Value) (rows : List Value) → ShowsRows (row ∷ rows) [] → ⊥
 never_none Null rows s = s
-never_none (Truth b) rows s = s
-never_none (Number z) rows s = s
-never_none (Bytes bs) rows s = s
-never_none (Items es) rows s = s
-never_none (Tuple es) rows s = s
+never_none row rows s = s
 
 -- Under the validity of the rows, the values are the rows.
 hidden_shown : (rows plain : List Value) → ShowsRows rows plain → hidden (map is_valid rows) plain ≡ rows
@@ -135,10 +110,7 @@ truths_shown beneath (item ∷ items) fit =
     same : (row : Value) → fits of_boolean row ≡ true → is_valid row ≡ true → row ≡ Truth (bool_stored beneath row)
     same Null fit valid = no_truth valid
     same (Truth b) fit valid = refl
-    same (Number z) fit valid = no_truth fit
-    same (Bytes bs) fit valid = no_truth fit
-    same (Items es) fit valid = no_truth fit
-    same (Tuple es) fit valid = no_truth fit
+    same row fit valid = no_truth fit
 
 -- ---- bytes
 
@@ -155,22 +127,7 @@ of_binary = record { truths = refl; numbers = λ z. refl; counts = λ n. refl; t
 pub of_views : (s : Shape) → is_view_shape s ≡ true → IsOfBytes s
 of_views of_binary_view has = record { truths = refl; numbers = λ z. refl; counts = λ n. refl; tuples = refl }
 of_views of_utf8_view has = record { truths = refl; numbers = λ z. refl; counts = λ n. refl; tuples = refl }
-of_views of_large_binary has = no_truth has
-of_views of_null has = no_truth has
-of_views of_boolean has = no_truth has
-of_views of_int8 has = no_truth has
-of_views of_int16 has = no_truth has
-of_views of_int32 has = no_truth has
-of_views of_int64 has = no_truth has
-of_views of_int128 has = no_truth has
-of_views of_uint8 has = no_truth has
-of_views of_uint16 has = no_truth has
-of_views of_uint32 has = no_truth has
-of_views of_uint64 has = no_truth has
-of_views of_uint128 has = no_truth has
-of_views (of_large_list s) has = no_truth has
-of_views (of_fixed_size_list s size) has = no_truth has
-of_views (of_struct ss) has = no_truth has
+of_views s has = no_truth has
 
 -- The bytes that are stored for an item.
 abbrev pub stored_in : NullSlots → Bor Item → List ℕ

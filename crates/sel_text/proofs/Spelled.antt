@@ -1,20 +1,7 @@
 -- Texts that are their own canonical spelling.
-use Rattle.std.proofs.Common.{◌≡◌, ℕ, ◌<◌, Bool, true, false, List, [], ◌∷◌, ◌++◌, refl, ap, ◌∙◌, arith, Some}
-use Rattle.std.specs.Prelude.{◌==◌, ◌^◌, nat_lt, ◌&&◌, not, if◌then◌else◌, option_map, option_and_then}
-use Rattle.std.specs.Fmt.{decimal}
-use Rattle.std.specs.Char.{digit_value}
-use Rattle.std.specs.List.{list_all, join_with_byte}
-use Rattle.std.specs.Str.Parse.{AllDigits}
-use Rattle.std.proofs.lemmas.Bool.Decides.{nat_tests}
-use Rattle.std.proofs.lemmas.List.Folds.{list_all-append}
-use Rattle.sel_arrow.proofs.Lists.{both, and_first, and_second}
-use Rattle.sel_arrow.specs.Shape.{Shape, Shapes, no_shapes, next_shape, of_large_list, of_fixed_size_list, of_struct}
-use Rattle.sel_text.specs.Types.{angled, type_text, type_texts}
-use Rattle.sel_text.specs.Written.{widths_written, all_widths_written}
+use Rattle.std.proofs.Common.{◌≡◌, ℕ, ◌<◌, Bool, true, false, List, [], ◌∷◌, ◌++◌, refl, ap, ◌∙◌, arith, Some, ◌==◌, ◌^◌, nat_lt, ◌&&◌, not, if◌then◌else◌, option_map, option_and_then}
+use Rattle.sel_text.proofs.Common.{decimal, digit_value, list_all, join_with_byte, AllDigits, nat_tests, list_all-append, both, and_first, and_second, Shape, Shapes, no_shapes, next_shape, of_large_list, of_fixed_size_list, of_struct, angled, type_text, type_texts, widths_written, all_widths_written, is_mark, is_space, spelled, spelled_from, Place, Between, PlaceWord as Word}
 use Rattle.sel_text.proofs.Ends.{numeral_has}
-use Rattle.sel_text.specs.Spelling.{is_mark, is_space, spelled, spelled_from}
-use Rattle.sel_text.specs.declared.spelling.Place.{Place}
-use Rattle.sel_text.specs.declared.spelling.Place.TheVariants.{Between, Word}
 
 -- A byte that is no white space, and begins no string and no bytes in hexadecimal.
 abbrev pub is_plain_byte : ℕ → Bool

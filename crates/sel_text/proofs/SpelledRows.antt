@@ -1,23 +1,9 @@
 -- The text of rows is its own canonical spelling.
-use Rattle.std.proofs.Common.{◌≡◌, ℕ, suc, ℤ, pos, negsuc, ◌+◌, ◌*◌, ◌/◌, ◌%◌, ◌<◌, ◌^◌, Bool, true, false, List, [], ◌∷◌, ◌++◌, length, map, Option, Some, None, refl, ap, sym, ◌∙◌, arith, append_assoc, append-nil}
-use Rattle.std.specs.Prelude.{◌==◌, ⊤, codes, encode_utf8, nat_lt, if◌then◌else◌, option_map, option_and_then}
-use Rattle.std.specs.Char.{digit_char, digit_value, is_digit}
-use Rattle.std.specs.Fmt.{decimal, signed_decimal}
-use Rattle.std.specs.Int.Signed.{mag}
-use Rattle.std.specs.List.{flat_map, join_with_byte, list_all}
-use Rattle.std.proofs.lemmas.Bool.Decides.{nat_tests}
-use Rattle.std.proofs.lemmas.Fmt.{decimal_is_IsNumeral_wide}
-use Rattle.std.proofs.lemmas.Str.{digit_value-digit_char, encode_ascii}
-use Rattle.sel_arrow.specs.Shape.{Shape, Shapes, no_shapes, next_shape, is_struct_shape}
-use Rattle.sel_arrow.specs.Value.{Value, Null, Truth, Number, Bytes, Items, Tuple, Values, no_values, next_value, listed}
-use Rattle.sel_arrow.proofs.Lists.{and_first, and_second}
-use Rattle.sel_text.specs.Fits.{all_fit, fields_fit, fits, fits_count}
-use Rattle.sel_text.specs.Spelling.{escape_at, escape_spelled, is_high, is_low, is_mark, spelled, spelled_from, unit_at, unit_escape}
-use Rattle.sel_text.specs.Texts.{escaped, hex_byte, hex_text, is_text_shape, item_shape, item_texts, part_shapes, part_texts, quoted, text_of, value_text}
-use Rattle.sel_text.specs.declared.spelling.Place.{Place}
-use Rattle.sel_text.specs.declared.spelling.Place.TheVariants.{Word, Prefix, Quoted, Hexadecimal}
+use Rattle.std.proofs.Common.{◌≢◌, ◌≤◌, ◌≡◌, ℕ, suc, ℤ, pos, negsuc, ◌+◌, ◌*◌, ◌/◌, ◌%◌, ◌<◌, ◌^◌, Bool, true, false, List, [], ◌∷◌, ◌++◌, length, map, Some, refl, ap, sym, ◌∙◌, arith, append_assoc, append-nil}
+use Rattle.sel_text.proofs.Common.{◌==◌, ⊤, codes, encode_utf8, nat_lt, if◌then◌else◌, option_map, option_and_then, digit_char, digit_value, is_digit, decimal, signed_decimal, mag, flat_map, join_with_byte, list_all, nat_tests, decimal_is_IsNumeral_wide, digit_value-digit_char, encode_ascii, Shape, Shapes, no_shapes, next_shape, is_struct_shape, Value, Null, Truth, Number, Bytes, Items, Tuple, Values, no_values, next_value, listed, and_first, and_second, all_fit, fields_fit, fits, fits_count, escape_at, escape_spelled, is_high, is_low, is_mark, spelled, spelled_from, unit_at, unit_escape, escaped, hex_byte, hex_text, is_text_shape, item_shape, item_texts, part_shapes, part_texts, quoted, text_of, value_text, Place, PlaceWord as Word, Prefix, InString as Quoted, InHex as Hexadecimal}
 use Rattle.sel_text.proofs.Decoded.{no_quote}
 use Rattle.sel_text.proofs.Ends.{few_digits}
+use Rattle.sel_text.proofs.Escapes.{each_escape}
 use Rattle.sel_text.proofs.Spelled.{after_plain, digits_plain, is_plain_byte, step_plain}
 use Rattle.sel_text.proofs.Spellings.{appended, begins}
 use Rattle.sel_text.proofs.Told.{small_number}
@@ -105,33 +91,21 @@ control_read b rest low =
     let digits = 48 ∷ 48 ∷ digit_char (b / 16) ∷ digit_char (b % 16) ∷ rest in
     ap (option_and_then (unit_escape digits)) (unit_read b rest low) ∙ unit_kept b digits low
 
-letter_passes : (b : ℕ) → (b == 34) ≡ false → (b == 92) ≡ false → nat_lt b 32 ≡ false → Passes Quoted Quoted (b ∷ [])
-letter_passes b quote backslash high = record { passed = λ rest. rw (quote, backslash, high) refl }
-
-pick : (P : List ℕ → Type 0) (t : Bool) (x y : List ℕ) → (t ≡ true → P x) → (t ≡ false → P y) → P (if t then x else y)
-pick P true x y f g = f refl
-pick P false x y f g = g refl
+letter_passes : (b : ℕ) → b ≢ 34 → b ≢ 92 → 32 ≤ b → Passes Quoted Quoted (b ∷ [])
+letter_passes b quote backslash high =
+    let other : (b == 34) ≡ false = grind (arith, nat_tests, quote) in
+    let plain : (b == 92) ≡ false = grind (arith, nat_tests, backslash) in
+    let printed : nat_lt b 32 ≡ false = grind (arith, nat_tests, high) in
+    record { passed = λ rest. rw (other, plain, printed) refl }
 
 byte_passes : (b : ℕ) → Passes Quoted Quoted (escaped b)
 byte_passes b =
-    let P = Passes Quoted Quoted in
-    let short : (n : ℕ) (letter : ℕ) → n < 128 → ((rest : List ℕ) → escape_at (letter ∷ rest) ≡ Some (n, 1)) → escaped n ≡ 92 ∷ letter ∷ [] → P (92 ∷ letter ∷ []) = λ n letter low read is. escape_passes n (letter ∷ []) low read is in
-    pick P (b == 34) _ _ (λ is. short 34 34 (omega arith) (λ rest. refl) refl) (λ n34.
-    pick P (b == 92) _ _ (λ is. short 92 92 (omega arith) (λ rest. refl) refl) (λ n92.
-    pick P (b == 10) _ _ (λ is. short 10 110 (omega arith) (λ rest. refl) refl) (λ n10.
-    pick P (b == 13) _ _ (λ is. short 13 114 (omega arith) (λ rest. refl) refl) (λ n13.
-    pick P (b == 9) _ _ (λ is. short 9 116 (omega arith) (λ rest. refl) refl) (λ n9.
-    pick P (b == 8) _ _ (λ is. short 8 98 (omega arith) (λ rest. refl) refl) (λ n8.
-    pick P (b == 12) _ _ (λ is. short 12 102 (omega arith) (λ rest. refl) refl) (λ n12.
-    pick P (nat_lt b 32) _ _
-    (λ low.
-    let small : b < 32 = grind (arith, nat_tests, low) in
-    escape_passes b (117 ∷ 48 ∷ 48 ∷ hex_byte b) (omega arith) (λ rest. control_read b rest small) (control_escape b n34 n92 n10 n13 n9 n8 n12 low))
-    (λ high. letter_passes b n34 n92 high))))))))
-  where
-    control_escape : (b : ℕ) → (b == 34) ≡ false → (b == 92) ≡ false → (b == 10) ≡ false → (b == 13) ≡ false → (b == 9) ≡ false → (b == 8) ≡ false → (b == 12) ≡ false → nat_lt b 32 ≡ true →
-        escaped b ≡ 92 ∷ 117 ∷ 48 ∷ 48 ∷ hex_byte b
-    control_escape b n34 n92 n10 n13 n9 n8 n12 low = rw (n34, n92, n10, n13, n9, n8, n12, low) refl
+    each_escape (λ b word. escaped b ≡ word → Passes Quoted Quoted word)
+    (escape_passes 34 (34 ∷ []) (omega arith) (λ rest. refl)) (escape_passes 92 (92 ∷ []) (omega arith) (λ rest. refl)) (escape_passes 10 (110 ∷ []) (omega arith) (λ rest. refl))
+    (escape_passes 13 (114 ∷ []) (omega arith) (λ rest. refl)) (escape_passes 9 (116 ∷ []) (omega arith) (λ rest. refl)) (escape_passes 8 (98 ∷ []) (omega arith) (λ rest. refl))
+    (escape_passes 12 (102 ∷ []) (omega arith) (λ rest. refl))
+    (λ b low n8 n9 n10 n12 n13. escape_passes b (117 ∷ 48 ∷ 48 ∷ hex_byte b) (omega (arith, low)) (λ rest. control_read b rest low))
+    (λ b high quote backslash is. letter_passes b quote backslash high) b refl
 
 string_passes : (bytes : List ℕ) → Passes Quoted Quoted (flat_map escaped bytes)
 string_passes [] = none_passes Quoted

@@ -1,9 +1,6 @@
 -- The canonical spelling of a text, byte by byte.
-use Rattle.std.proofs.Common.{◌≡◌, ℕ, ◌+◌, ◌<◌, List, [], ◌∷◌, ◌++◌, length, drop, take, ◌-◌, get_or, ap, refl, sym, ◌∙◌, append_assoc, Some, None, subst, add-one}
-use Rattle.std.specs.Prelude.{suc, zero, Option, option_map, option_and_then}
-use Rattle.std.proofs.lemmas.List.{drop_more, take_rest}
-use Rattle.sel_text.specs.Spelling.{byte_spelled, next_place, spelled, spelled_from}
-use Rattle.sel_text.specs.declared.spelling.Place.{Place}
+use Rattle.std.proofs.Common.{◌≡◌, ℕ, ◌+◌, ◌<◌, List, [], ◌∷◌, ◌++◌, length, drop, take, ◌-◌, get_or, ap, refl, sym, ◌∙◌, append_assoc, Some, None, subst, add-one, suc, zero, Option, option_map, option_and_then}
+use Rattle.sel_text.proofs.Common.{drop_more, take_rest, byte_spelled, next_place, spelled, spelled_from, Place}
 
 -- The spelling of the whole text is the bytes so far, followed by the spelling of the rest.
 abbrev pub Spells : List ℕ → List ℕ → Place → ℕ → ℕ → Type 0

@@ -1,24 +1,9 @@
 -- Characters of strings in the notation of rows.
-use Rattle.std.proofs.Common.{◌≡◌, ◌≤◌, ◌<◌, ℕ, ◌+◌, ◌/◌, ◌%◌, Bool, true, false, cond, List, [], ◌∷◌, ◌++◌, refl, ap, sym, ◌∙◌, append_assoc, append-nil, arith, Some, None, subst, inl, inr}
-use Rattle.std.specs.Prelude.{◌⊎◌, option_map, nat_lt, ◌==◌, encode_utf8, if◌then◌else◌}
-use Rattle.std.specs.Char.{digit_char}
-use Rattle.std.specs.List.{flat_map}
-use Rattle.std.proofs.lemmas.Bool.Decides.{nat_tests}
-use Rattle.std.proofs.lemmas.Grind.{flat_map-append}
-use Rattle.std.proofs.lemmas.Str.{encode_ascii}
+use Rattle.std.proofs.Common.{◌≢◌, ◌≡◌, ◌≤◌, ◌<◌, ℕ, ◌+◌, ◌/◌, ◌%◌, Bool, true, false, cond, List, [], ◌∷◌, ◌++◌, refl, ap, sym, ◌∙◌, append_assoc, append-nil, arith, Some, None, subst, inl, inr, ◌⊎◌, option_map, nat_lt, ◌==◌, encode_utf8, if◌then◌else◌}
+use Rattle.sel_text.proofs.Common.{digit_char, flat_map, nat_tests, flat_map-append, encode_ascii, and_first, and_second, goes_on, escaped, hex_byte, after_string_byte, escape_byte, is_between, is_hexadecimal, text_byte, Bracket, Keep, Next, Quoted, Within, Text, Escape, UnitFirst, LastThree, LastTwo, LastOne, ByteOne, ByteTwo, ByteThree, AfterE0, AfterEd, AfterF0, AfterF4}
 use lib.Utf8.{encode, encodes, next, scalar, scalars, scalar_cases}
-use Rattle.sel_arrow.proofs.Lists.{and_first, and_second}
-use Rattle.sel_text.proofs.Escapes.{high_letter}
+use Rattle.sel_text.proofs.Escapes.{each_escape, high_letter}
 use Rattle.sel_text.proofs.TypeNotation.{step_to}
-use Rattle.sel_text.specs.Notation.{goes_on}
-use Rattle.sel_text.specs.Texts.{escaped, hex_byte}
-use Rattle.sel_text.specs.Tokens.{after_string_byte, escape_byte, is_between, is_hexadecimal, text_byte}
-use Rattle.sel_text.specs.declared.notation.Bracket.{Bracket}
-use Rattle.sel_text.specs.declared.notation.Change.TheVariants.{Keep}
-use Rattle.sel_text.specs.declared.notation.Next.{Next}
-use Rattle.sel_text.specs.declared.notation.Next.TheVariants.{Quoted}
-use Rattle.sel_text.specs.declared.tokens.Within.{Within}
-use Rattle.sel_text.specs.declared.tokens.Within.TheVariants.{Text, Escape, UnitFirst, LastThree, LastTwo, LastOne, ByteOne, ByteTwo, ByteThree, AfterE0, AfterEd, AfterF0, AfterF4}
 
 -- A byte of a string leads on.
 pub inside : (within after : Within) (brackets : List Bracket) (byte : ℕ) (more : List ℕ) → after_string_byte within byte ≡ Some (Quoted after) →
@@ -50,29 +35,17 @@ control_leads b low =
     (leads_byte LastTwo LastOne Text (digit_char (b / 16)) _ (hex_step LastTwo LastOne (digit_char (b / 16)) refl (hex_digit (b / 16) (omega arith)))
     (leads_byte LastOne Text Text (digit_char (b % 16)) [] (hex_step LastOne Text (digit_char (b % 16)) refl (hex_digit (b % 16) (omega arith))) (leads_none Text))))))
 
-pick : (P : List ℕ → Type 0) (t : Bool) (x y : List ℕ) → (t ≡ true → P x) → (t ≡ false → P y) → P (if t then x else y)
-pick P true x y f g = f refl
-pick P false x y f g = g refl
-
 short : (letter : ℕ) → escape_byte letter ≡ Some (Quoted Text) → Leads Text Text (92 ∷ letter ∷ [])
 short letter told = leads_byte Text Escape Text 92 (letter ∷ []) refl (leads_byte Escape Text Text letter [] told (leads_none Text))
 
-plain_step : (b : ℕ) → (b == 34) ≡ false → (b == 92) ≡ false → nat_lt b 32 ≡ false → b < 128 → text_byte b ≡ Some (Quoted Text)
+plain_step : (b : ℕ) → b ≢ 34 → b ≢ 92 → 32 ≤ b → b < 128 → text_byte b ≡ Some (Quoted Text)
 plain_step b quote backslash high low = grind (arith, nat_tests, quote, backslash, high, low)
 
 ascii_leads : (b : ℕ) → b < 128 → Leads Text Text (escaped b)
-ascii_leads b low =
-    let P = Leads Text Text in
-    pick P (b == 34) _ _ (λ is. short 34 refl) (λ n34.
-    pick P (b == 92) _ _ (λ is. short 92 refl) (λ n92.
-    pick P (b == 10) _ _ (λ is. short 110 refl) (λ n10.
-    pick P (b == 13) _ _ (λ is. short 114 refl) (λ n13.
-    pick P (b == 9) _ _ (λ is. short 116 refl) (λ n9.
-    pick P (b == 8) _ _ (λ is. short 98 refl) (λ n8.
-    pick P (b == 12) _ _ (λ is. short 102 refl) (λ n12.
-    pick P (nat_lt b 32) _ _
-    (λ control. control_leads b (grind (arith, nat_tests, control)))
-    (λ high. leads_byte Text Text Text b [] (plain_step b n34 n92 high low) (leads_none Text)))))))))
+ascii_leads =
+    each_escape (λ b word. b < 128 → Leads Text Text word)
+    (λ low. short 34 refl) (λ low. short 92 refl) (λ low. short 110 refl) (λ low. short 114 refl) (λ low. short 116 refl) (λ low. short 98 refl) (λ low. short 102 refl)
+    (λ b control n8 n9 n10 n12 n13 low. control_leads b control) (λ b high quote backslash low. leads_byte Text Text Text b [] (plain_step b quote backslash high low) (leads_none Text))
 
 -- ---- characters of several bytes
 
@@ -186,18 +159,14 @@ letters_lead (c ∷ cs) all brackets more =
 abbrev pub Starts : List ℕ → Type 0
 Starts text = (first : ℕ) × (rest : List ℕ) × (text ≡ first ∷ rest) × ((first < 128) ⊎ (192 ≤ first))
 
+backslash_starts : (rest : List ℕ) → Starts (92 ∷ rest)
+backslash_starts rest = (92, rest, refl, inl (omega arith))
+
 ascii_starts : (b : ℕ) → b < 128 → Starts (escaped b)
-ascii_starts b low =
-    let P = Starts in
-    let backslash : (rest : List ℕ) → Starts (92 ∷ rest) = λ rest. (92, rest, refl, inl (omega arith)) in
-    pick P (b == 34) _ _ (λ is. backslash (34 ∷ [])) (λ n34.
-    pick P (b == 92) _ _ (λ is. backslash (92 ∷ [])) (λ n92.
-    pick P (b == 10) _ _ (λ is. backslash (110 ∷ [])) (λ n10.
-    pick P (b == 13) _ _ (λ is. backslash (114 ∷ [])) (λ n13.
-    pick P (b == 9) _ _ (λ is. backslash (116 ∷ [])) (λ n9.
-    pick P (b == 8) _ _ (λ is. backslash (98 ∷ [])) (λ n8.
-    pick P (b == 12) _ _ (λ is. backslash (102 ∷ [])) (λ n12.
-    pick P (nat_lt b 32) _ _ (λ control. backslash (117 ∷ 48 ∷ 48 ∷ hex_byte b)) (λ high. (b, [], refl, inl low)))))))))
+ascii_starts =
+    each_escape (λ b word. b < 128 → Starts word)
+    (λ low. backslash_starts _) (λ low. backslash_starts _) (λ low. backslash_starts _) (λ low. backslash_starts _) (λ low. backslash_starts _) (λ low. backslash_starts _) (λ low. backslash_starts _)
+    (λ b control n8 n9 n10 n12 n13 low. backslash_starts _) (λ b high quote backslash low. (b, [], refl, inl low))
 
 encode_starts : (c : ℕ) → 128 ≤ c → Starts (encode c)
 unfolding encode

@@ -1,21 +1,7 @@
 -- Row text determines its value.
-use Rattle.std.proofs.Common.{◌≡◌, ◌≢◌, ℕ, ℤ, pos, negsuc, ◌^◌, ◌≤◌, ◌<◌, Bool, true, false, List, [], ◌∷◌, ◌++◌, length, get_or, drop, refl, ap, sym, ◌∙◌, arith, append_assoc}
-use Rattle.std.specs.Prelude.{◌==◌, nat_lt, if◌then◌else◌}
-use Rattle.std.specs.Char.{digit_value}
-use Rattle.std.specs.Fmt.{decimal}
-use Rattle.std.specs.Int.Signed.{mag}
-use Rattle.std.specs.List.{flat_map, join_with_byte, list_all}
-use Rattle.std.specs.Str.Parse.{AllDigits}
-use Rattle.std.proofs.lemmas.Bool.{false≢true}
-use Rattle.std.proofs.lemmas.Bool.Decides.{nat_tests, Decides-ltb}
-use Rattle.std.proofs.lemmas.Fmt.{decimal_is_IsNumeral_wide}
-use Rattle.sel_arrow.specs.Shape.{Shape, Shapes, no_shapes, next_shape, is_struct_shape, of_null, of_boolean, of_int8, of_int16, of_int32, of_int64, of_int128, of_uint8, of_uint16, of_uint32, of_uint64, of_uint128, of_large_binary, of_binary_view, of_utf8_view, of_large_list, of_fixed_size_list, of_struct}
-use Rattle.sel_arrow.specs.Value.{Value, Null, Truth, Number, Bytes, Items, Tuple, Values, no_values, next_value, values_of, listed}
-use Rattle.sel_arrow.proofs.Lists.{both, and_first, and_second}
-use Rattle.sel_text.specs.Fits.{fits, all_fit, fields_fit, fits_count, fits_number, fits_unsigned}
+use Rattle.std.proofs.Common.{◌≡◌, ◌≢◌, ℕ, ℤ, pos, negsuc, ◌^◌, ◌≤◌, ◌<◌, Bool, true, false, List, [], ◌∷◌, ◌++◌, length, get_or, drop, refl, ap, sym, ◌∙◌, arith, append_assoc, ◌==◌, nat_lt, if◌then◌else◌}
+use Rattle.sel_text.proofs.Common.{digit_value, decimal, mag, flat_map, join_with_byte, list_all, AllDigits, false≢true, nat_tests, Decides-ltb, decimal_is_IsNumeral_wide, Shape, Shapes, no_shapes, next_shape, is_struct_shape, of_int8, of_int16, of_int32, of_int64, of_int128, of_uint8, of_uint16, of_uint32, of_uint64, of_uint128, Value, Null, Truth, Number, Bytes, Items, Tuple, Values, no_values, next_value, values_of, listed, both, and_first, and_second, fits, all_fit, fields_fit, fits_count, fits_number, fits_unsigned, bracketed, hex_byte, escaped, hex_text, quoted, is_text_shape, bytes_text, item_shape, part_shapes, item_texts, part_texts, value_text, text_of, NoDigit}
 use Rattle.sel_text.specs.Laws.{TextDeterminesRows}
-use Rattle.sel_text.specs.Texts.{bracketed, hex_byte, escaped, hex_text, quoted, is_text_shape, bytes_text, item_shape, part_shapes, item_texts, part_texts, value_text, text_of}
-use Rattle.sel_text.specs.Digits.{NoDigit}
 use Rattle.sel_text.proofs.Ends.{few_digits}
 use Rattle.sel_text.proofs.Decoded.{signed_apart, hex_apart, escaped_apart}
 use Rattle.sel_text.proofs.Equalities.{list_of_back}
@@ -96,14 +82,7 @@ small_number of_uint16 z fit = small_unsigned 16 z (omega arith) fit
 small_number of_uint32 z fit = small_unsigned 32 z (omega arith) fit
 small_number of_uint64 z fit = small_unsigned 64 z (omega arith) fit
 small_number of_uint128 z fit = small_unsigned 128 z (omega arith) fit
-small_number of_null z fit = absurd cc
-small_number of_boolean z fit = absurd cc
-small_number of_large_binary z fit = absurd cc
-small_number of_binary_view z fit = absurd cc
-small_number of_utf8_view z fit = absurd cc
-small_number (of_large_list s) z fit = absurd cc
-small_number (of_fixed_size_list s size) z fit = absurd cc
-small_number (of_struct ss) z fit = absurd cc
+small_number s z fit = absurd cc
 
 -- A negative number has a signed type.
 below_signed : (bits n : ℕ) → 2 ^ bits ≤ 2 ^ 127 → nat_lt n (2 ^ bits) ≡ true → n < 2 ^ 127
@@ -115,36 +94,21 @@ small_below of_int16 n fit = below_signed 15 n (omega arith) fit
 small_below of_int32 n fit = below_signed 31 n (omega arith) fit
 small_below of_int64 n fit = below_signed 63 n (omega arith) fit
 small_below of_int128 n fit = below_signed 127 n (omega arith) fit
-small_below of_uint8 n fit = absurd cc
-small_below of_uint16 n fit = absurd cc
-small_below of_uint32 n fit = absurd cc
-small_below of_uint64 n fit = absurd cc
-small_below of_uint128 n fit = absurd cc
-small_below of_null n fit = absurd cc
-small_below of_boolean n fit = absurd cc
-small_below of_large_binary n fit = absurd cc
-small_below of_binary_view n fit = absurd cc
-small_below of_utf8_view n fit = absurd cc
-small_below (of_large_list s) n fit = absurd cc
-small_below (of_fixed_size_list s size) n fit = absurd cc
-small_below (of_struct ss) n fit = absurd cc
+small_below s n fit = absurd cc
 
 starts : (s : Shape) (v : Value) (r : List ℕ) → fits s v ≡ true → kind_of (get_or (value_text s v ++ r) 0 0) ≡ kind v
-starts s Null r fit = refl
-starts s (Truth true) r fit = refl
-starts s (Truth false) r fit = refl
 starts s (Number (pos n)) r fit =
     let small = small_number s (pos n) fit in
     let is = decimal_is_IsNumeral_wide n (few_digits n (omega (arith, small))) in
     first_digit (decimal n) r is.0.0 is.0.1
-starts s (Number (negsuc n)) r fit = refl
 starts s (Bytes bytes) r fit = go (is_text_shape s)
   where
     go : (t : Bool) → kind_of (get_or ((if t then quoted bytes else hex_text bytes) ++ r) 0 0) ≡ 3
     go true = refl
     go false = refl
-starts s (Items vs) r fit = refl
-starts s (Tuple vs) r fit = refl
+starts s (Truth true) r fit = refl
+starts s (Truth false) r fit = refl
+starts s v r fit = refl
 
 same_kind : (s : Shape) (v w : Value) (r t : List ℕ) → fits s v ≡ true → fits s w ≡ true → value_text s v ++ r ≡ value_text s w ++ t → kind v ≡ kind w
 same_kind s v w r t fv fw e = sym (starts s v r fv) ∙ ap (λ l. kind_of (get_or l 0 0)) e ∙ starts s w t fw
@@ -175,11 +139,7 @@ no_value s v close r t fit none e =
   where
     never : (v : Value) → kind v ≡ 6 → ⊥
     never Null one = cc
-    never (Truth x) one = cc
-    never (Number x) one = cc
-    never (Bytes x) one = cc
-    never (Items x) one = cc
-    never (Tuple x) one = cc
+    never v one = cc
 
 -- ---- the row texts of values
 
@@ -196,40 +156,24 @@ record TellsParts (ss : Shapes) (vs : Values) : Type 0 where
 
 null_told : (s : Shape) (w : Value) (r t : List ℕ) → fits s Null ≡ true → fits s w ≡ true → NoDigit r → NoDigit t → value_text s Null ++ r ≡ value_text s w ++ t → (Null ≡ w) × (r ≡ t)
 null_told s Null r t fv fw nr nt e = (refl, cc)
-null_told s (Truth y) r t fv fw nr nt e = absurd (unlike s Null (Truth y) r t fv fw e refl)
-null_told s (Number y) r t fv fw nr nt e = absurd (unlike s Null (Number y) r t fv fw e refl)
-null_told s (Bytes y) r t fv fw nr nt e = absurd (unlike s Null (Bytes y) r t fv fw e refl)
-null_told s (Items y) r t fv fw nr nt e = absurd (unlike s Null (Items y) r t fv fw e refl)
-null_told s (Tuple y) r t fv fw nr nt e = absurd (unlike s Null (Tuple y) r t fv fw e refl)
+null_told s w r t fv fw nr nt e = absurd (unlike s Null w r t fv fw e refl)
 
 truth_told : (s : Shape) (b : Bool) (w : Value) (r t : List ℕ) → fits s (Truth b) ≡ true → fits s w ≡ true → NoDigit r → NoDigit t → value_text s (Truth b) ++ r ≡ value_text s w ++ t → (Truth b ≡ w) × (r ≡ t)
 truth_told s true (Truth true) r t fv fw nr nt e = (refl, cc)
 truth_told s true (Truth false) r t fv fw nr nt e = let first : 116 ≡ 102 = ap (λ l. get_or l 0 0) e in absurd (omega (arith, first))
 truth_told s false (Truth true) r t fv fw nr nt e = let first : 102 ≡ 116 = ap (λ l. get_or l 0 0) e in absurd (omega (arith, first))
 truth_told s false (Truth false) r t fv fw nr nt e = (refl, cc)
-truth_told s b Null r t fv fw nr nt e = absurd (unlike s (Truth b) Null r t fv fw e refl)
-truth_told s b (Number y) r t fv fw nr nt e = absurd (unlike s (Truth b) (Number y) r t fv fw e refl)
-truth_told s b (Bytes y) r t fv fw nr nt e = absurd (unlike s (Truth b) (Bytes y) r t fv fw e refl)
-truth_told s b (Items y) r t fv fw nr nt e = absurd (unlike s (Truth b) (Items y) r t fv fw e refl)
-truth_told s b (Tuple y) r t fv fw nr nt e = absurd (unlike s (Truth b) (Tuple y) r t fv fw e refl)
+truth_told s b w r t fv fw nr nt e = absurd (unlike s (Truth b) w r t fv fw e refl)
 
 number_told : (s : Shape) (z : ℤ) (w : Value) (r t : List ℕ) → fits s (Number z) ≡ true → fits s w ≡ true → NoDigit r → NoDigit t → value_text s (Number z) ++ r ≡ value_text s w ++ t → (Number z ≡ w) × (r ≡ t)
 number_told s z (Number y) r t fv fw nr nt e =
     let parts = signed_apart z y r t (small_number s z fv) (small_number s y fw) nr nt e in
     (ap Number parts.0, parts.1)
-number_told s z Null r t fv fw nr nt e = absurd (unlike s (Number z) Null r t fv fw e refl)
-number_told s z (Truth y) r t fv fw nr nt e = absurd (unlike s (Number z) (Truth y) r t fv fw e refl)
-number_told s z (Bytes y) r t fv fw nr nt e = absurd (unlike s (Number z) (Bytes y) r t fv fw e refl)
-number_told s z (Items y) r t fv fw nr nt e = absurd (unlike s (Number z) (Items y) r t fv fw e refl)
-number_told s z (Tuple y) r t fv fw nr nt e = absurd (unlike s (Number z) (Tuple y) r t fv fw e refl)
+number_told s z w r t fv fw nr nt e = absurd (unlike s (Number z) w r t fv fw e refl)
 
 bytes_told : (s : Shape) (bs : List ℕ) (w : Value) (r t : List ℕ) → fits s (Bytes bs) ≡ true → fits s w ≡ true → NoDigit r → NoDigit t → value_text s (Bytes bs) ++ r ≡ value_text s w ++ t → (Bytes bs ≡ w) × (r ≡ t)
 bytes_told s bs (Bytes y) r t fv fw nr nt e = let parts = bytes_apart s bs y r t e in (ap Bytes parts.0, parts.1)
-bytes_told s bs Null r t fv fw nr nt e = absurd (unlike s (Bytes bs) Null r t fv fw e refl)
-bytes_told s bs (Truth y) r t fv fw nr nt e = absurd (unlike s (Bytes bs) (Truth y) r t fv fw e refl)
-bytes_told s bs (Number y) r t fv fw nr nt e = absurd (unlike s (Bytes bs) (Number y) r t fv fw e refl)
-bytes_told s bs (Items y) r t fv fw nr nt e = absurd (unlike s (Bytes bs) (Items y) r t fv fw e refl)
-bytes_told s bs (Tuple y) r t fv fw nr nt e = absurd (unlike s (Bytes bs) (Tuple y) r t fv fw e refl)
+bytes_told s bs w r t fv fw nr nt e = absurd (unlike s (Bytes bs) w r t fv fw e refl)
 
 -- This extends to values after the opening bracket.
 items_inside : (s : Shape) (vs ws : Values) (r t : List ℕ) → TellsItems s vs → all_fit s vs ≡ true → all_fit s ws ≡ true → inside 93 (item_texts s vs) r ≡ inside 93 (item_texts s ws) t → (vs ≡ ws) × (r ≡ t)
@@ -256,11 +200,7 @@ items_told s vs tells (Items ws) r t fv fw nr nt e =
     let parts = items_inside child vs ws r t tells (and_second (fits_count s (length (listed vs))) (all_fit child vs) fv) (and_second (fits_count s (length (listed ws))) (all_fit child ws) fw)
     (unbracket 91 93 (item_texts child vs) (item_texts child ws) r t e) in
     (ap Items parts.0, parts.1)
-items_told s vs tells Null r t fv fw nr nt e = absurd (unlike s (Items vs) Null r t fv fw e refl)
-items_told s vs tells (Truth y) r t fv fw nr nt e = absurd (unlike s (Items vs) (Truth y) r t fv fw e refl)
-items_told s vs tells (Number y) r t fv fw nr nt e = absurd (unlike s (Items vs) (Number y) r t fv fw e refl)
-items_told s vs tells (Bytes y) r t fv fw nr nt e = absurd (unlike s (Items vs) (Bytes y) r t fv fw e refl)
-items_told s vs tells (Tuple y) r t fv fw nr nt e = absurd (unlike s (Items vs) (Tuple y) r t fv fw e refl)
+items_told s vs tells w r t fv fw nr nt e = absurd (unlike s (Items vs) w r t fv fw e refl)
 
 tuple_told : (s : Shape) (vs : Values) (tells : TellsParts (part_shapes s) vs) (w : Value) (r t : List ℕ) → fits s (Tuple vs) ≡ true → fits s w ≡ true → NoDigit r → NoDigit t → value_text s (Tuple vs) ++ r ≡ value_text s w ++ t → (Tuple vs ≡ w) × (r ≡ t)
 tuple_told s vs tells (Tuple ws) r t fv fw nr nt e =
@@ -268,11 +208,7 @@ tuple_told s vs tells (Tuple ws) r t fv fw nr nt e =
     let parts = parts_inside shapes vs ws r t tells (and_second (is_struct_shape s) (fields_fit shapes vs) fv) (and_second (is_struct_shape s) (fields_fit shapes ws) fw)
     (unbracket 40 41 (part_texts shapes vs) (part_texts shapes ws) r t e) in
     (ap Tuple parts.0, parts.1)
-tuple_told s vs tells Null r t fv fw nr nt e = absurd (unlike s (Tuple vs) Null r t fv fw e refl)
-tuple_told s vs tells (Truth y) r t fv fw nr nt e = absurd (unlike s (Tuple vs) (Truth y) r t fv fw e refl)
-tuple_told s vs tells (Number y) r t fv fw nr nt e = absurd (unlike s (Tuple vs) (Number y) r t fv fw e refl)
-tuple_told s vs tells (Bytes y) r t fv fw nr nt e = absurd (unlike s (Tuple vs) (Bytes y) r t fv fw e refl)
-tuple_told s vs tells (Items y) r t fv fw nr nt e = absurd (unlike s (Tuple vs) (Items y) r t fv fw e refl)
+tuple_told s vs tells w r t fv fw nr nt e = absurd (unlike s (Tuple vs) w r t fv fw e refl)
 
 none_told : (s : Shape) (ws : Values) (r t : List ℕ) → all_fit s no_values ≡ true → all_fit s ws ≡ true → after 93 (item_texts s no_values) r ≡ after 93 (item_texts s ws) t → (no_values ≡ ws) × (r ≡ t)
 none_told s no_values r t fv fw e = (refl, ap (drop 1) e)

@@ -1,24 +1,7 @@
 -- The text of a type is in the notation of types, also with white space between its tokens.
-use Rattle.std.proofs.Common.{◌≡◌, ◌≢◌, ◌<◌, ℕ, ◌^◌, Bool, true, false, List, [], ◌∷◌, ◌++◌, length, get_or, refl, ap, sym, ◌∙◌, append_assoc, append-nil, arith, Some}
-use Rattle.std.specs.Prelude.{Option, nat_lt, ◌==◌}
-use Rattle.std.specs.Char.{digit_value}
-use Rattle.std.specs.Fmt.{decimal}
-use Rattle.std.specs.List.{join_with_byte}
-use Rattle.std.specs.Str.Parse.{AllDigits}
-use Rattle.std.proofs.lemmas.Bool.Decides.{nat_tests}
-use Rattle.sel_arrow.proofs.Lists.{and_first, and_second}
-use Rattle.sel_arrow.specs.Shape.{Shape, Shapes, no_shapes, next_shape, of_large_list, of_fixed_size_list, of_struct, of_null, of_boolean, of_int8, of_int16, of_int32, of_int64, of_int128, of_uint8, of_uint16, of_uint32, of_uint64, of_uint128, of_large_binary, of_binary_view, of_utf8_view}
+use Rattle.std.proofs.Common.{◌≡◌, ◌≢◌, ◌<◌, ℕ, ◌^◌, Bool, true, false, List, [], ◌∷◌, ◌++◌, length, get_or, refl, ap, sym, ◌∙◌, append_assoc, append-nil, arith, Some, Option, nat_lt, ◌==◌}
+use Rattle.sel_text.proofs.Common.{digit_value, decimal, join_with_byte, AllDigits, nat_tests, and_first, and_second, Shape, Shapes, no_shapes, next_shape, of_large_list, of_fixed_size_list, of_struct, after_byte, changed, goes_on, innermost, is_some_and, is_type_notation, is_between, type_text, type_texts, widths_written, all_widths_written, Bracket, Child, Fields, Change, Keep, Next, FirstName, Name, Size, SizeDigit, After}
 use Rattle.sel_text.proofs.Ends.{numeral_has}
-use Rattle.sel_text.specs.Notation.{after_byte, changed, goes_on, innermost, is_some_and, is_type_notation}
-use Rattle.sel_text.specs.Tokens.{is_between}
-use Rattle.sel_text.specs.Types.{type_text, type_texts}
-use Rattle.sel_text.specs.Written.{widths_written, all_widths_written}
-use Rattle.sel_text.specs.declared.notation.Bracket.{Bracket}
-use Rattle.sel_text.specs.declared.notation.Bracket.TheVariants.{Child, Fields}
-use Rattle.sel_text.specs.declared.notation.Change.{Change}
-use Rattle.sel_text.specs.declared.notation.Change.TheVariants.{Keep}
-use Rattle.sel_text.specs.declared.notation.Next.{Next}
-use Rattle.sel_text.specs.declared.notation.Next.TheVariants.{FirstName, Name, Size, SizeDigit, After}
 
 -- ---- a text of a type is in the notation
 
@@ -27,7 +10,7 @@ pub step_to : (next after : Next) (change : Change) (brackets : List Bracket) (b
     goes_on next brackets (byte ∷ more) ≡ goes_on after (changed change brackets) more
 step_to next after change brackets byte more told = ap (is_some_and (λ (step : Next × Change). goes_on step.0 (changed step.1 brackets) more)) told
 
-digit_between : (c : ℕ) → digit_value c < 10 → is_between c 48 57 ≡ true
+pub digit_between : (c : ℕ) → digit_value c < 10 → is_between c 48 57 ≡ true
 digit_between c small = grind (arith, nat_tests, small)
 
 further_digit : (top : Option Bracket) (c : ℕ) → digit_value c < 10 → after_byte SizeDigit top c ≡ Some (SizeDigit, Keep)
@@ -60,23 +43,7 @@ size_read (c ∷ ds) more brackets some all zeros = go (c == 48) refl
 -- The first type in a bracket of fields.
 first_name : (s : Shape) (brackets : List Bracket) (more : List ℕ) → goes_on FirstName (Fields ∷ brackets) (type_text s ++ more) ≡ goes_on Name (Fields ∷ brackets) (type_text s ++ more)
 first_name (of_large_list s) brackets more = refl
-first_name (of_fixed_size_list s size) brackets more = refl
-first_name (of_struct ss) brackets more = refl
-first_name of_null brackets more = refl
-first_name of_boolean brackets more = refl
-first_name of_int8 brackets more = refl
-first_name of_int16 brackets more = refl
-first_name of_int32 brackets more = refl
-first_name of_int64 brackets more = refl
-first_name of_int128 brackets more = refl
-first_name of_uint8 brackets more = refl
-first_name of_uint16 brackets more = refl
-first_name of_uint32 brackets more = refl
-first_name of_uint64 brackets more = refl
-first_name of_uint128 brackets more = refl
-first_name of_large_binary brackets more = refl
-first_name of_binary_view brackets more = refl
-first_name of_utf8_view brackets more = refl
+first_name s brackets more = refl
 
 -- Each type after a comma.
 abbrev pub comma_texts : Shapes → List ℕ
@@ -99,21 +66,7 @@ mutual
       ∙ type_read s (and_second (nat_lt size (2 ^ 64)) (widths_written s) written) (Child ∷ brackets) (62 ∷ more)
   type_read (of_struct ss) written brackets more =
       ap (goes_on FirstName (Fields ∷ brackets)) (append_assoc (join_with_byte 44 (type_texts ss)) (62 ∷ []) more) ∙ types_read ss written brackets more
-  type_read of_null written brackets more = refl
-  type_read of_boolean written brackets more = refl
-  type_read of_int8 written brackets more = refl
-  type_read of_int16 written brackets more = refl
-  type_read of_int32 written brackets more = refl
-  type_read of_int64 written brackets more = refl
-  type_read of_int128 written brackets more = refl
-  type_read of_uint8 written brackets more = refl
-  type_read of_uint16 written brackets more = refl
-  type_read of_uint32 written brackets more = refl
-  type_read of_uint64 written brackets more = refl
-  type_read of_uint128 written brackets more = refl
-  type_read of_large_binary written brackets more = refl
-  type_read of_binary_view written brackets more = refl
-  type_read of_utf8_view written brackets more = refl
+  type_read s written brackets more = refl
 
   -- Further types, up to the closing bracket.
   commas_read : (ss : Shapes) → all_widths_written ss ≡ true → (brackets : List Bracket) (more : List ℕ) → goes_on After (Fields ∷ brackets) (comma_texts ss ++ (62 ∷ more)) ≡ goes_on After brackets more

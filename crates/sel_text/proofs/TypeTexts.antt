@@ -1,11 +1,8 @@
 -- The texts of types with children.
-use Rattle.std.proofs.Common.{◌≡◌, ℕ, List, [], ◌∷◌, ◌++◌, map, Vec, Global, refl, ap, sym, ◌∙◌, append_assoc}
-use Rattle.std.specs.Prelude.{codes}
-use Rattle.sel_arrow.specs.DataType.{shape_of}
-use Rattle.sel_arrow.specs.Shape.{shapes_of}
+use Rattle.std.proofs.Common.{◌≡◌, ℕ, List, [], ◌∷◌, ◌++◌, map, Vec, Global, refl, ap, sym, ◌∙◌, append_assoc, codes}
+use Rattle.sel_text.proofs.Common.{shape_of, shapes_of, angled, type_text, type_texts}
 use Rattle.sel_arrow.specs.declared.datatype.ArrowDataType.{ArrowDataType, Struct}
 use Rattle.sel_arrow.proofs.Types.{struct_shape}
-use Rattle.sel_text.specs.Types.{angled, type_text, type_texts}
 
 abbrev pub text_of_type : ArrowDataType → List ℕ
 text_of_type dtype = type_text (shape_of dtype)

@@ -1,10 +1,6 @@
 -- A text begins with the text of at most one type.
-use Rattle.std.proofs.Common.{◌≡◌, ◌≢◌, ℕ, true, true≢false, List, [], ◌∷◌, ◌++◌, get_or, drop, refl, ap, sym, ◌∙◌, arith, append_assoc}
-use Rattle.std.specs.Prelude.{codes, ◌==◌, if◌then◌else◌}
-use Rattle.std.specs.Fmt.{decimal}
-use Rattle.sel_arrow.specs.Shape.{Shape, Shapes, no_shapes, of_null, of_boolean, of_int8, of_int16, of_int32, of_int64, of_int128, of_uint8, of_uint16, of_uint32, of_uint64, of_uint128, of_large_binary, of_binary_view, of_utf8_view, of_large_list, of_fixed_size_list, of_struct}
-use Rattle.sel_text.specs.Steps.{is_plain}
-use Rattle.sel_text.specs.Types.{angled, type_text, type_texts}
+use Rattle.std.proofs.Common.{◌≡◌, ◌≢◌, ℕ, true, true≢false, List, [], ◌∷◌, ◌++◌, get_or, drop, refl, ap, sym, ◌∙◌, arith, append_assoc, codes, ◌==◌, if◌then◌else◌}
+use Rattle.sel_text.proofs.Common.{decimal, Shape, Shapes, no_shapes, of_null, of_boolean, of_int8, of_int16, of_int32, of_int64, of_int128, of_uint8, of_uint16, of_uint32, of_uint64, of_uint128, of_large_binary, of_binary_view, of_utf8_view, of_large_list, of_fixed_size_list, of_struct, is_plain, angled, type_text, type_texts}
 
 -- The type whose text a text begins with, without its children; it is determined by the bytes in
 -- which the names of types differ.
@@ -28,23 +24,7 @@ without_children s = s
 
 begins : (s : Shape) (more : List ℕ) → begun (type_text s ++ more) ≡ without_children s
 begins (of_large_list s) more = refl
-begins (of_fixed_size_list s n) more = refl
-begins (of_struct ss) more = refl
-begins of_null more = refl
-begins of_boolean more = refl
-begins of_int8 more = refl
-begins of_int16 more = refl
-begins of_int32 more = refl
-begins of_int64 more = refl
-begins of_int128 more = refl
-begins of_uint8 more = refl
-begins of_uint16 more = refl
-begins of_uint32 more = refl
-begins of_uint64 more = refl
-begins of_uint128 more = refl
-begins of_large_binary more = refl
-begins of_binary_view more = refl
-begins of_utf8_view more = refl
+begins s more = refl
 
 plain_kept : (s : Shape) → is_plain (without_children s) ≡ true → without_children s ≡ s
 plain_kept (of_large_list s) plain = absurd (true≢false (sym plain))
@@ -65,8 +45,6 @@ plain_told a s text rest more plain one other =
     (same, append_same (type_text a) rest more (sym one ∙ other ∙ ap (λ b. type_text b ++ more) (sym same)))
   where
     plain_of : (a : Shape) → is_plain a ≡ true → is_plain (without_children a) ≡ true
-    plain_of (of_large_list s) plain = plain
-    plain_of (of_fixed_size_list s n) plain = plain
     plain_of (of_struct ss) plain = plain
     plain_of s plain = plain
 
@@ -78,8 +56,6 @@ kind (of_struct ss) = 3
 kind s = 0
 
 kind_kept : (s : Shape) → kind (without_children s) ≡ kind s
-kind_kept (of_large_list s) = refl
-kind_kept (of_fixed_size_list s n) = refl
 kind_kept (of_struct ss) = refl
 kind_kept s = refl
 
@@ -87,12 +63,10 @@ kind_told : (s : Shape) (text more : List ℕ) → text ≡ type_text s ++ more 
 kind_told s text more is = sym (ap (λ l. kind (begun l)) is ∙ ap kind (begins s more) ∙ kind_kept s)
 
 a_block : (s : Shape) → kind s ≡ 2 → (child : Shape) × (size : ℕ) × (s ≡ of_fixed_size_list child size)
-a_block (of_large_list s) is = absurd (omega (arith, is))
 a_block (of_fixed_size_list s n) is = (s, n, refl)
 a_block s is = absurd (omega (arith, is))
 
 a_tuple : (s : Shape) → kind s ≡ 3 → (parts : Shapes) × (s ≡ of_struct parts)
-a_tuple (of_large_list s) is = absurd (omega (arith, is))
 a_tuple (of_struct ss) is = (ss, refl)
 a_tuple s is = absurd (omega (arith, is))
 
@@ -108,13 +82,6 @@ tuples_told s text more is =
     let found = a_tuple s (kind_told s (codes "struct" ++ text) more is) in
     let one = is ∙ ap (λ x. type_text x ++ more) found.1 in
     (found.0, found.1, ap (drop 6) one)
-
--- A text that begins with the name of no type begins with no type.
-pub none_told : (s : Shape) (text more : List ℕ) → ((t : Shape) (rest : List ℕ) → is_plain t ≡ true → text ≢ type_text t ++ rest) → ((rest : List ℕ) → text ≢ codes "list" ++ rest) → ((rest : List ℕ) → text ≢ codes "fixed" ++ rest) → ((rest : List ℕ) → text ≢ codes "struct" ++ rest) → text ≢ type_text s ++ more
-none_told (of_large_list s) text more plain lists blocks tuples is = lists _ is
-none_told (of_fixed_size_list s n) text more plain lists blocks tuples is = blocks _ is
-none_told (of_struct ss) text more plain lists blocks tuples is = tuples _ is
-none_told s text more plain lists blocks tuples is = plain s more refl is
 
 -- Nor does one that begins with `i` or `u` and no bit width.
 pub no_signed : (text : List ℕ) → ((rest : List ℕ) → text ≢ codes "8" ++ rest) → ((rest : List ℕ) → text ≢ codes "16" ++ rest) → ((rest : List ℕ) → text ≢ codes "32" ++ rest) → ((rest : List ℕ) → text ≢ codes "64" ++ rest) → ((rest : List ℕ) → text ≢ codes "128" ++ rest) →

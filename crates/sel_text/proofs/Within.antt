@@ -1,25 +1,8 @@
 -- Rows of a column exceed no limit.
-use Rattle.std.proofs.Common.{◌≡◌, ℕ, ◌+◌, ◌≤◌, ◌<◌, Bool, true, false, true≢false, List, [], ◌∷◌, ◌++◌, length, map, take, get_or, refl, ap, sym, ◌∙◌, arith, subst}
-use Rattle.std.specs.Prelude.{◌||◌, ◌&&◌, ◌==◌, ◌*◌, nat_le, ℤ}
-use Rattle.std.proofs.lemmas.Bool.Decides.{nat_tests}
-use Rattle.sel_arrow.specs.Masked.{covers, is_few}
-use Rattle.sel_arrow.specs.Rows.{rows, row_count, well_formed, all_well_formed}
-use Rattle.sel_arrow.specs.Pieces.{is_rising, last_offset, rows_between}
-use Rattle.sel_arrow.specs.Shape.{Shape, shapes_of, of_null, of_boolean, of_int8, of_int16, of_int32, of_int64, of_int128, of_uint8, of_uint16, of_uint32, of_uint64, of_uint128, of_large_binary, of_binary_view, of_utf8_view, of_large_list, of_fixed_size_list, of_struct}
-use Rattle.sel_arrow.specs.Value.{Value}
-use Rattle.sel_arrow.specs.declared.array_ref.ArrayRef.{ArrayRef}
-use Rattle.sel_arrow.specs.declared.column.Column.{Column}
-use Rattle.sel_arrow.specs.declared.column.Column.TheVariants.{Null as NullColumn, Boolean, Int8, Int16, Int32, Int64, Int128, UInt8, UInt16, UInt32, UInt64, UInt128, LargeBinary, BinaryView, Utf8View, LargeList', FixedSizeList', Struct'}
-use Rattle.sel_arrow.proofs.Lists.{and_first, and_second}
+use Rattle.std.proofs.Common.{◌≡◌, ℕ, ◌+◌, ◌≤◌, ◌<◌, Bool, true, false, true≢false, List, [], ◌∷◌, ◌++◌, length, map, take, get_or, refl, ap, sym, ◌∙◌, arith, subst, ◌||◌, ◌&&◌, ◌==◌, ◌*◌, nat_le, ℤ}
+use Rattle.sel_text.proofs.Common.{nat_tests, covers, is_few, rows, row_count, well_formed, all_well_formed, is_rising, last_offset, rows_between, Shape, shapes_of, of_int8, of_int16, of_int32, of_int64, of_int128, of_uint8, of_uint16, of_uint32, of_uint64, of_uint128, Value, ArrayRef, Column, NullColumn, Boolean, Int8, Int16, Int32, Int64, Int128, UInt8, UInt16, UInt32, UInt64, UInt128, LargeBinary, BinaryView, Utf8View, LargeList', FixedSizeList', Struct', and_first, and_second, length-map, length-take, map_more, max_rows, shape_of, ArrowDataType, fits_number, any_exceeds_limit, exceeds_limit, exceeds_max, part_in, NullSlots}
 use Rattle.sel_arrow.proofs.NestedRows.{length-rows, has_blocks}
-use Rattle.std.proofs.lemmas.List.{length-map, length-take, map_more}
-use Rattle.sel_bits.specs.Limits.{max_buffer_bytes, max_rows}
-use Rattle.sel_arrow.specs.DataType.{shape_of}
-use Rattle.sel_arrow.specs.declared.datatype.ArrowDataType.{ArrowDataType}
 use Rattle.sel_arrow.specs.declared.fixed_size_list.FixedSizeListArray.{FixedSizeListArray}
-use Rattle.sel_text.specs.Fits.{fits_number}
-use Rattle.sel_text.specs.Limits.{any_exceeds_limit, exceeds_limit, exceeds_max, part_in}
-use Rattle.sel_text.specs.declared.build.NullSlots.{NullSlots}
 
 few_of : (n : ℕ) → is_few n ≡ true → n ≤ max_rows
 few_of n e = grind (arith, nat_tests, e)
@@ -64,9 +47,6 @@ rows_few array vs are =
 pub neither : (a b : Bool) → a ≡ false → b ≡ false → (a || b) ≡ false
 neither a b none other = ap (λ x. x || b) none ∙ other
 
-pub bytes_few : (n : ℕ) → n ≤ max_buffer_bytes → exceeds_max n ≡ false
-bytes_few n few = not_past n few
-
 -- Rows of an integer type exceed a limit only if they are too many.
 pub numbers_within : (b : NullSlots) (s : Shape) (z : ℤ) (vs : List Value) → fits_number s z ≡ true → exceeds_max (length vs) ≡ false → exceeds_limit b s vs ≡ false
 numbers_within b of_int8 z vs number few = few
@@ -79,14 +59,7 @@ numbers_within b of_uint16 z vs number few = few
 numbers_within b of_uint32 z vs number few = few
 numbers_within b of_uint64 z vs number few = few
 numbers_within b of_uint128 z vs number few = few
-numbers_within b of_null z vs number few = absurd (true≢false (sym number))
-numbers_within b of_boolean z vs number few = absurd (true≢false (sym number))
-numbers_within b of_large_binary z vs number few = absurd (true≢false (sym number))
-numbers_within b of_binary_view z vs number few = absurd (true≢false (sym number))
-numbers_within b of_utf8_view z vs number few = absurd (true≢false (sym number))
-numbers_within b (of_large_list s) z vs number few = absurd (true≢false (sym number))
-numbers_within b (of_fixed_size_list s size) z vs number few = absurd (true≢false (sym number))
-numbers_within b (of_struct ss) z vs number few = absurd (true≢false (sym number))
+numbers_within b s z vs number few = absurd (true≢false (sym number))
 
 -- The list size of a column of fixed-size lists is not too large.
 pub width_few : (array : FixedSizeListArray) → exceeds_max array.size ≡ false

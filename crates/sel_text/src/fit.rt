@@ -20,6 +20,7 @@ use crate::types::print_dtype;
 use sel_arrow::array_ref::ArrayRef;
 use sel_arrow::column::Column;
 use sel_arrow::datatype::ArrowDataType;
+use sel_arrow::match_numbers;
 use sel_arrow::primitive::PrimitiveArray;
 use sel_bits::buffer::Buffer;
 use sel_bits::native::NativeType;
@@ -108,20 +109,10 @@ pub fn law_rows_fit(column: &Column)
     requires { IsWellFormed column.now }
     ensures { IsTrue (list_all (fits (type_of column.now)) (rows column.now)) }
 {
-    match column {
+    match_numbers! { column, array => law_numbers_fit(array),
         Column::Null(_) => {}
         Column::Boolean(_) => {}
         Column::Utf8View(_) => {}
-        Column::Int8(array) => law_numbers_fit(array),
-        Column::Int16(array) => law_numbers_fit(array),
-        Column::Int32(array) => law_numbers_fit(array),
-        Column::Int64(array) => law_numbers_fit(array),
-        Column::Int128(array) => law_numbers_fit(array),
-        Column::UInt8(array) => law_numbers_fit(array),
-        Column::UInt16(array) => law_numbers_fit(array),
-        Column::UInt32(array) => law_numbers_fit(array),
-        Column::UInt64(array) => law_numbers_fit(array),
-        Column::UInt128(array) => law_numbers_fit(array),
         Column::LargeBinary(array) => law_bytes_fit(array.values.as_slice()),
         Column::BinaryView(array) => law_buffers_fit(array.buffers.as_slice()),
         Column::LargeList { values, .. } => law_rows_fit(values),

@@ -1,19 +1,7 @@
 use Rattle.std.proofs.Common.{◌≡◌, ◌<◌, ◌*◌, ◌||◌, map, length, replicate, true, false, append-nil, refl, sym, ap, subst, ◌∙◌, arith}
-use Rattle.std.specs.List.{flat_map, list_all}
-use Rattle.std.proofs.lemmas.List.{length-map, get_or-map, take_all}
-use Rattle.sel_bits.specs.Limits.{max_rows}
-use Rattle.sel_arrow.specs.DataType.{shape_of}
-use Rattle.sel_arrow.specs.Rows.{rows, row_count, type_of}
-use Rattle.sel_arrow.specs.Shape.{of_null, of_binary_view, of_large_list, of_fixed_size_list, of_struct, shapes_of}
-use Rattle.sel_arrow.specs.Value.{Null}
+use Rattle.sel_text.proofs.Common.{flat_map, list_all, length-map, get_or-map, take_all, max_rows, shape_of, rows, row_count, type_of, of_null, of_binary_view, of_large_list, of_fixed_size_list, of_struct, shapes_of, Null, HasParts, fits, rows_read, rows_repeated, all_placed_bytes, any_exceeds_limit, block_in, entries_in, exceeds_max, part_in, exceeds_limit, ReportsLimit, MakesColumn}
 use Rattle.sel_arrow.proofs.NestedRows.{length-rows}
 use Rattle.sel_arrow.proofs.Types.{struct_shape}
-use Rattle.sel_text.specs.Below.{HasParts}
-use Rattle.sel_text.specs.Fits.{fits}
-use Rattle.sel_text.specs.ItemValues.{rows_read}
-use Rattle.sel_text.specs.RowRuns.{rows_repeated}
-use Rattle.sel_text.specs.Limits.{all_placed_bytes, any_exceeds_limit, block_in, entries_in, exceeds_max, part_in, exceeds_limit}
-use Rattle.sel_text.specs.Steps.{ReportsLimit, MakesColumn}
 use Rattle.sel_text.proofs.Below.{all_below, block_below, blocks_made, blocks_past, list_below, lists_made, lists_past, same_blocks, same_lists}
 use Rattle.sel_text.proofs.Making.{all_nulls, maker_told, or_first, or_second, told_more}
 use Rattle.sel_text.proofs.PartRows.{parts_kept, parts_more, past_at, tuples_made, tuples_past}

@@ -1,13 +1,8 @@
 use Rattle.std.proofs.Common.{◌≡◌, ◌<◌, take, length, ◌∙◌, ap, sym, subst, arith}
-use Rattle.std.proofs.lemmas.List.{length-map}
-use Rattle.sel_text.specs.Below.{offsets_below}
-use Rattle.sel_text.specs.ItemValues.{item_value, rows_read}
-use Rattle.sel_text.specs.Limits.{entries_in}
-use Rattle.sel_text.specs.Steps.{IsMemoryFault}
+use Rattle.sel_text.proofs.Common.{length-map, offsets_below, item_value, rows_read, entries_in, IsMemoryFault, all_items}
 use Rattle.sel_text.proofs.ItemParts.{one_more, all_read}
 use Rattle.sel_text.proofs.Making.{maker_wanting}
 use Rattle.sel_text.proofs.OffsetsBelow.{end_kept, holds_more, no_offsets_fault, offsets_read}
-use Rattle.sel_text.specs.RowRuns.{all_items}
 use Rattle.sel_text.proofs.RowRuns.{count_rows, next_of}
 use Rattle.sel_text.proofs.build.entries_between.Goals as goal
 

@@ -1,10 +1,7 @@
 -- Loop invariant: the entries and the offsets so far, and the rows that are left.
 use Rattle.std.proofs.Common.{◌≡◌, take, drop}
-use Rattle.sel_arrow.specs.Value.{Null}
-use Rattle.sel_text.specs.ItemValues.{item_value, rows_read}
-use Rattle.sel_text.specs.Limits.{entries_in}
+use Rattle.sel_text.proofs.Common.{Null, item_value, rows_read, entries_in, all_items, left}
 use Rattle.sel_text.proofs.OffsetsBelow.{Holds}
-use Rattle.sel_text.specs.RowRuns.{all_items, left}
 use Rattle.sel_text.proofs.build.entries_between.Given as goal
 
 abbrev pub invariant-loop : goal.invariant-loop

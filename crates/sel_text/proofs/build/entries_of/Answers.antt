@@ -1,9 +1,6 @@
 use Rattle.std.proofs.Common.{◌++◌, ap, sym, ◌∙◌, take, replicate, arith}
-use Rattle.std.specs.List.{flat_map}
+use Rattle.sel_text.proofs.Common.{flat_map, item_value, block_in, rows_repeated}
 use Rattle.std.proofs.lemmas.List.Concat.{flat_map-append}
-use Rattle.sel_text.specs.ItemValues.{item_value}
-use Rattle.sel_text.specs.Limits.{block_in}
-use Rattle.sel_text.specs.RowRuns.{rows_repeated}
 use Rattle.sel_text.proofs.RowRuns.{rows_more}
 use Rattle.sel_text.proofs.build.entries_of.Goals as goal
 

@@ -1,10 +1,6 @@
 -- Loop invariant: the entries so far.
 use Rattle.std.proofs.Common.{◌≡◌, take}
-use Rattle.std.specs.List.{flat_map}
-use Rattle.sel_arrow.specs.Value.{Null}
-use Rattle.sel_text.specs.ItemValues.{item_value}
-use Rattle.sel_text.specs.RowRuns.{rows_repeated}
-use Rattle.sel_text.specs.Limits.{block_in}
+use Rattle.sel_text.proofs.Common.{flat_map, Null, item_value, rows_repeated, block_in}
 use Rattle.sel_text.proofs.build.entries_of.Given as goal
 
 abbrev pub invariant-loop-run : goal.invariant-loop-run

@@ -1,6 +1,5 @@
 use Rattle.std.proofs.Common.{ap, ◌∙◌, sym, map}
-use Rattle.sel_text.specs.ItemValues.{item_value}
-use Rattle.sel_text.specs.Limits.{block_in}
+use Rattle.sel_text.proofs.Common.{item_value, block_in}
 use Rattle.sel_text.proofs.ItemParts.{items_listed}
 use Rattle.sel_text.proofs.build.list_of.Goals as goal
 

@@ -1,15 +1,8 @@
-use Rattle.std.proofs.Common.{◌≡◌, ap, sym, subst, ◌∙◌, length, map, arith}
-use Rattle.std.proofs.lemmas.List.{take_all}
-use Rattle.sel_arrow.specs.Masked.{Covers, masked}
-use Rattle.sel_arrow.specs.Value.{Number}
-use Rattle.sel_text.specs.ItemValues.{rows_read}
-use Rattle.sel_text.specs.Steps.{ShowsRows}
+use Rattle.std.proofs.Common.{◌≡◌, ap, sym, subst, ◌∙◌, length, map, arith, take_all, pos}
+use Rattle.sel_text.proofs.Common.{Covers, masked, Number, rows_read, ShowsRows, rows, all_items}
 use Rattle.sel_text.proofs.Refusals.{flat_told, makes_told}
 use Rattle.sel_text.proofs.Shown.{item_fits, rows_count, shown_count, shown_more}
 use Rattle.sel_text.proofs.Within.{numbers_within, rows_few}
-use Rattle.std.specs.Prelude.{pos}
-use Rattle.sel_arrow.specs.Rows.{rows}
-use Rattle.sel_text.specs.RowRuns.{all_items}
 use Rattle.sel_text.proofs.RowRuns.{count_rows, next_of}
 use Rattle.sel_text.proofs.build.numbers.Goals as goal
 

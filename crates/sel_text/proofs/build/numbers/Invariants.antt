@@ -1,11 +1,6 @@
 -- Loop invariant: the numbers of the rows so far, and the rows that are left.
 use Rattle.std.proofs.Common.{◌≡◌, true, map, take, drop}
-use Rattle.std.specs.List.{list_all}
-use Rattle.sel_arrow.specs.Value.{Number}
-use Rattle.sel_text.specs.Fits.{fits}
-use Rattle.sel_text.specs.ItemValues.{rows_read}
-use Rattle.sel_text.specs.Steps.{ShowsRows}
-use Rattle.sel_text.specs.RowRuns.{all_items, left, rows_repeated}
+use Rattle.sel_text.proofs.Common.{list_all, Number, fits, rows_read, ShowsRows, all_items, left, rows_repeated}
 use Rattle.sel_text.proofs.build.numbers.Given as goal
 
 abbrev pub invariant-loop : goal.invariant-loop

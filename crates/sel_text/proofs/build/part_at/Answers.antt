@@ -1,5 +1,4 @@
-use Rattle.std.proofs.Common.{length, ◌∙◌, ap, sym, arith, get_or}
-use Rattle.std.proofs.lemmas.Bool.{ltb-true, ltb-false}
+use Rattle.std.proofs.Common.{length, ◌∙◌, ap, sym, arith, get_or, ltb-true, ltb-false}
 use Rattle.sel_text.proofs.ItemParts.{part_there, part_none}
 use Rattle.sel_text.proofs.build.part_at.Goals as goal
 

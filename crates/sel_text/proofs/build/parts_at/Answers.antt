@@ -1,8 +1,5 @@
 use Rattle.std.proofs.Common.{◌++◌, ap, sym, ◌∙◌, map, take, replicate, arith}
-use Rattle.std.proofs.lemmas.List.{map-append}
-use Rattle.sel_text.specs.ItemValues.{item_value}
-use Rattle.sel_text.specs.Limits.{part_in}
-use Rattle.sel_text.specs.RowRuns.{rows_repeated}
+use Rattle.sel_text.proofs.Common.{map-append, item_value, part_in, rows_repeated}
 use Rattle.sel_text.proofs.RowRuns.{map_same, rows_more, rows_with}
 use Rattle.sel_text.proofs.build.parts_at.Goals as goal
 

@@ -1,9 +1,6 @@
 -- Loop invariant: the field values so far.
 use Rattle.std.proofs.Common.{◌≡◌, map, take}
-use Rattle.sel_arrow.specs.Value.{Null}
-use Rattle.sel_text.specs.ItemValues.{item_value}
-use Rattle.sel_text.specs.RowRuns.{rows_repeated}
-use Rattle.sel_text.specs.Limits.{part_in}
+use Rattle.sel_text.proofs.Common.{Null, item_value, rows_repeated, part_in}
 use Rattle.sel_text.proofs.build.parts_at.Given as goal
 
 abbrev pub invariant-loop-run : goal.invariant-loop-run

@@ -1,18 +1,9 @@
 use Rattle.std.proofs.Common.{◌≡◌, ◌<◌, [], ◌∷◌, ◌++◌, ap, sym, subst, ◌∙◌, length, map, take, arith}
-use Rattle.std.proofs.lemmas.List.{take_all, take_more}
-use Rattle.sel_bits.specs.Faults.{IsFault}
-use Rattle.sel_arrow.specs.Makers.{binary_fault}
-use Rattle.sel_arrow.specs.Masked.{masked}
-use Rattle.sel_arrow.specs.Shape.{of_large_binary}
-use Rattle.sel_arrow.specs.Value.{Bytes}
-use Rattle.sel_text.specs.ItemValues.{rows_read}
-use Rattle.sel_text.specs.Limits.{exceeds_limit}
+use Rattle.sel_text.proofs.Common.{take_all, take_more, IsFault, binary_fault, masked, of_large_binary, Bytes, rows_read, exceeds_limit, rows, all_items}
 use Rattle.sel_text.proofs.OffsetsBelow.{Holds, count_between, end_kept, ends_inside, holds_more, no_offsets_fault, offsets_read, parts_between}
 use Rattle.sel_text.proofs.Refusals.{binary_told, makes_told, memory_told}
 use Rattle.sel_text.proofs.Shown.{bytes_shown, of_binary, rows_count, stored_in}
 use Rattle.sel_text.proofs.Within.{rows_few}
-use Rattle.sel_arrow.specs.Rows.{rows}
-use Rattle.sel_text.specs.RowRuns.{all_items}
 use Rattle.sel_text.proofs.RowRuns.{count_rows, next_of}
 use Rattle.sel_text.proofs.build.pieces.Goals as goal
 

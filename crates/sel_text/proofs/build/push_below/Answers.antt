@@ -1,7 +1,5 @@
 use Rattle.std.proofs.Common.{ap, ◌∙◌, ◌++◌, sym, map}
-use Rattle.std.proofs.lemmas.Result.{on_ok_weaker}
-use Rattle.sel_text.specs.ItemValues.{item_value, rows_read}
-use Rattle.sel_text.specs.Limits.{entries_in}
+use Rattle.sel_text.proofs.Common.{on_ok_weaker, item_value, rows_read, entries_in}
 use Rattle.sel_text.proofs.ItemParts.{items_listed}
 use Rattle.sel_text.proofs.build.push_below.Goals as goal
 

@@ -1,9 +1,5 @@
 use Rattle.std.proofs.Common.{◌++◌, ap, sym, ◌∙◌, replicate}
-use Rattle.std.proofs.lemmas.Result.{on_ok_weaker}
-use Rattle.sel_arrow.specs.Value.{Null}
-use Rattle.sel_text.specs.ItemValues.{item_value}
-use Rattle.sel_text.specs.Limits.{block_in}
-use Rattle.sel_text.specs.RowRuns.{repeated, rows_repeated}
+use Rattle.sel_text.proofs.Common.{on_ok_weaker, Null, item_value, block_in, repeated, rows_repeated}
 use Rattle.sel_text.proofs.RowRuns.{joined_same, null_blocks, rows_with}
 use Rattle.sel_text.proofs.build.push_blocks.Goals as goal
 

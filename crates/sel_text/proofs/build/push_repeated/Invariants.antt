@@ -1,7 +1,6 @@
 -- Loop invariant: the entries so far.
 use Rattle.std.proofs.Common.{◌≡◌, ◌++◌, map}
-use Rattle.sel_text.specs.ItemValues.{item_value}
-use Rattle.sel_text.specs.RowRuns.{repeated, rows_repeated}
+use Rattle.sel_text.proofs.Common.{item_value, repeated, rows_repeated}
 use Rattle.sel_text.proofs.build.push_repeated.Given as goal
 
 abbrev pub invariant-loop : goal.invariant-loop

@@ -1,12 +1,6 @@
 use Rattle.std.proofs.Common.{◌≡◌, true, length, ap, refl, ◌∙◌}
-use Rattle.sel_arrow.specs.Columns.{binview_rows}
-use Rattle.sel_arrow.specs.Shape.{of_utf8_view}
-use Rattle.sel_arrow.specs.Texts.{all_text}
-use Rattle.sel_text.specs.RowRuns.{rows_repeated}
+use Rattle.sel_text.proofs.Common.{binview_rows, of_utf8_view, all_text, rows_repeated, rows, view_rows, all_placed_bytes, exceeds_max}
 use Rattle.sel_text.proofs.Refusals.{makes_told, never_broken, no_text_fault, texts_fit}
-use Rattle.sel_arrow.specs.Rows.{rows}
-use Rattle.sel_arrow.specs.Views.{view_rows}
-use Rattle.sel_text.specs.Limits.{all_placed_bytes, exceeds_max}
 use Rattle.sel_text.proofs.Within.{neither, rows_few}
 use Rattle.sel_text.proofs.build.texts.Goals as goal
 

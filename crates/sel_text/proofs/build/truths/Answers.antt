@@ -1,18 +1,8 @@
 use Rattle.std.proofs.Common.{◌≡◌, [], ◌∷◌, ◌++◌, ap, sym, subst, ◌∙◌, length, map, take, Bor, arith}
-use Rattle.std.proofs.lemmas.List.{length-map, map_more, take_all}
-use Rattle.sel_bits.specs.Bits.{Bits}
-use Rattle.sel_arrow.specs.Masked.{Covers, masked}
-use Rattle.sel_arrow.specs.Shape.{of_boolean}
-use Rattle.sel_arrow.specs.Value.{Truth}
-use Rattle.sel_text.specs.ItemValues.{item_value}
-use Rattle.sel_text.specs.Stored.{bool_stored}
-use Rattle.sel_text.specs.declared.item.Item.{Item}
+use Rattle.sel_text.proofs.Common.{length-map, map_more, take_all, Bits, Covers, masked, of_boolean, Truth, item_value, bool_stored, Item, rows, rows_read, all_items, rows_repeated}
 use Rattle.sel_text.proofs.Shown.{rows_count, truths_shown}
 use Rattle.sel_text.proofs.Refusals.{flat_told, makes_told}
 use Rattle.sel_text.proofs.Within.{rows_few}
-use Rattle.sel_arrow.specs.Rows.{rows}
-use Rattle.sel_text.specs.ItemValues.{rows_read}
-use Rattle.sel_text.specs.RowRuns.{all_items, rows_repeated}
 use Rattle.sel_text.proofs.RowRuns.{count_rows, next_of}
 use Rattle.sel_text.proofs.build.truths.Goals as goal
 

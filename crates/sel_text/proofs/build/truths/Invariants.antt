@@ -1,8 +1,6 @@
 -- Loop invariant: the booleans of the rows so far, and the rows that are left.
 use Rattle.std.proofs.Common.{◌≡◌, map, take, drop}
-use Rattle.sel_text.specs.ItemValues.{item_value}
-use Rattle.sel_text.specs.Stored.{bool_stored}
-use Rattle.sel_text.specs.RowRuns.{all_items, left}
+use Rattle.sel_text.proofs.Common.{item_value, bool_stored, all_items, left}
 use Rattle.sel_text.proofs.build.truths.Given as goal
 
 abbrev pub invariant-loop : goal.invariant-loop

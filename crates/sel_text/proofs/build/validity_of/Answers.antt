@@ -1,13 +1,7 @@
 use Rattle.std.proofs.Common.{◌∷◌, [], ◌++◌, ap, sym, ◌∙◌, take, arith}
 use Rattle.std.specs.Borrow.{Bor}
-use Rattle.std.specs.List.{list_all}
-use Rattle.sel_arrow.specs.Value.{is_valid}
-use Rattle.sel_text.specs.ItemValues.{item_value}
-use Rattle.sel_text.specs.declared.item.Item.{Item}
-use Rattle.std.proofs.lemmas.List.{map_more, take_all}
-use Rattle.sel_bits.specs.Bits.{Bits}
+use Rattle.sel_text.proofs.Common.{list_all, is_valid, item_value, Item, map_more, take_all, Bits, all_items}
 use Rattle.sel_text.proofs.Shown.{items_hidden, items_shown, valid_items}
-use Rattle.sel_text.specs.RowRuns.{all_items}
 use Rattle.sel_text.proofs.RowRuns.{count_rows, next_of}
 use Rattle.sel_text.proofs.build.validity_of.Goals as goal
 

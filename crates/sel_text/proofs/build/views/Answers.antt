@@ -1,18 +1,9 @@
-use Rattle.std.proofs.Common.{◌≡◌, ◌+◌, [], ◌∷◌, ap, sym, subst, refl, ◌∙◌, length, map, arith}
-use Rattle.std.specs.Prelude.{IsTrue}
-use Rattle.std.proofs.lemmas.List.{take_all}
-use Rattle.sel_bits.specs.Faults.{IsFault}
-use Rattle.sel_arrow.specs.Makers.{binview_fault}
-use Rattle.sel_arrow.specs.Masked.{masked}
-use Rattle.sel_arrow.specs.Value.{Bytes}
-use Rattle.sel_arrow.specs.Views.{all_placed, view_rows}
-use Rattle.sel_text.specs.ItemValues.{rows_read}
-use Rattle.sel_text.specs.Limits.{exceeds_max, exceeds_limit}
-use Rattle.sel_text.specs.Stored.{bytes_behind}
+use Rattle.std.proofs.Common.{◌≡◌, ◌+◌, [], ◌∷◌, ap, sym, subst, refl, ◌∙◌, length, map, arith, IsTrue, take_all}
+use Rattle.sel_text.proofs.Common.{IsFault, binview_fault, masked, Bytes, all_placed, view_rows, rows_read, exceeds_max, exceeds_limit, bytes_behind, all_items}
 use Rattle.sel_text.proofs.BuiltViews.{Views, bytes_within, past_bytes, views_count, views_more}
-use Rattle.sel_text.proofs.Refusals.{binview_told, bytes_past, if_made, if_told, told_more, wanting_told}
+use Rattle.sel_text.proofs.Making.{told_more, told_wanting}
+use Rattle.sel_text.proofs.Refusals.{binview_told, bytes_past, if_made, if_told}
 use Rattle.sel_text.proofs.Shown.{bytes_shown, of_views, stored_bytes, stored_count, stored_more}
-use Rattle.sel_text.specs.RowRuns.{all_items}
 use Rattle.sel_text.proofs.RowRuns.{count_rows, next_of}
 use Rattle.sel_text.proofs.build.views.Goals as goal
 
@@ -50,7 +41,7 @@ returns-clause-within c = λ shape view fit.
 pub returns-in_err-validity_of-clause-limit : goal.returns-in_err-validity_of-clause-limit
 returns-in_err-validity_of-clause-limit c =
     if_told c.from_residual-in_err-validity_of.result c.in_err-validity_of.field-0.0 _ c.from_residual-in_err-validity_of.ensures.1
-    (λ shape view fit. wanting_told (exceeds_limit c.args.beneath shape (rows_read (all_items c.args.items.now))) c.in_err-validity_of.field-0.0 c.in_err-validity_of.ensures.memory)
+    (λ shape view fit. told_wanting (exceeds_limit c.args.beneath shape (rows_read (all_items c.args.items.now))) c.in_err-validity_of.field-0.0 c.in_err-validity_of.ensures.memory)
 
 pub returns-in_err-try_new-clause-limit : goal.returns-in_err-try_new-clause-limit
 returns-in_err-try_new-clause-limit c =

@@ -1,7 +1,5 @@
 use Rattle.std.proofs.Common.{ap, sym, subst, ◌∙◌, arith, All}
-use Rattle.sel_arrow.specs.Rows.{type_of}
-use Rattle.sel_text.specs.Cells.{HasCellRow}
-use Rattle.sel_text.specs.Texts.{is_text_shape}
+use Rattle.sel_text.proofs.Common.{type_of, HasCellRow, is_text_shape}
 use Rattle.sel_text.proofs.CellRows.{list_inside, list_covered, list_valid, list_null, list_bounds, list_few, block_covered, block_valid, block_null, block_bounds, block_few, tuple_covered, tuple_valid, tuple_null, tuple_fields, tuple_types}
 use Rattle.sel_text.proofs.cell.cell_at.Goals as goal
 

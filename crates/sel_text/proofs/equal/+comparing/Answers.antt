@@ -1,7 +1,6 @@
 use Rattle.std.proofs.Common.{arith, refl, sym, ap, subst, ◌∙◌, true≢false}
-use Rattle.sel_arrow.specs.Value.{Null}
+use Rattle.sel_text.proofs.Common.{Null, cell_value, CellFits}
 use Rattle.sel_arrow.proofs.Types.{same_lengths, same_at, same_more, same_all}
-use Rattle.sel_text.specs.Cells.{cell_value, CellFits}
 use Rattle.sel_text.proofs.Equalities.{entry_at, part_more, lists_differ, lists_differ_at, lists_same, same_tuples, tuples_same}
 use Rattle.sel_text.proofs.equal.+comparing.Goals as goal
 

@@ -1,8 +1,6 @@
 -- Loop invariant: the rows so far are equal.
-use Rattle.std.proofs.Common.{◌≡◌, take, drop, map}
-use Rattle.sel_arrow.specs.Rows.{rows}
-use Rattle.sel_arrow.specs.Value.{Null}
-use Rattle.std.specs.Prelude.{slice_index_or}
+use Rattle.std.proofs.Common.{◌≡◌, take, drop, map, slice_index_or}
+use Rattle.sel_text.proofs.Common.{rows, Null}
 use Rattle.sel_text.proofs.equal.+comparing.Given as goal
 
 abbrev pub invariant-equal_items-loop-k : goal.invariant-equal_items-loop-k

@@ -1,9 +1,5 @@
-use Rattle.std.proofs.Common.{All, rules, subst, sym}
-use Rattle.sel_arrow.specs.declared.column.Column.{the_lemmas}
-use Rattle.std.proofs.lemmas.List.{take_all}
-use Rattle.std.proofs.lemmas.List.Elements.{All-more}
-use Rattle.sel_arrow.specs.Rows.{IsWellFormed}
-use Rattle.sel_text.specs.Fits.{RowsFit}
+use Rattle.std.proofs.Common.{All, rules, subst, sym, take_all}
+use Rattle.sel_text.proofs.Common.{the_lemmas, All-more, IsWellFormed, RowsFit}
 use Rattle.sel_text.proofs.FittingRows.{null_column_fits, boolean_column_fits, string_column_fits, binary_column_fits, binview_column_fits, list_column_fits, block_column_fits, struct_column_fits, fields_formed}
 use Rattle.sel_text.proofs.fit.+fitting.Goals as goal
 

@@ -1,7 +1,6 @@
 -- Loop invariant: the values so far fit the type.
 use Rattle.std.proofs.Common.{◌≡◌, true, take}
-use Rattle.std.specs.List.{list_all}
-use Rattle.sel_text.specs.Fits.{fits_number}
+use Rattle.sel_text.proofs.Common.{list_all, fits_number}
 use Rattle.sel_text.proofs.fit.law_numbers_fit.Given as goal
 
 abbrev pub invariant-loop-value : goal.invariant-loop-value

@@ -1,7 +1,5 @@
 use Rattle.std.proofs.Common.{◌∙◌, ap, sym}
-use Rattle.sel_arrow.specs.DataType.{shape_of}
-use Rattle.sel_arrow.specs.Rows.{rows, type_of}
-use Rattle.sel_text.specs.Limits.{exceeds_limit}
+use Rattle.sel_text.proofs.Common.{shape_of, rows, type_of, exceeds_limit}
 use Rattle.sel_text.proofs.RoundTrip.{column_fits_again, fit_again, rows_again, rows_told}
 use Rattle.sel_text.proofs.fit.law_round_trip.Goals as goal
 

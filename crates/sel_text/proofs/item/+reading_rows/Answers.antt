@@ -1,15 +1,6 @@
-use Rattle.std.proofs.Common.{◌≡◌, ◌∙◌, ap, sym, subst, arith, ◌+◌, length, drop, map, Result, Ok, Err}
-use Rattle.std.specs.Prelude.{IsErrAnd, MatchResult}
-use Rattle.std.proofs.lemmas.Bool.{eqb-true}
-use Rattle.std.proofs.lemmas.List.{length-map}
-use Rattle.sel_arrow.specs.DataType.{shape_of}
-use Rattle.sel_arrow.specs.Shape.{of_large_list, of_fixed_size_list, of_struct, shapes_of}
-use Rattle.sel_arrow.specs.Value.{listed}
+use Rattle.std.proofs.Common.{◌≡◌, ◌∙◌, ap, sym, subst, arith, ◌+◌, length, drop, map, Result, Ok, Err, IsErrAnd, MatchResult, eqb-true}
+use Rattle.sel_text.proofs.Common.{length-map, shape_of, of_large_list, of_fixed_size_list, of_struct, shapes_of, listed, item_value, IsMemoryFault, Fault, OutOfMemory}
 use Rattle.sel_arrow.proofs.Types.{struct_shape}
-use Rattle.sel_text.specs.ItemValues.{item_value}
-use Rattle.sel_text.specs.Steps.{IsMemoryFault}
-use Rattle.sel_text.specs.declared.text_error.Fault.{Fault}
-use Rattle.sel_text.specs.declared.text_error.Fault.TheVariants.{OutOfMemory}
 use Rattle.sel_text.proofs.Entries.{IsLeft, HasParts, shapes_from, items_opened, no_items, some_items, item_begins, last_item, more_items, less_room, bracket_or_comma, not_ended, parts_opened, part_left, comma_before, part_begins, part_read, parts_end}
 use Rattle.sel_text.specs.declared.item.Item.TheVariants.{Items, Parts}
 use Rattle.sel_text.proofs.ItemRows.{item_more, items_value, parts_value}

@@ -1,11 +1,6 @@
 -- Loop invariants: the text that remains after the rows so far.
 use Rattle.std.proofs.Common.{◌≡◌, ◌≤◌, ◌+◌, ℕ, true, List, ◌++◌, length, map}
-use Rattle.sel_arrow.specs.DataType.{shape_of}
-use Rattle.sel_arrow.specs.Shape.{shapes_of}
-use Rattle.sel_arrow.specs.Value.{Values, listed}
-use Rattle.sel_text.specs.Fits.{all_fit, fields_fit}
-use Rattle.sel_text.specs.ItemValues.{item_value}
-use Rattle.sel_text.specs.Texts.{bracketed, item_texts, parenthesized, part_texts}
+use Rattle.sel_text.proofs.Common.{shape_of, shapes_of, Values, listed, all_fit, fields_fit, item_value, bracketed, item_texts, parenthesized, part_texts}
 use Rattle.sel_text.proofs.Entries.{IsLeft, HasParts, shapes_from}
 use Rattle.sel_text.proofs.item.+reading_rows.Given as goal
 

@@ -1,7 +1,4 @@
-use Rattle.std.specs.Prelude.{◌≡◌, MatchResult}
-use Rattle.sel_arrow.specs.Value.{Number}
-use Rattle.sel_text.specs.ItemValues.{item_value}
-use Rattle.sel_text.specs.Steps.{IsMemoryFault}
+use Rattle.sel_text.proofs.Common.{◌≡◌, MatchResult, Number, item_value, IsMemoryFault}
 use Rattle.sel_text.proofs.Numbers.{minus_told}
 use Rattle.sel_text.proofs.item.read_number.Goals as goal
 

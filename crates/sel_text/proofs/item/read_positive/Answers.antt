@@ -1,6 +1,5 @@
 use Rattle.std.proofs.Common.{◌≡◌, pos, arith, ap, sym, ◌∙◌, true≢false}
-use Rattle.sel_arrow.specs.Value.{Number}
-use Rattle.sel_text.specs.Fits.{fits_number}
+use Rattle.sel_text.proofs.Common.{Number, fits_number}
 use Rattle.sel_text.proofs.Numbers.{digits_told, plain_small}
 use Rattle.sel_text.proofs.item.read_positive.Goals as goal
 

@@ -1,19 +1,9 @@
-use Rattle.std.proofs.Common.{rules, ◌≡◌, ◌∙◌, ◌+◌, ◌<◌, ◌++◌, ◌∷◌, [], ap, sym, subst, lit<, arith, take, map, length, length-take, get_or, true, false}
-use Rattle.std.specs.Prelude.{string_bytes}
-use Rattle.std.proofs.lemmas.List.{map_more, map-append, take_more, length-map, get_or-map}
-use Rattle.std.proofs.lemmas.Result.{IfOk-weaker}
-use Rattle.sel_arrow.specs.DataType.{shape_of}
-use Rattle.sel_arrow.specs.Shape.{of_large_list, of_fixed_size_list, of_struct, shapes_of}
-use Rattle.sel_arrow.specs.Value.{Items, Null, Tuple, values_of}
-use Rattle.sel_arrow.proofs.Lists.{all_more}
+use Rattle.std.proofs.Common.{rules, ◌≡◌, ◌∙◌, ◌+◌, ◌<◌, ◌++◌, ◌∷◌, [], ap, sym, lit<, arith, take, map, length, length-take, get_or, true, false, string_bytes}
+use Rattle.sel_text.proofs.Common.{map_more, map-append, take_more, length-map, get_or-map, IfOk-weaker, shape_of, of_large_list, of_fixed_size_list, of_struct, shapes_of, Items, Null, Tuple, values_of, list_all, fits, fields_fit, item_value, item_shape, parenthesized, part_texts, text_of, value_text}
 use Rattle.sel_arrow.proofs.Types.{struct_shape}
-use Rattle.std.specs.List.{list_all}
-use Rattle.sel_text.specs.Fits.{fits, fields_fit}
-use Rattle.sel_text.specs.ItemValues.{item_value}
-use Rattle.sel_text.specs.Texts.{item_shape, parenthesized, part_texts, text_of, value_text}
 use Rattle.sel_text.proofs.Equalities.{list_back}
 use Rattle.sel_text.proofs.ItemTexts.{list_is, tuple_is, all_fit_is, no_list, other_size, same_size, all_fails, all_grown, fields_fail, other_count, fields_more, parts_more, parts_count}
-use Rattle.sel_text.proofs.Printed.{opened, opened_first, opened_more, opened_closed, list_text}
+use Rattle.sel_text.proofs.Printed.{opened_first, opened_more, list_text}
 use Rattle.sel_text.proofs.item_text.+writing_items.Goals as goal
 use Rattle.sel_text.proofs.item_text.+writing_items.Goals.{push_list-then-k-gt0+in_ok-push-2, push_list-else-k-gt0, push_fields-then-k-gt0+in_ok-push-2, push_fields-else-k-gt0}
 

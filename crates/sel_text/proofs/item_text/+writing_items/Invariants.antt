@@ -1,13 +1,6 @@
 -- Loop invariants: the rows so far fit, and their texts are appended.
-use Rattle.std.proofs.Common.{◌≡◌, true, map, take}
-use Rattle.std.specs.Prelude.{string_bytes}
-use Rattle.std.specs.List.{list_all}
-use Rattle.sel_arrow.specs.DataType.{shape_of}
-use Rattle.sel_arrow.specs.Shape.{shapes_of}
-use Rattle.sel_arrow.specs.Value.{values_of}
-use Rattle.sel_text.specs.Fits.{fits, fields_fit}
-use Rattle.sel_text.specs.ItemValues.{item_value}
-use Rattle.sel_text.specs.Texts.{part_texts, value_text}
+use Rattle.std.proofs.Common.{◌≡◌, true, map, take, string_bytes}
+use Rattle.sel_text.proofs.Common.{list_all, shape_of, shapes_of, values_of, fits, fields_fit, item_value, part_texts, value_text}
 use Rattle.sel_text.proofs.Printed.{opened}
 use Rattle.sel_text.proofs.item_text.+writing_items.Given as goal
 

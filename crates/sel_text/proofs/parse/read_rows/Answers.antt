@@ -1,13 +1,5 @@
-use Rattle.std.proofs.Common.{Ok, [], ap, sym, ◌∙◌, length, map, true≢false, subst}
-use Rattle.std.specs.Prelude.{◌==◌}
-use Rattle.std.specs.List.{list_all}
-use Rattle.sel_arrow.specs.DataType.{shape_of}
-use Rattle.sel_arrow.specs.Value.{values_of}
-use Rattle.sel_text.specs.Fits.{fits}
-use Rattle.sel_text.specs.ItemValues.{item_value}
-use Rattle.sel_text.specs.Limits.{exceeds_limit}
-use Rattle.sel_text.specs.Steps.{MakesColumn, ReportsLimit}
-use Rattle.sel_text.specs.Texts.{text_of}
+use Rattle.std.proofs.Common.{Ok, [], ap, sym, ◌∙◌, length, map, true≢false, subst, ◌==◌}
+use Rattle.sel_text.proofs.Common.{list_all, shape_of, values_of, fits, item_value, exceeds_limit, MakesColumn, ReportsLimit, text_of}
 use Rattle.sel_text.proofs.Equalities.{list_back}
 use Rattle.sel_text.proofs.Making.{told_wanting}
 use Rattle.sel_text.proofs.Rows.{rows_text}

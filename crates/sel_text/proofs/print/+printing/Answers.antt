@@ -1,12 +1,5 @@
-use Rattle.std.proofs.Common.{◌∙◌, ◌++◌, ◌≡◌, ap, lit<, arith, take, map, length, length-take}
-use Rattle.std.specs.Prelude.{string_bytes}
-use Rattle.std.specs.List.{slice_range}
-use Rattle.std.proofs.lemmas.List.{map_more, length-map, take_all}
-use Rattle.std.proofs.lemmas.Result.{on_ok_weaker}
-use Rattle.sel_arrow.specs.Rows.{rows, type_of}
-use Rattle.sel_arrow.specs.Value.{Null}
-use Rattle.sel_text.specs.Texts.{value_text}
-use Rattle.sel_text.specs.Steps.{field_text}
+use Rattle.std.proofs.Common.{◌∙◌, ◌++◌, ◌≡◌, ap, lit<, arith, take, map, length, length-take, string_bytes}
+use Rattle.sel_text.proofs.Common.{slice_range, map_more, length-map, take_all, on_ok_weaker, rows, type_of, Null, value_text, field_text}
 use Rattle.sel_text.proofs.Printed.{opened, opened_first, opened_more, opened_closed, texts_more, texts_count, none_so_far, list_text, tuple_text}
 use Rattle.sel_text.proofs.print.+printing.Goals as goal
 use Rattle.sel_text.proofs.print.+printing.Goals.{push_items-then-i-start+in_ok-push-2, push_items-else-i-start, push_parts-then-k-gt0+in_ok-push-2, push_parts-else-k-gt0}

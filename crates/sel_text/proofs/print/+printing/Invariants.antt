@@ -1,10 +1,6 @@
 -- Loop invariants: the parts that are appended to the text so far.
-use Rattle.std.proofs.Common.{◌≡◌, map, take}
-use Rattle.std.specs.Prelude.{string_bytes}
-use Rattle.std.specs.List.{slice_range}
-use Rattle.sel_arrow.specs.Rows.{rows, type_of}
-use Rattle.sel_text.specs.Texts.{value_text}
-use Rattle.sel_text.specs.Steps.{field_text}
+use Rattle.std.proofs.Common.{◌≡◌, map, take, string_bytes}
+use Rattle.sel_text.proofs.Common.{slice_range, rows, type_of, value_text, field_text}
 use Rattle.sel_text.proofs.Printed.{opened}
 use Rattle.sel_text.proofs.print.+printing.Given as goal
 

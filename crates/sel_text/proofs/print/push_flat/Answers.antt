@@ -1,10 +1,5 @@
-use Rattle.std.proofs.Common.{◌≡◌, ◌∙◌, ◌++◌, ℕ, List, true, false, ap, sym, subst}
-use Rattle.std.specs.Prelude.{if◌then◌else◌}
-use Rattle.std.proofs.lemmas.Result.{on_ok_weaker}
-use Rattle.sel_arrow.specs.Shape.{Shape}
-use Rattle.sel_arrow.specs.Value.{Value, Bytes}
-use Rattle.sel_text.specs.Cells.{cell_value, CellKind}
-use Rattle.sel_text.specs.Texts.{hex_text, quoted, is_text_shape, value_text}
+use Rattle.std.proofs.Common.{◌≡◌, ◌∙◌, ◌++◌, ℕ, List, true, false, ap, sym, subst, if◌then◌else◌}
+use Rattle.sel_text.proofs.Common.{on_ok_weaker, Shape, Value, Bytes, cell_value, CellKind, hex_text, quoted, is_text_shape, value_text}
 use Rattle.sel_text.proofs.print.push_flat.Goals as goal
 
 hex_put : (shape : Shape) (value : Value) (bytes old new : List ℕ) → is_text_shape shape ≡ false → value ≡ Bytes bytes →

@@ -1,8 +1,6 @@
 -- Loop invariant: the bytes so far are appended to the text.
-use Rattle.std.proofs.Common.{◌≡◌, ◌++◌, take}
-use Rattle.std.specs.Prelude.{string_bytes, codes}
-use Rattle.std.specs.List.{flat_map}
-use Rattle.sel_text.specs.Texts.{hex_byte}
+use Rattle.std.proofs.Common.{◌≡◌, ◌++◌, take, string_bytes, codes}
+use Rattle.sel_text.proofs.Common.{flat_map, hex_byte}
 use Rattle.sel_text.proofs.print.push_hex.Given as goal
 
 abbrev pub invariant-loop-byte : goal.invariant-loop-byte

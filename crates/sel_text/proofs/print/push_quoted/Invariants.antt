@@ -1,9 +1,7 @@
 -- Loop invariant: the characters so far are appended to the text.
-use Rattle.std.proofs.Common.{◌≡◌, ◌∷◌, ◌++◌}
-use Rattle.std.specs.Prelude.{string_bytes}
-use Rattle.std.specs.List.{flat_map}
+use Rattle.std.proofs.Common.{◌≡◌, ◌∷◌, ◌++◌, string_bytes}
+use Rattle.sel_text.proofs.Common.{flat_map, escaped}
 use Rattle.std.proofs.Math.Utf8.{encodes}
-use Rattle.sel_text.specs.Texts.{escaped}
 use Rattle.sel_text.proofs.print.push_quoted.Given as goal
 
 abbrev pub invariant-loop-letter : goal.invariant-loop-letter

@@ -1,11 +1,6 @@
 use Rattle.std.proofs.Common.{◌≡◌, ◌<◌, ◌≤◌, ◌++◌, ◌∷◌, [], true, length, drop, map, ap, sym, refl, subst, arith, ◌∙◌, length-append}
-use Rattle.std.proofs.lemmas.List.{map-append}
-use Rattle.sel_arrow.specs.DataType.{shape_of}
-use Rattle.sel_arrow.specs.Shape.{next_shape, shapes_of, of_struct, of_fixed_size_list}
+use Rattle.sel_text.proofs.Common.{map-append, shape_of, next_shape, shapes_of, of_struct, of_fixed_size_list, angled, type_texts, deepest, depth, widths_written, all_widths_written}
 use Rattle.sel_arrow.proofs.Types.{shape_of-Struct}
-use Rattle.sel_text.specs.Types.{angled, type_texts}
-use Rattle.sel_arrow.specs.Depth.{deepest, depth}
-use Rattle.sel_text.specs.Written.{widths_written, all_widths_written}
 use Rattle.sel_text.proofs.Commas.{commas, comma_more, comma_last}
 use Rattle.sel_text.proofs.Fields.{IsLeft, behind_first, all_left, last_read, more_left, bracket_or_comma, left_narrow, no_types, some_types, block_narrow, field_told, grown_depth, grown_narrow}
 use Rattle.sel_text.proofs.TypeTexts.{text_of_type, struct_behind}

@@ -1,11 +1,7 @@
 -- Termination: each level takes at most three calls. Loop invariant: the types so far, each
 -- followed by a comma.
 use Rattle.std.proofs.Common.{◌≡◌, ◌+◌, ◌*◌, ◌<◌, ◌≤◌, true, ℕ, List, ◌∷◌, ◌++◌, length, map}
-use Rattle.sel_arrow.specs.DataType.{shape_of}
-use Rattle.sel_arrow.specs.Shape.{Shape, Shapes, next_shape, shapes_of}
-use Rattle.sel_text.specs.Types.{angled, type_texts}
-use Rattle.sel_arrow.specs.Depth.{deepest}
-use Rattle.sel_text.specs.Written.{all_widths_written}
+use Rattle.sel_text.proofs.Common.{shape_of, Shape, Shapes, next_shape, shapes_of, angled, type_texts, deepest, all_widths_written}
 use Rattle.sel_text.proofs.Fields.{IsLeft}
 use Rattle.sel_text.proofs.Commas.{commas}
 use Rattle.sel_text.proofs.TypeTexts.{text_of_type}

@@ -1,6 +1,5 @@
 use Rattle.std.proofs.Common.{◌≡◌, ◌<◌, ◌^◌, ap, sym, ◌∙◌, ◌++◌, arith}
-use Rattle.std.specs.Fmt.{decimal}
-use Rattle.std.specs.Str.Parse.{digits_value}
+use Rattle.sel_text.proofs.Common.{decimal, digits_value}
 use Rattle.sel_text.proofs.Decimals.{printed_back}
 use Rattle.sel_text.proofs.Ends.{numbers_told, value_told}
 use Rattle.sel_text.proofs.read_type.read_size.Goals as goal

@@ -1,5 +1,4 @@
-use Rattle.std.proofs.Common.{[], ap, sym, ◌∙◌, length, true≢false, append-nil}
-use Rattle.std.specs.Prelude.{◌==◌}
+use Rattle.std.proofs.Common.{[], ap, sym, ◌∙◌, length, true≢false, append-nil, ◌==◌}
 use Rattle.sel_text.specs.Types.{type_text}
 use Rattle.sel_text.proofs.read_type.read_whole.Goals as goal
 

@@ -1,5 +1,4 @@
-use Rattle.std.specs.Prelude.{nat_lt}
-use Rattle.sel_text.specs.Texts.{hex_byte}
+use Rattle.sel_text.proofs.Common.{nat_lt, hex_byte}
 use Rattle.sel_text.proofs.Quotes.{none_left, has_next, one_read, hex_unquoted, below_256}
 use Rattle.sel_text.proofs.strings.read_hex.Goals as goal
 

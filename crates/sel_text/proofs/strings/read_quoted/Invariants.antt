@@ -1,7 +1,6 @@
 -- Loop invariant: the text that remains after the bytes so far.
 use Rattle.std.proofs.Common.{◌≡◌, ℕ, true, List, ◌∷◌, ◌++◌, length}
-use Rattle.std.specs.List.{flat_map}
-use Rattle.sel_text.specs.Texts.{escaped}
+use Rattle.sel_text.proofs.Common.{flat_map, escaped}
 use Rattle.sel_text.proofs.Quotes.{IsLeft}
 use Rattle.sel_text.proofs.strings.read_quoted.Given as goal
 

@@ -1,8 +1,5 @@
-use Rattle.std.proofs.Common.{◌∙◌, ◌++◌, ◌≡◌, ap, lit<, arith, take, map, length, length-take, append_assoc}
-use Rattle.std.specs.Prelude.{string_bytes, codes}
-use Rattle.sel_text.specs.Types.{angled}
-use Rattle.std.proofs.lemmas.List.{map_more, length-map, take_all}
-use Rattle.std.proofs.lemmas.Result.{on_ok_weaker}
+use Rattle.std.proofs.Common.{◌∙◌, ◌++◌, ◌≡◌, ap, lit<, arith, take, map, length, length-take, append_assoc, string_bytes, codes}
+use Rattle.sel_text.proofs.Common.{angled, map_more, length-map, take_all, on_ok_weaker}
 use Rattle.sel_text.proofs.Printed.{opened, opened_first, opened_more, opened_closed}
 use Rattle.sel_text.proofs.TypeTexts.{text_of_type, struct_text}
 use Rattle.sel_text.proofs.types.+naming.Goals as goal

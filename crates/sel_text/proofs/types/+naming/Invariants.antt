@@ -1,8 +1,6 @@
 -- Loop invariant: the parts that are appended to the text so far.
-use Rattle.std.proofs.Common.{◌≡◌, map, take}
-use Rattle.std.specs.Prelude.{string_bytes}
-use Rattle.sel_arrow.specs.DataType.{shape_of}
-use Rattle.sel_text.specs.Types.{type_text}
+use Rattle.std.proofs.Common.{◌≡◌, map, take, string_bytes}
+use Rattle.sel_text.proofs.Common.{shape_of, type_text}
 use Rattle.sel_text.proofs.Printed.{opened}
 use Rattle.sel_text.proofs.types.+naming.Given as goal
 
