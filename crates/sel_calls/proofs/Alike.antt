@@ -1,14 +1,8 @@
 -- Several columns of one type.
 use Rattle.std.proofs.Common.{◌≡◌, ℕ, ◌<◌, All, Some, List, [], ◌∷◌, length, map, refl, sym, ap, ◌∙◌, get_or}
-use Rattle.std.specs.List.{slice_get}
+use Rattle.sel_calls.proofs.Common.{slice_get, length-map, get_or-map, All-map, type_of, Shape, ArrayRef, first_shape, AreAlike}
 use Rattle.std.proofs.lemmas.Option.{get_or_from_slice_get}
-use Rattle.std.proofs.lemmas.List.{length-map, get_or-map}
-use Rattle.std.proofs.lemmas.List.Elements.{All-map}
-use Rattle.sel_arrow.specs.Rows.{type_of}
-use Rattle.sel_arrow.specs.Shape.{Shape}
-use Rattle.sel_arrow.specs.declared.array_ref.ArrayRef.{ArrayRef}
 use Rattle.sel_gather.specs.Sources.{first_type}
-use Rattle.sel_calls.specs.Several.{first_shape, AreAlike}
 
 pub first_same : (arrays : List ArrayRef) → first_shape (map (λ array. type_of array.column) arrays) ≡ first_type (map (λ array. array.column) arrays)
 first_same [] = refl

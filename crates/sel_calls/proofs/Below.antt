@@ -1,11 +1,8 @@
 -- Children and fields of a well-formed column are well-formed.
 use Rattle.std.proofs.Common.{◌≡◌, ℕ, ◌<◌, true, length, arith, Option, Vec, Global, sym, ap, ◌∙◌}
-use Rattle.sel_arrow.specs.Rows.{type_of, well_formed, all_well_formed}
-use Rattle.sel_bits.specs.Bits.{Bits}
-use Rattle.sel_arrow.specs.declared.column.Column.{Column, Struct}
+use Rattle.sel_calls.proofs.Common.{type_of, well_formed, all_well_formed, Bits, Column, Struct, child, is_listing, field, fields_of}
 use Rattle.sel_arrow.specs.declared.column.Column.TheVariants.{Struct'}
 use Rattle.sel_arrow.proofs.NestedRows.{struct_covered}
-use Rattle.sel_gather.specs.Children.{child, is_listing, field, fields_of}
 use Rattle.sel_gather.proofs.Below.{child_formed}
 use Rattle.sel_gather.proofs.FieldsOf.{fields_of-Struct}
 use Rattle.sel_gather.proofs.TupleRows.{formed_in}

@@ -1,10 +1,7 @@
 -- The numbers of rows of cloned columns are those of the handles' columns.
 use Rattle.std.proofs.Common.{◌≡◌, List, [], ◌∷◌, length, map, refl, ap, sym, ◌∙◌, None, Some}
-use Rattle.sel_arrow.specs.Rows.{rows, row_count}
-use Rattle.sel_arrow.specs.declared.array_ref.ArrayRef.{ArrayRef}
+use Rattle.sel_calls.proofs.Common.{rows, row_count, ArrayRef, Held, held_count, held_rows}
 use Rattle.sel_arrow.proofs.NestedRows.{length-rows}
-use Rattle.sel_ffi.specs.Held.{Held}
-use Rattle.sel_ffi.specs.Status.{held_count, held_rows}
 use Rattle.sel_ffi.specs.declared.handle.Handle.{Handle}
 
 count_of : (held : Held) → held_count held ≡ length (held_rows held)

@@ -1,22 +1,9 @@
 -- Children and elements of a column have at most as many levels as the column.
-use Rattle.std.proofs.Common.{◌≤◌, ◌<◌, ℕ, zero, suc, List, [], ◌∷◌, length, map, All, arith}
-use Rattle.std.specs.Prelude.{slice_index_or}
-use Rattle.sel_arrow.specs.Depth.{depth, deepest}
-use Rattle.sel_arrow.specs.Rows.{type_of, types_of_each}
-use Rattle.sel_arrow.specs.Shape.{Shape, of_large_list, of_fixed_size_list}
-use Rattle.sel_arrow.specs.declared.column.Column.{Column, Row_of-Column, end_of-Column, more_of-Column}
-use Rattle.sel_arrow.specs.declared.column.Column.TheVariants.{LargeList', FixedSizeList', Struct'}
-use Rattle.sel_calls.specs.Several.{first_shape}
-use Rattle.sel_calls.specs.Types.{entry_type}
-use Rattle.sel_gather.specs.Children.{child, columns_in, field, fields_of}
-
-pub entry_depth : (s : Shape) → depth (entry_type s) ≤ depth s
-entry_depth (of_large_list s) = omega arith
-entry_depth (of_fixed_size_list s n) = omega arith
-entry_depth s = omega arith
+use Rattle.std.proofs.Common.{◌≤◌, ◌<◌, ℕ, zero, suc, List, [], ◌∷◌, length, map, All, arith, slice_index_or}
+use Rattle.sel_calls.proofs.Common.{depth, deepest, type_of, types_of_each, Shape, Column, Row_of-Column, end_of-Column, more_of-Column, first_shape, child, columns_in, field, fields_of}
+use Rattle.sel_arrow.specs.declared.column.Column.TheVariants.{FixedSizeList', Struct'}
 
 pub child_depth : (c : Column) → depth (type_of (child c)) ≤ depth (type_of c)
-child_depth (LargeList' offsets p values validity) = omega arith
 child_depth (FixedSizeList' size len p values validity) = omega arith
 child_depth c = omega arith
 

@@ -1,15 +1,9 @@
 -- Results of element access for fixed-size lists, by the rows and the type of the lists.
 use Rattle.std.proofs.Common.{◌≡◌, ℕ, ℤ, Bool, false, length, List, [], ◌∷◌, inl, inr, replicate, w64, FitsSigned, to_z, of_z, ap, sym, ◌∙◌}
-use Rattle.std.proofs.lemmas.Int.{to_z-of_z}
-use Rattle.sel_bits.specs.declared.faults.PolarsError.{PolarsError}
+use Rattle.sel_calls.proofs.Common.{to_z-of_z, PolarsError, block_column, rows, Value, Number, error_status, list_index_out_of_bounds, ReturnsFirst, IsOkOrLimit}
 use Rattle.sel_bits.specs.declared.faults.PolarsError.TheVariants.{OutOfMemory, SizeLimit, ComputeError}
-use Rattle.sel_arrow.specs.NestedArrays.{block_column}
-use Rattle.sel_arrow.specs.Rows.{rows}
-use Rattle.sel_arrow.specs.Value.{Value, Number}
 use Rattle.sel_arrow.specs.declared.fixed_size_list.FixedSizeListArray.{FixedSizeListArray}
 use Rattle.sel_arrow.proofs.NestedRows.{length-rows}
-use Rattle.sel_ffi.specs.Status.{error_status, list_index_out_of_bounds, ReturnsFirst}
-use Rattle.sel_calls.specs.Returns.{IsOkOrLimit}
 use Rattle.polars_compute.specs.Entries.{at_each, is_get_error, exceeded_entries, IsGetError}
 
 -- The index that the call passes for each list is the given index for each row.

@@ -1,5 +1,6 @@
 pub mod Alike
 pub mod Below
+pub mod Common
 pub mod Counts
 pub mod Depths
 pub mod Entries

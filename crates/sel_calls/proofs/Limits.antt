@@ -1,11 +1,7 @@
 -- The statuses of calls.
 use Rattle.std.proofs.Common.{◌≡◌, ℕ, zero, suc, ◌≤◌, List, [], ◌∷◌, inl, inr, refl, arith}
-use Rattle.sel_bits.specs.declared.faults.Limit.{Limit}
-use Rattle.sel_bits.specs.declared.faults.PolarsError.{PolarsError}
+use Rattle.sel_calls.proofs.Common.{Limit, PolarsError, error_status, ok, out_of_memory, ReturnsFirst, IsOkOrLimit, ExceedsNone, IsLimitOrMemory}
 use Rattle.sel_bits.specs.declared.faults.PolarsError.TheVariants.{OutOfMemory, SizeLimit, ComputeError}
-use Rattle.sel_ffi.specs.Status.{error_status, ok, out_of_memory, ReturnsFirst}
-use Rattle.sel_calls.specs.Returns.{IsOkOrLimit}
-use Rattle.sel_gather.specs.Need.{ExceedsNone, IsLimitOrMemory}
 
 -- A kernel's error is out of memory or an exceeded limit, so a call returns its status after all checks.
 pub returns-error : (status : ℕ) (Past : Limit → Type 0) (fault : PolarsError) → status ≡ error_status fault → IsLimitOrMemory Past fault → ReturnsFirst status [] (IsOkOrLimit status Past)

@@ -1,17 +1,7 @@
 -- Properties of the column that a call stores in a handle, and of its status.
 use Rattle.std.proofs.Common.{◌≡◌, ◌≢◌, ◌≤◌, ℕ, Bool, true, false, ◌==◌, cond, arith, None, Some, List, [], ◌∷◌, inl, inr, refl, subst, sym}
 use Rattle.std.specs.Option.{IsSomeAnd}
-use Rattle.std.proofs.lemmas.Bool.Decides.{nat_tests}
-use Rattle.sel_bits.specs.declared.faults.Limit.{Limit}
-use Rattle.sel_bits.specs.declared.faults.PolarsError.{PolarsError}
-use Rattle.sel_arrow.specs.Rows.{rows, type_of}
-use Rattle.sel_arrow.specs.Shape.{Shape}
-use Rattle.sel_arrow.specs.Value.{Value}
-use Rattle.sel_arrow.specs.declared.array_ref.ArrayRef.{ArrayRef}
-use Rattle.sel_ffi.specs.Held.{Held}
-use Rattle.sel_ffi.specs.Status.{error_status, ok, out_of_memory, Makes, ReturnsFirst}
-use Rattle.sel_gather.specs.Need.{ExceedsNone, IsLimitOrMemory}
-use Rattle.sel_calls.specs.Returns.{IsOkOrLimit, ReturnsColumn}
+use Rattle.sel_calls.proofs.Common.{nat_tests, Limit, PolarsError, rows, type_of, Shape, Value, ArrayRef, Held, error_status, ok, out_of_memory, Makes, ReturnsFirst, ExceedsNone, IsLimitOrMemory, IsOkOrLimit, ReturnsColumn}
 use Rattle.sel_calls.proofs.Limits.{returns-error, returns-put}
 
 either : (b : Bool) (before after : Held) (column : ArrayRef) (Holds : ArrayRef → Type 0) → cond b (IsSomeAnd after (λ made. made ≡ column)) (after ≡ before) → Holds column → cond b (IsSomeAnd after Holds) (after ≡ before)

@@ -1,15 +1,8 @@
 -- The row references in words.
 use Rattle.std.proofs.Common.{◌≡◌, ℕ, zero, suc, ◌+◌, ◌<◌, All, List, [], ◌∷◌, length, map, get_or, refl, ap, ◌∙◌, arith, false, Option, Some, None}
 use Rattle.std.specs.Option.{is_some, ForSome}
-use Rattle.std.proofs.lemmas.List.Elements.{All-nil, All-cons}
-use Rattle.sel_bits.specs.Bits.{Bits}
-use Rattle.sel_arrow.specs.Masked.{Covers, valid_at}
-use Rattle.sel_arrow.specs.Rows.{rows}
-use Rattle.sel_arrow.specs.declared.array_ref.ArrayRef.{ArrayRef}
-use Rattle.sel_gather.specs.Picks.{PickFits}
+use Rattle.sel_calls.proofs.Common.{All-nil, All-cons, Bits, Covers, valid_at, rows, ArrayRef, PickFits, HasRow, pick_in, picks_from}
 use Rattle.sel_gather.specs.Plans.{IsPicked}
-use Rattle.sel_calls.specs.PickLengths.{HasRow}
-use Rattle.sel_calls.specs.Several.{pick_in, picks_from}
 use Rattle.sel_calls.specs.declared.several.PickWords.{PickWords}
 
 at : (i k : ℕ) (validity : Option Bits) (words : List PickWords) (w : PickWords) (d : Option (ℕ × ℕ)) → k < length words → get_or (picks_from i validity words) k d ≡ pick_in (get_or words k w) (valid_at validity (i + k))

@@ -1,23 +1,10 @@
 -- The limits that rows exceed with the columns of handles, and with clones of them.
 use Rattle.std.proofs.Common.{◌≡◌, ◌<◌, inl, inr, ℕ, suc, ◌⊎◌, All, Bool, None, Some, IsTrue, List, [], ◌∷◌, ◌++◌, length, map, refl, sym, ap, subst, ◌∙◌, arith}
-use Rattle.std.specs.List.{flat_map}
-use Rattle.std.proofs.lemmas.List.Elements.{All-map}
+use Rattle.sel_calls.proofs.Common.{flat_map, All-map, Limit, rows, type_of, buffers_held, Shape, Value, Null, ArrayRef, Column, Held, held_buffer_lists, held_columns, held_rows, held_type, length_mismatch, type_mismatch, index_out_of_bounds, HasColumn, exceeded_taken, pick, PickFits, IsOkOrLimit, first_shape, picks_conditions, picks_in, AreAlike, CollectsRows, FlattensColumns}
 use Rattle.std.proofs.lemmas.Simd.{map-map}
-use Rattle.sel_bits.specs.declared.faults.Limit.{Limit}
-use Rattle.sel_arrow.specs.Rows.{rows, type_of, buffers_held}
-use Rattle.sel_arrow.specs.Shape.{Shape}
-use Rattle.sel_arrow.specs.Value.{Value, Null}
-use Rattle.sel_arrow.specs.declared.array_ref.ArrayRef.{ArrayRef}
-use Rattle.sel_arrow.specs.declared.column.Column.{Column}
 use Rattle.sel_ternary.proofs.SameNeeds.{AllLike, likes, same_needs, turned}
 use Rattle.polars_compute.specs.Flatten.{flatten, parts_fit, exceeded_flattened}
-use Rattle.sel_ffi.specs.Held.{Held}
-use Rattle.sel_ffi.specs.Status.{held_buffer_lists, held_columns, held_rows, held_type, length_mismatch, type_mismatch, index_out_of_bounds, HasColumn}
 use Rattle.sel_ffi.specs.declared.column_ref.ColumnRef.{ColumnRef}
-use Rattle.sel_gather.specs.Need.{exceeded_taken}
-use Rattle.sel_gather.specs.Picks.{pick, PickFits}
-use Rattle.sel_calls.specs.Returns.{IsOkOrLimit}
-use Rattle.sel_calls.specs.Several.{first_shape, picks_conditions, picks_in, AreAlike, CollectsRows, FlattensColumns}
 use Rattle.sel_calls.specs.declared.several.PickWords.{PickWords}
 use Rattle.sel_calls.proofs.Alike.{alike_columns, first_same}
 use Rattle.sel_calls.proofs.Limits.{limit-more, returns-more}

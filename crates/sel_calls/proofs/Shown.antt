@@ -1,14 +1,8 @@
 -- Lists that represent the same numbers give the same rows.
 use Rattle.std.proofs.Common.{◌≡◌, ℕ, ℤ, Bool, List, [], ◌∷◌, length, map, Option, Result, Ok, Err, IfOk, refl, ap, sym, ◌∙◌}
-use Rattle.std.proofs.lemmas.List.{length-map}
-use Rattle.sel_bits.specs.Bits.{Bits}
-use Rattle.sel_arrow.specs.Masked.{masked, number_rows, Covers}
+use Rattle.sel_calls.proofs.Common.{length-map, Bits, masked, number_rows, Covers, Value, Number, rows, ArrayRef, validity_in}
 use Rattle.sel_arrow.proofs.Rows.{length-number_rows}
 use Rattle.sel_ffi.proofs.Shown.{shows-numbers}
-use Rattle.sel_arrow.specs.Value.{Value, Number}
-use Rattle.sel_arrow.specs.Rows.{rows}
-use Rattle.sel_arrow.specs.declared.array_ref.ArrayRef.{ArrayRef}
-use Rattle.sel_ffi.specs.Inputs.{validity_in}
 use Rattle.sel_ffi.specs.Outputs.{Shows, numbers}
 
 same-numbers : {A B : Type 0} → (f : A → ℤ) (g : B → ℤ) (xs : List A) (ys : List B) → map f xs ≡ map g ys → map (λ x. Number (f x)) xs ≡ map (λ y. Number (g y)) ys

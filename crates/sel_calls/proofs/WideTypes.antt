@@ -1,13 +1,8 @@
 -- Rows of a type whose list sizes are too large exceed a limit.
 use Rattle.std.proofs.Common.{◌≡◌, ℕ, ◌+◌, Bool, true, false, true≢false, ◌||◌, ◌&&◌, List, length, map, refl, arith}
-use Rattle.std.specs.List.{flat_map}
-use Rattle.std.proofs.lemmas.Bool.Decides.{nat_tests}
-use Rattle.sel_arrow.specs.DataType.{shape_of, shapes_of_each, widths_fit, all_widths_fit}
-use Rattle.sel_arrow.specs.Masked.{is_few}
-use Rattle.sel_arrow.specs.Value.{Value}
+use Rattle.sel_calls.proofs.Common.{flat_map, nat_tests, shape_of, shapes_of_each, widths_fit, all_widths_fit, is_few, Value, any_exceeds_limit, block_in, entries_in, exceeds_max, part_in, exceeds_limit}
 use Rattle.sel_arrow.specs.declared.datatype.ArrowDataType.{ArrowDataType, Row_of-ArrowDataType, end_of-ArrowDataType, more_of-ArrowDataType}
 use Rattle.sel_arrow.specs.declared.datatype.ArrowDataType.TheVariants.{LargeList', FixedSizeList', Struct'}
-use Rattle.sel_text.specs.Limits.{any_exceeds_limit, block_in, entries_in, exceeds_max, part_in, exceeds_limit}
 use Rattle.sel_text.specs.declared.build.NullSlots.{NullSlots}
 use Rattle.sel_text.proofs.Making.{or_first, or_second}
 

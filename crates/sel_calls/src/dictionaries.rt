@@ -39,7 +39,7 @@ pub fn propagate_columns_into(
     let Ok(copy) = keys.try_clone(alloc) else {
         return OUT_OF_MEMORY;
     };
-    let at = match copy.into_primitive::<u32>() {
+    let at = match copy.into_array::<PrimitiveArray<u32>>() {
         Ok(at) => at,
         Err(back) => {
             drop(back);
@@ -63,7 +63,7 @@ fn propagate_keys_into(
     let Ok(copy) = values.try_clone(alloc) else {
         return OUT_OF_MEMORY;
     };
-    let texts = match copy.into_utf8view() {
+    let texts = match copy.into_array::<Utf8ViewArray>() {
         Ok(texts) => texts,
         Err(back) => {
             drop(back);

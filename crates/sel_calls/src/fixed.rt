@@ -35,7 +35,7 @@ pub fn fixed_get_into(
     let Ok(copy) = column.try_clone(alloc) else {
         return OUT_OF_MEMORY;
     };
-    let lists = match copy.into_fixed_size_list() {
+    let lists = match copy.into_array::<FixedSizeListArray>() {
         Ok(lists) => lists,
         Err(back) => {
             drop(back);

@@ -41,7 +41,7 @@ pub fn fixed_get_each_into(
     let Ok(copy) = indices.try_clone(alloc) else {
         return OUT_OF_MEMORY;
     };
-    let at = match copy.into_primitive::<i64>() {
+    let at = match copy.into_array::<PrimitiveArray<i64>>() {
         Ok(at) => at,
         Err(back) => {
             drop(back);
@@ -67,7 +67,7 @@ fn entries_of_column_into(
     let Ok(copy) = column.try_clone(alloc) else {
         return OUT_OF_MEMORY;
     };
-    let lists = match copy.into_fixed_size_list() {
+    let lists = match copy.into_array::<FixedSizeListArray>() {
         Ok(lists) => lists,
         Err(back) => {
             drop(back);

@@ -26,7 +26,7 @@ pub fn sublist_get_into(alloc: Global, column: &ArrayRef, index: i64, out: &mut 
     let Ok(copy) = column.try_clone(alloc) else {
         return OUT_OF_MEMORY;
     };
-    let lists = match copy.into_list() {
+    let lists = match copy.into_array::<ListArray<i64>>() {
         Ok(lists) => lists,
         Err(back) => {
             drop(back);

@@ -9,7 +9,7 @@ ghost use Rattle.sel_ffi.specs.Outputs.{CopiesNumbers};
 
 use sel_arrow::array::Array;
 use sel_arrow::array_ref::ArrayRef;
-use sel_arrow::primitive::ArrowPrimitive;
+use sel_arrow::primitive::{ArrowPrimitive, PrimitiveArray};
 use sel_arrow::validity::MOST_ROWS;
 use sel_bits::faults::{MakeError, Malformed, PolarsResult};
 use sel_ffi::inputs::numbers_of;
@@ -151,7 +151,7 @@ pub fn wides_into<T: InWords>(alloc: Global, column: &ArrayRef, out: &mut [Wide]
     let Ok(copy) = column.try_clone(alloc) else {
         return OUT_OF_MEMORY;
     };
-    let array = match copy.into_primitive::<T>() {
+    let array = match copy.into_array::<PrimitiveArray<T>>() {
         Ok(array) => array,
         Err(back) => {
             drop(back);

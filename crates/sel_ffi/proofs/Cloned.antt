@@ -1,20 +1,8 @@
 -- Invariants of cloning the columns of handles one by one; each handle keeps its column.
 use Rattle.std.proofs.Common.{◌≡◌, ℕ, zero, suc, ◌+◌, ◌<◌, List, [], ◌∷◌, ◌++◌, length, take, get_or, map, refl, ap, sym, ◌∙◌, arith, add-one}
 use Rattle.std.proofs.Common.{All, None, subst}
-use Rattle.std.proofs.lemmas.List.{length-map}
+use Rattle.sel_ffi.proofs.Common.{length-map, HasColumn, Handle}
 use Rattle.sel_ffi.specs.Held.{Held}
-use Rattle.sel_ffi.specs.Status.{HasColumn}
-use Rattle.sel_ffi.specs.declared.handle.Handle.{Handle}
-
--- Handles with the same columns have the same properties.
-pub told : {B : Type 0} → (F : Held → B) (hs xs : List Handle) → map (λ h. h.tree) hs ≡ map (λ h. h.tree) xs → map (λ h. F h.tree) hs ≡ map (λ h. F h.tree) xs
-told F [] [] same = refl
-told F [] (x ∷ xs) same = absurd (cc same)
-told F (h ∷ hs) [] same = absurd (cc same)
-told F (h ∷ hs) (x ∷ xs) same =
-    let first : h.tree ≡ x.tree = cc same in
-    let rest : map (λ h. h.tree) hs ≡ map (λ h. h.tree) xs = cc same in
-    cc (ap F first, told F hs xs rest)
 
 -- The handle at i has the same column.
 pub told_at : (hs xs : List Handle) (i : ℕ) (d : Handle) → map (λ h. h.tree) hs ≡ map (λ h. h.tree) xs → (get_or hs i d).tree ≡ (get_or xs i d).tree

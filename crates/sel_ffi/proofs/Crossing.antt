@@ -15,11 +15,9 @@ use denote.Struct.Owning.{Owning, row, shape, fields, to}
 use Rattle.std.proofs.Crossing as heap
 use Rattle.std.proofs.alloc.Global.TheSendSync as allocator
 use Rattle.std.specs.declared.alloc.Global.{Global}
-use Rattle.std.specs.declared.option.Option.{Option}
-use Rattle.std.specs.declared.option.Option.TheVariants.{None, Some}
+use Rattle.sel_ffi.proofs.Common.{Option, None, Some, held_owns, ref_owns}
 use Rattle.std_alloc.proofs.SendSync.{quiet, lies, seen}
 use Rattle.sel_arrow.proofs.Crossing.{array_send, array_sync}
-use Rattle.sel_ffi.specs.Owned.{held_owns, ref_owns}
 use Rattle.sel_ffi.specs.contracts.shared_column.SharedColumn.{the_row}
 use Rattle.sel_ffi.proofs.HandleSteps.{Owner, Row, form}
 use Rattle.sel_ffi.proofs.RefSteps.{ref_struct}

@@ -1,9 +1,6 @@
 -- The nesting depth of several types, and lists that loops extend.
 use Rattle.std.proofs.Common.{◌≡◌, ◌≤◌, ℕ, zero, suc, ◌+◌, ◌<◌, List, [], ◌∷◌, ◌++◌, length, take, get_or, map, refl, ap, sym, ◌∙◌, arith, All}
-use Rattle.std.proofs.lemmas.List.{take_more}
-use Rattle.std.proofs.lemmas.List.{map-append}
-use Rattle.sel_arrow.specs.Depth.{depth, deepest}
-use Rattle.sel_arrow.specs.Shape.{Shape, shapes_of}
+use Rattle.sel_ffi.proofs.Common.{take_more, map-append, depth, deepest, Shape, shapes_of}
 
 -- If no type has more than n levels, neither has the deepest.
 pub all_within : {A : Type 0} (f : A → Shape) (xs : List A) (n : ℕ) → All (λ x. depth (f x) ≤ n) xs → deepest (shapes_of (map f xs)) ≤ n

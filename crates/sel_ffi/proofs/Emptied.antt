@@ -1,8 +1,6 @@
 -- Emptying handles one by one.
-use Rattle.std.proofs.Common.{◌≡◌, ℕ, ◌+◌, ◌<◌, List, [], ◌∷◌, ◌++◌, length, take, set, sym, All, None, subst}
-use Rattle.std.proofs.lemmas.List.{take_more_set}
-use Rattle.std.proofs.lemmas.List.Elements.{All-nil, All-cons, All-append}
-use Rattle.sel_ffi.specs.declared.handle.Handle.{Handle}
+use Rattle.std.proofs.Common.{◌≡◌, ℕ, ◌+◌, ◌<◌, List, [], ◌∷◌, length, take, set, sym, All, None, subst}
+use Rattle.sel_ffi.proofs.Common.{take_more_set, All-nil, All-cons, All-append, Handle}
 
 -- If handle i is emptied, the first i + 1 are empty.
 pub emptied_more : (hs : List Handle) (i : ℕ) (h : Handle) → i < length hs → h.tree ≡ None → All (λ (x : Handle). x.tree ≡ None) (take i hs) → All (λ (x : Handle). x.tree ≡ None) (take (i + 1) (set hs i h))

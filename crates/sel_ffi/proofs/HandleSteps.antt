@@ -30,12 +30,10 @@ use Rattle.std.specs.contracts.alloc.Global as heap
 use Rattle.std.specs.declared.alloc.Global.{Global}
 use Rattle.std.proofs.alloc.Global.TheLaws as heap_laws
 use Rattle.std.specs.contracts.impls.GlobalAllocator.TheImpl.{ghosts}
-use Rattle.std.specs.declared.option.Option.{Option}
-use Rattle.std.specs.declared.option.Option.TheVariants.{None, Some}
+use Rattle.sel_ffi.proofs.Common.{Option, None, Some, held_owns}
 use Rattle.std.proofs.GlobalToken.{dealloc_token-Testable}
 use Rattle.std_alloc.specs.Box.Ownership.{box_owns}
 use Rattle.std_alloc.proofs.ResultValues.{and_tt}
-use Rattle.sel_ffi.specs.Owned.{held_owns}
 use Rattle.sel_ffi.specs.contracts.loose.Loose as loose
 use Rattle.sel_ffi.proofs.LooseSteps.{both}
 

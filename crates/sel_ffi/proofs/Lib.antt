@@ -1,4 +1,5 @@
 pub mod Cloned
+pub mod Common
 pub mod Crossing
 pub mod Depths
 pub mod Emptied

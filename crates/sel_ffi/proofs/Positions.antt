@@ -1,6 +1,5 @@
 -- Offsets as natural numbers.
-use Rattle.std.proofs.Common.{◌≡◌, ℕ, ℤ, List, [], ◌∷◌, map, refl, ap, sym, ◌∙◌}
-use Rattle.std.specs.Prelude.{pos}
+use Rattle.std.proofs.Common.{◌≡◌, ℕ, ℤ, List, [], ◌∷◌, map, refl, ap, sym, ◌∙◌, pos}
 use Rattle.sel_bits.specs.Signs.{magnitude}
 use Rattle.sel_ffi.specs.Inputs.{positions}
 

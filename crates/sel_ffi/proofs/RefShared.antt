@@ -22,7 +22,7 @@ use denote.Struct.Owning.{Owning, row}
 use denote.Triple.Clauses.{Ended, Clauses, closing}
 use denote.Triple.Spec.{Meets}
 use Rattle.std.specs.Option.{MatchOption}
-use Rattle.std.specs.declared.option.Option.{Option}
+use Rattle.sel_ffi.proofs.Common.{Option, None, Some, ref_owns}
 use Rattle.std.specs.contracts.option.Option as option
 use contract.Monad.{fact, fact_i}
 use denote.Exit.{yes}
@@ -39,8 +39,6 @@ use Rattle.core.proofs.alloc.Shapes.{after}
 use Rattle.core.proofs.cell.Inside.{Good}
 use Rattle.core.proofs.option.Made.{Some-of, none_of}
 use Rattle.std.proofs.raw_atomic.Walks.{proved, leaves}
-use Rattle.std.specs.declared.option.Option.TheVariants.{None, Some}
-use Rattle.sel_ffi.specs.Owned.{ref_owns}
 use Rattle.sel_ffi.proofs.RefSteps.{Data, ref_struct, word, told, opened, parted, either_ref}
 
 -- The body of the other branch: the address as a `&`, in `Some`.

@@ -38,9 +38,7 @@ use denote.Struct.Owning.{Owning, row, wholly}
 use denote.Struct.OwningLaws.{part_in, part_out}
 use denote.Struct.Struct.{Struct, exits_of}
 use denote.Param.Laws.{Laws}
-use Rattle.std.specs.declared.option.Option.{Option}
-use Rattle.std.specs.declared.option.Option.TheVariants.{None, Some}
-use Rattle.sel_ffi.specs.Owned.{lasts, ref_owns}
+use Rattle.sel_ffi.proofs.Common.{Option, None, Some, lasts, ref_owns}
 
 abbrev pub word : Ptr → Val
 word p = vstruct (vcons (ptr_val p) vnil)

@@ -1,15 +1,10 @@
 -- The statuses of makers over a clone are those over the column itself.
-use Rattle.std.proofs.Common.{◌≡◌, ◌≤◌, ℕ, List, map, length, Option, None, Some, sym, ap, ◌∙◌, subst, arith}
-use Rattle.sel_arrow.specs.Rows.{rows, row_count}
-use Rattle.sel_arrow.specs.Value.{Value}
-use Rattle.sel_arrow.specs.declared.array_ref.ArrayRef.{ArrayRef}
-use Rattle.sel_arrow.specs.declared.column.Column.{Column}
+use Rattle.std.proofs.Common.{◌≡◌, ◌≤◌, ℕ, length, Option, None, Some, sym, ap, ◌∙◌, subst, arith}
+use Rattle.sel_ffi.proofs.Common.{rows, row_count, Column, IsRuleOrMemory, make_status, out_of_memory, ReportsExactly}
 use Rattle.sel_arrow.proofs.NestedRows.{length-rows}
 use Rattle.sel_bits.specs.declared.faults.Malformed.{Malformed}
 use Rattle.sel_bits.specs.declared.faults.MakeError.{MakeError}
 use Rattle.sel_bits.specs.declared.faults.MakeError.TheVariants as make
-use Rattle.sel_ffi.specs.Inputs.{IsRuleOrMemory}
-use Rattle.sel_ffi.specs.Status.{make_status, out_of_memory, ReportsExactly}
 
 -- Columns with equal rows are equally long.
 pub same_count : (c d : Column) → rows c ≡ rows d → row_count c ≡ row_count d

@@ -3,10 +3,9 @@ use Rattle.std.proofs.Common.{◌≡◌, ℤ, Bool, true, List, [], ◌∷◌, l
 use Rattle.sel_bits.specs.Bits.{Bits}
 use Rattle.sel_arrow.specs.Masked.{hidden, masked, Covers, number_rows, bool_rows}
 use Rattle.sel_arrow.specs.Value.{Value, Number, Truth, validities}
-use Rattle.sel_arrow.specs.Shape.{of_int8}
+use Rattle.sel_ffi.proofs.Common.{of_int8, length-map}
 use Rattle.sel_arrow.proofs.Rows.{tells-masked, length-number_rows, length-truth_rows}
 use Rattle.sel_ffi.specs.Outputs.{Shows, numbers, bools}
-use Rattle.std.proofs.lemmas.List.{length-map}
 
 hidden-all : (vs : List Value) → hidden (replicate (length vs) true) vs ≡ vs
 hidden-all [] = refl

@@ -2,10 +2,7 @@
 use Rattle.std.proofs.Common.{◌≡◌, List, [], ◌∷◌, map, refl, ap, ◌∙◌}
 use Rattle.sel_arrow.specs.Nested.{struct_rows}
 use Rattle.sel_arrow.specs.NestedArrays.{struct_column}
-use Rattle.sel_arrow.specs.Rows.{rows, type_of}
-use Rattle.sel_arrow.specs.Shape.{of_struct, shapes_of}
-use Rattle.sel_arrow.specs.declared.array_ref.ArrayRef.{ArrayRef}
-use Rattle.sel_arrow.specs.declared.column.Column.{Column}
+use Rattle.sel_ffi.proofs.Common.{rows, type_of, of_struct, shapes_of, ArrayRef, Column}
 use Rattle.sel_arrow.specs.declared.structure.StructArray.{StructArray}
 use Rattle.sel_arrow.proofs.Trees.{rows-Struct}
 use Rattle.sel_arrow.proofs.Types.{type_of-Struct}

@@ -8,7 +8,8 @@ ghost use Rattle.sel_ffi.specs.Status.{ok, length_mismatch, ReturnsFirst};
 use crate::status::{LENGTH_MISMATCH, OK, OUT_OF_MEMORY, UNSUPPORTED_TYPE};
 use sel_arrow::array::Array;
 use sel_arrow::array_ref::ArrayRef;
-use sel_arrow::primitive::ArrowPrimitive;
+use sel_arrow::boolean::BooleanArray;
+use sel_arrow::primitive::{ArrowPrimitive, PrimitiveArray};
 use sel_bits::bitmap::Bitmap;
 use sel_bits::faults::PolarsResult;
 use sel_bits::packer::BitPacker;
@@ -25,7 +26,7 @@ pub fn numbers_into<T: ArrowPrimitive>(alloc: Global, column: &ArrayRef, out: &m
     let Ok(copy) = column.try_clone(alloc) else {
         return OUT_OF_MEMORY;
     };
-    match copy.into_primitive::<T>() {
+    match copy.into_array::<PrimitiveArray<T>>() {
         Ok(array) => {
             let values = array.values().as_slice();
             if out.len() != values.len() {
@@ -110,7 +111,7 @@ pub fn booleans_into(alloc: Global, column: &ArrayRef, out: &mut [u8]) -> u32
     let Ok(copy) = column.try_clone(alloc) else {
         return OUT_OF_MEMORY;
     };
-    match copy.into_boolean() {
+    match copy.into_array::<BooleanArray>() {
         Ok(array) => bits_into(alloc, array.values(), out),
         Err(back) => {
             drop(back);

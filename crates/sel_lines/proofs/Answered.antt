@@ -1,14 +1,8 @@
 -- The output for a line, by the checks in the code.
-use Rattle.std.proofs.Common.{◌≡◌, ℕ, ◌≤◌, ◌<◌, Bool, true, false, cond, List, length, Option, Some, None, arith, refl, ap, sym, ◌∙◌}
-use Rattle.std.specs.Prelude.{Decides, IsUtf8, ◌==◌, ◌&&◌, nat_le}
-use Rattle.std.specs.List.{slice_split}
+use Rattle.std.proofs.Common.{◌≡◌, ℕ, ◌≤◌, ◌<◌, Bool, true, false, cond, List, length, Option, Some, None, arith, refl, ap, sym, ◌∙◌, Decides, IsUtf8, ◌==◌, ◌&&◌, nat_le, leb-true, le-leb}
+use Rattle.sel_lines.proofs.Common.{slice_split, Decides-and, take_rows, all_within, Value, column_text}
 use Rattle.std.specs.Str.{is_utf8}
-use Rattle.std.proofs.lemmas.Bool.Decides.{Decides-and}
-use Rattle.std.proofs.lemmas.Bool.{leb-true, le-leb}
 use Rattle.std.proofs.lemmas.Str.{IsUtf8-from_is_utf8, is_utf8-from_IsUtf8}
-use Rattle.polars_compute.specs.Pick.{take_rows, all_within}
-use Rattle.sel_arrow.specs.Value.{Value}
-use Rattle.sel_lines.specs.Columns.{column_text}
 use Rattle.sel_lines.specs.Take.{take_answer}
 use Rattle.sel_lines.specs.Commands.{answer_of_words, answer_of_line}
 

@@ -1,10 +1,6 @@
 -- If-then-else of rows.
-use Rattle.std.proofs.Common.{◌≡◌, ℕ, zero, suc, ◌<◌, Bool, true, false, cond, List, [], ◌∷◌, length, map, Option, Some, None, arith, refl, ap, sym, ◌∙◌}
-use Rattle.std.specs.Prelude.{Decides, ◌==◌, ◌&&◌, count_by}
-use Rattle.std.proofs.lemmas.Bool.Decides.{Decides-and, Decides-eqb}
-use Rattle.sel_bits.specs.Bits.{Bits}
-use Rattle.sel_arrow.specs.Masked.{bool_rows}
-use Rattle.sel_arrow.specs.Value.{Value, Truth, is_null}
+use Rattle.std.proofs.Common.{◌≡◌, ℕ, zero, suc, ◌<◌, Bool, true, false, cond, List, [], ◌∷◌, length, map, Option, Some, None, arith, refl, ap, sym, ◌∙◌, Decides, ◌==◌, ◌&&◌, count_by}
+use Rattle.sel_lines.proofs.Common.{Decides-and, Decides-eqb, Bits, bool_rows, Value, Truth, is_null}
 use Rattle.sel_ternary.specs.Choose.{choose}
 use Rattle.polars_compute.specs.Select.{effective_mask}
 use Rattle.polars_compute.proofs.Dictionaries.{bare_rows}

@@ -1,22 +1,8 @@
 -- A line has no more lists, and no more items in them, than a column can have.
-use Rattle.std.proofs.Common.{◌≡◌, ◌≤◌, ◌<◌, ℕ, zero, suc, pos, ◌+◌, ◌*◌, Bool, true, false, cond, List, [], ◌∷◌, length, length-append, map, replicate, Option, Some, None, arith, refl, ap, sym, ◌∙◌}
-use Rattle.std.specs.Prelude.{codes, bytes_eq, ◌==◌, nat_le, option_map, option_and_then, count_by}
-use Rattle.std.specs.List.{slice_split, onto_first}
-use Rattle.std.proofs.lemmas.Bool.Decides.{nat_tests}
-use Rattle.std.proofs.lemmas.List.{length-map, length-replicate}
+use Rattle.std.proofs.Common.{◌≡◌, ◌≤◌, ◌<◌, ℕ, zero, suc, pos, ◌+◌, ◌*◌, Bool, true, false, cond, List, [], ◌∷◌, length, length-append, map, replicate, Option, Some, None, arith, refl, ap, sym, ◌∙◌, codes, bytes_eq, ◌==◌, nat_le, option_map, option_and_then}
+use Rattle.sel_lines.proofs.Common.{slice_split, onto_first, nat_tests, length-map, length-replicate, count_by-le-length, max_rows, list_of, Value, Null, Number, Items, items_in, joined_items, blocks_of, block_of, is_block, parsed_width, standing_for, all_some, column_of, row_of, AreFew, list_of_word, lists_of, rows_of_bars, number_of, size_of}
 use Rattle.std.proofs.lemmas.List.Splits.{length-slice_split}
-use Rattle.std.proofs.lemmas.List.Sums.{count_by-le-length}
-use Rattle.sel_bits.specs.Limits.{max_rows}
-use Rattle.sel_arrow.specs.Nested.{list_of}
-use Rattle.sel_arrow.specs.Value.{Value, Null, Number, Items, Truth, Bytes, Tuple}
-use Rattle.sel_gather.specs.Children.{items_in, joined_items}
 use Rattle.sel_gather.proofs.ItemRuns.{listed_values}
-use Rattle.sel_lines.specs.Blocks.{blocks_of, block_of, is_block, parsed_width}
-use Rattle.sel_lines.specs.BlockParts.{standing_for}
-use Rattle.sel_lines.specs.Columns.{all_some, column_of, row_of}
-use Rattle.sel_lines.specs.ListParts.{AreFew}
-use Rattle.sel_lines.specs.Lists.{list_of_word, lists_of, rows_of_bars}
-use Rattle.sel_lines.specs.Numbers.{number_of, size_of}
 
 -- ---- the parts of a word, each with its separator
 
@@ -155,10 +141,7 @@ block_count w word row narrow is = read_as (list_of_word word) refl is
     by_row : (r : Value) → list_of_word word ≡ Some r → length (items_in w (standing_for w r)) ≤ 17 * suc (length word)
     by_row Null at = omega (arith, narrow, ap length (listed_values (replicate w (Number (pos 0)))), length-replicate w (Number (pos 0)))
     by_row (Items items) at = let count = row_count word (Items items) at in omega (arith, count)
-    by_row (Truth b) at = omega (arith, narrow, length-replicate w Null)
-    by_row (Number z) at = omega (arith, narrow, length-replicate w Null)
-    by_row (Bytes bytes) at = omega (arith, narrow, length-replicate w Null)
-    by_row (Tuple parts) at = omega (arith, narrow, length-replicate w Null)
+    by_row r at = omega (arith, narrow, length-replicate w Null)
 
     fits : (r : Value) → list_of_word word ≡ Some r → (b : Bool) → cond b (Some r) None ≡ Some row → length (items_in w (standing_for w row)) ≤ 17 * suc (length word)
     fits r at true made =

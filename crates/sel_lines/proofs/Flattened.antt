@@ -1,29 +1,13 @@
 -- The horizontal flatten of integer columns.
-use Rattle.std.proofs.Common.{◌≡◌, ℕ, ◌<◌, ◌≤◌, Bool, true, false, cond, Bor, List, [], ◌∷◌, length, map, Option, Some, None, arith, refl, ap, sym, subst, ◌∙◌}
-use Rattle.std.specs.Prelude.{Decides, IsTrue, ◌&&◌, nat_lt, option_map, codes}
-use Rattle.std.specs.List.{All}
-use Rattle.std.proofs.lemmas.Bool.Decides.{Decides-and, Decides-ltb}
-use Rattle.std.proofs.lemmas.List.{length-map}
-use Rattle.std.proofs.lemmas.List.Elements.{All-nil, All-head, All-weaker}
-use Rattle.sel_bits.specs.Limits.{max_rows}
+use Rattle.std.proofs.Common.{◌≡◌, ℕ, ◌<◌, ◌≤◌, Bool, true, false, cond, Bor, List, [], ◌∷◌, length, map, Option, Some, None, arith, refl, ap, sym, subst, ◌∙◌, Decides, IsTrue, ◌&&◌, nat_lt, option_map, codes}
+use Rattle.sel_lines.proofs.Common.{All, Decides-and, Decides-ltb, length-map, All-nil, All-head, All-weaker, max_rows, OutOfMemory, SizeLimit, ComputeError, rows, type_of, primitive_rows, of_int64, Value, ArrayRef, IsLimitOrMemory, ExceedsRows, all_some, column_text, flatten_part, side_by_side, flat_text, flatten_answer, flatten_words, read_part, size_of}
 use mathlib.Core.Logic.{⊎_elim}
 use Rattle.sel_bits.specs.declared.faults.Limit.{Limit}
-use Rattle.sel_bits.specs.declared.faults.Limit.TheVariants.{Rows, Bytes, Buffers, ViewBytes}
+use Rattle.sel_bits.specs.declared.faults.Limit.TheVariants.{Rows}
 use Rattle.sel_bits.specs.declared.faults.PolarsError.{PolarsError}
-use Rattle.sel_bits.specs.declared.faults.PolarsError.TheVariants.{OutOfMemory, SizeLimit, ComputeError}
-use Rattle.sel_arrow.specs.Rows.{rows, type_of}
-use Rattle.sel_arrow.specs.Columns.{primitive_rows}
-use Rattle.sel_arrow.specs.Shape.{of_int64}
-use Rattle.sel_arrow.specs.Value.{Value}
-use Rattle.sel_arrow.specs.declared.array_ref.ArrayRef.{ArrayRef}
 use Rattle.sel_arrow.specs.declared.column.Column.{Column}
-use Rattle.sel_gather.specs.Need.{IsLimitOrMemory, ExceedsRows}
 use Rattle.sel_gather.specs.Sources.{first_type}
 use Rattle.polars_compute.specs.Flatten.{flatten, parts_fit, exceeded_flattened}
-use Rattle.sel_lines.specs.Columns.{all_some, column_text}
-use Rattle.sel_lines.specs.Flatten.{flatten_part, side_by_side, flat_text, flatten_answer, flatten_words}
-use Rattle.sel_lines.specs.Parts.{read_part}
-use Rattle.sel_lines.specs.Numbers.{size_of}
 use Rattle.sel_lines.specs.Words.{if_both}
 use Rattle.sel_lines.specs.declared.flatten.Part.{Part}
 use Rattle.sel_lines.proofs.Answered.{none_unless}
@@ -55,9 +39,7 @@ numbers_alike (a ∷ arrays) numbers =
 
 many_rows : (n : ℕ) (limit : Limit) → ExceedsRows n limit → max_rows < n
 many_rows n Rows past = past
-many_rows n Bytes past = absurd past
-many_rows n Buffers past = absurd past
-many_rows n ViewBytes past = absurd past
+many_rows n limit past = absurd past
 
 many_numbers : (h : ℕ) (columns : List Column) (vs : List Value) (limit : Limit) → exceeded_flattened h of_int64 columns vs limit → max_rows < length vs
 many_numbers h columns vs limit past = ⊎_elim (λ many. many_rows (length vs) limit many) (λ never. absurd never) past.1

@@ -1,13 +1,11 @@
 -- The result of `from_str_radix` for a word of lower-case hexadecimal digits.
-use Rattle.std.proofs.Common.{◌≡◌, ◌≢◌, ℕ, ◌^◌, ◌≤◌, ◌<◌, true, false, cond, List, [], ◌∷◌, length, get_or, Some, None, Result, Ok, Err, arith, ap, sym, ◌∙◌, lit<, subst}
-use Rattle.std.specs.Prelude.{◌&&◌, nat_lt, nat_le}
+use Rattle.std.proofs.Common.{◌≡◌, ◌≢◌, ℕ, ◌^◌, ◌≤◌, ◌<◌, true, false, cond, List, [], ◌∷◌, length, get_or, Some, None, Result, Ok, Err, arith, ap, sym, ◌∙◌, lit<, subst, ◌&&◌, nat_lt, nat_le}
 use Rattle.std.specs.Char.{digit_value}
-use Rattle.std.specs.List.{list_all}
+use Rattle.sel_lines.proofs.Common.{list_all, nat_tests, Decides-ltb}
 use Rattle.std.specs.Result.{result_ok}
 use Rattle.std.specs.Str.Parse.{digits_value, ParsesUnsigned, AllDigits, IsNumeral}
 use Rattle.std.proofs.Math.Nat.{pow-le-pow_right}
 use Rattle.std.proofs.lemmas.Bool.{and_parts, leb-true}
-use Rattle.std.proofs.lemmas.Bool.Decides.{nat_tests, Decides-ltb}
 use Rattle.std.proofs.lemmas.Int.Digits.{digits_value-lt}
 use Rattle.std.proofs.lemmas.Str.Parse.{without_leading_plus_none}
 use Rattle.sel_lines.specs.Pext.{is_hex_digit, is_hex_word, word_of_hex}

@@ -1,5 +1,6 @@
 pub mod Answered
 pub mod Chosen
+pub mod Common
 pub mod FewItems
 pub mod Flattened
 pub mod Hex

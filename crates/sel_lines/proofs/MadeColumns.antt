@@ -1,25 +1,15 @@
 -- Parsed parts break no rule of the column constructors.
-use Rattle.std.proofs.Common.{◌≡◌, ◌≤◌, ℕ, ◌*◌, Bool, true, false, List, [], ◌∷◌, length, map, Option, Some, None, arith, refl, ap, sym, ◌∙◌}
-use Rattle.std.specs.Prelude.{IsTrue, not, nat_lt, ◌&&◌, ◌==◌}
-use Rattle.std.proofs.lemmas.Bool.Decides.{nat_tests}
-use Rattle.std.proofs.lemmas.List.{length-map}
-use Rattle.sel_bits.specs.Limits.{max_buffers, max_rows}
-use Rattle.sel_bits.specs.Bits.{Bits}
+use Rattle.std.proofs.Common.{◌≡◌, ◌≤◌, ℕ, ◌*◌, Bool, true, false, List, [], ◌∷◌, length, map, Option, Some, None, arith, refl, ap, sym, ◌∙◌, IsTrue, not, nat_lt, ◌&&◌, ◌==◌}
+use Rattle.sel_lines.proofs.Common.{nat_tests, length-map, max_buffers, max_rows, Bits, list_fault, block_fault, views_fault, utf8view_fault, hidden, too_many, Value, is_valid, validities, and_first, and_second, joined_items, item_ends}
 use Rattle.sel_bits.specs.Faults.{first_broken, IsFault, IsFaultOrMemory}
 use Rattle.sel_bits.specs.declared.faults.MakeError.{MakeError}
 use Rattle.sel_bits.specs.declared.faults.MakeError.TheVariants.{Malformed as Broken, OutOfMemory as WantOfMemory}
 use Rattle.sel_bits.specs.declared.faults.Malformed.{Malformed}
 use Rattle.sel_bits.specs.declared.faults.Malformed.TheVariants.{ViewRange, ViewPrefix}
-use Rattle.sel_arrow.specs.Makers.{list_fault, block_fault, views_fault, utf8view_fault}
-use Rattle.sel_arrow.specs.Masked.{hidden, too_many}
 use Rattle.sel_arrow.specs.Pieces.{rows_between, last_offset}
 use Rattle.sel_arrow.specs.Texts.{all_text}
-use Rattle.sel_arrow.specs.Value.{Value, is_valid, validities}
 use Rattle.sel_arrow.specs.Views.{all_placed, has_prefix, is_in_range, is_placed, view_value}
 use Rattle.sel_arrow.specs.declared.view.View.{View}
-use Rattle.sel_arrow.proofs.Lists.{and_first, and_second}
-use Rattle.sel_gather.specs.Children.{joined_items}
-use Rattle.sel_gather.specs.Ends.{item_ends}
 use Rattle.sel_gather.proofs.Rebuilt.{ends_between, ends_last}
 
 -- ---- errors if no rule is broken

@@ -1,10 +1,7 @@
 -- The parts of a text are no longer than the text, and at most one more than its bytes.
 use Rattle.std.proofs.Common.{◌≡◌, ◌≤◌, ℕ, suc, ◌+◌, ◌-◌, Bool, true, false, cond, List, [], ◌∷◌, length, map, Bor, arith, ap, sym, ◌∙◌}
-use Rattle.std.specs.List.{All, AllByRecursion, slice_split, onto_first, count_by}
-use Rattle.std.proofs.lemmas.List.Elements.{All-from_recursion, All-weaker}
-use Rattle.std.proofs.lemmas.List.{length-map}
+use Rattle.sel_lines.proofs.Common.{All, AllByRecursion, slice_split, onto_first, count_by, All-from_recursion, length-map, count_by-le-length}
 use Rattle.std.proofs.lemmas.List.Splits.{length-slice_split}
-use Rattle.std.proofs.lemmas.List.Sums.{count_by-le-length}
 
 one_more : {X : Type 0} (parts : List (List X)) (n : ℕ) → AllByRecursion (λ part. length part ≤ n) parts → AllByRecursion (λ part. length part ≤ suc n) parts
 one_more [] n short = tt
@@ -36,6 +33,3 @@ pub cut_count : (p : ℕ → Bool) (text : List ℕ) (parts : List (Bor (List �
 cut_count p text parts is =
     let count : length parts ≡ count_by p text + 1 = sym (length-map parts (λ part. part.now)) ∙ ap length is ∙ length-slice_split p text in
     omega (arith, count, count_by-le-length p text)
-
-pub shorter : (words : List (Bor (List ℕ))) (m n : ℕ) → m ≤ n → All (λ word. length word.now ≤ m) words → All (λ word. length word.now ≤ n) words
-shorter words m n le short = All-weaker (λ word. length word.now ≤ m) (λ word. length word.now ≤ n) (λ word here. omega (arith, le, here)) words short

@@ -1,19 +1,17 @@
 -- A word represents the number whose printed form it is.
-use Rattle.std.proofs.Common.{◌≡◌, ◌≢◌, ℕ, zero, suc, ◌^◌, ◌≤◌, ◌<◌, ℤ, pos, negsuc, neg_ℤ, Bool, true, false, cond, List, [], ◌∷◌, length, get_or, drop, Some, None, Result, Ok, Err, arith, refl, ap, sym, ◌∙◌, lit<}
-use Rattle.std.specs.Prelude.{bytes_eq, nat_lt, Decides, ◌&&◌}
+use Rattle.std.proofs.Common.{◌≡◌, ◌≢◌, ℕ, zero, suc, ◌^◌, ◌≤◌, ◌<◌, ℤ, pos, negsuc, neg_ℤ, Bool, true, false, cond, List, [], ◌∷◌, length, get_or, drop, Some, None, Result, Ok, Err, arith, refl, ap, sym, ◌∙◌, lit<, bytes_eq, nat_lt, Decides, ◌&&◌}
 use Rattle.std.specs.Result.{result_ok}
 use Rattle.std.specs.Int.{w64}
 use Rattle.std.specs.Str.Parse.{digits_value, signed_digits_value, ParsesSigned, ParsesUnsigned, AllDigits}
 use Rattle.std.specs.Fmt.{decimal, signed_decimal}
 use Rattle.std.specs.Int.Signed.{mag}
-use Rattle.std.proofs.lemmas.Bool.Decides.{Decides-and, Decides-ltb}
+use Rattle.sel_lines.proofs.Common.{Decides-and, Decides-ltb, HasOneSpelling}
 use Rattle.std.proofs.lemmas.Bool.{cases_eq}
 use mathlib.Core.Logic.{⊎_elim}
 use Rattle.std.proofs.lemmas.Slice.Eq.{bytes_eq-Decides}
 use Rattle.std.proofs.lemmas.Fmt.{decimal_is_IsNumeral, first_decimal, decimal_digit, decimal-digits_value, parse-decimal, parse-signed_decimal}
 use Rattle.std.proofs.lemmas.Str.Parse.{parse_plain, parse_signed_plain, parse_signed_minus, numerals_by_value, tells_digits, digit_at, IsNumeralModel}
 use Rattle.sel_lines.specs.Numbers.{integer_of, unsigned_of}
-use Rattle.sel_lines.specs.Parts.{HasOneSpelling}
 
 cond_true : {A : Type 0} (b : Bool) (x y : A) → b ≡ true → cond b x y ≡ x
 cond_true b x y e = rw e refl

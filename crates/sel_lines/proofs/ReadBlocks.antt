@@ -1,33 +1,15 @@
 -- Fixed-size lists that are parsed one by one.
-use Rattle.std.proofs.Common.{◌≡◌, ℕ, ℤ, zero, suc, pos, ◌*◌, Bool, true, false, cond, List, [], ◌∷◌, ◌++◌, length, length-append, get_or, map, replicate, Bor, Some, None, arith, refl, ap, sym, ◌∙◌}
-use Rattle.std.specs.Prelude.{◌==◌, ◌&&◌, option_and_then}
-use Rattle.std.specs.List.{list_all}
-use Rattle.std.proofs.lemmas.Bool.Decides.{Decides-eqb}
-use Rattle.std.proofs.lemmas.List.{map-append, append-nil, length-map, length-replicate}
-use Rattle.std.proofs.lemmas.List.Folds.{list_all-append}
-use Rattle.sel_bits.specs.Bits.{Bits}
+use Rattle.std.proofs.Common.{◌≡◌, ℕ, ℤ, zero, suc, pos, ◌*◌, Bool, true, false, cond, List, [], ◌∷◌, ◌++◌, length, length-append, get_or, map, replicate, Bor, Some, None, arith, refl, ap, sym, ◌∙◌, ◌==◌, ◌&&◌, option_and_then}
+use Rattle.sel_lines.proofs.Common.{list_all, Decides-eqb, map-append, append-nil, length-map, length-replicate, list_all-append, Bits, ComputeError, hidden, list_of, blocks, block_rows, rows, Value, Null, Truth, Number, Bytes, Items, Tuple, is_valid, validities, both, and_first, and_second, items_in, joined_items, blocks_of, is_block, parsed_width, HasBlocks, standing_for, column_text, entries_text, fixed_answer, fixed_read, fixed_words, shown_list, number_of, truth_of}
 use Rattle.sel_bits.specs.Faults.{error_text}
-use Rattle.sel_bits.specs.declared.faults.PolarsError.TheVariants.{ComputeError}
-use Rattle.sel_arrow.specs.Masked.{hidden}
-use Rattle.sel_arrow.specs.Nested.{list_of, blocks, block_rows}
 use Rattle.sel_arrow.specs.NestedArrays.{block_column}
-use Rattle.sel_arrow.specs.Rows.{rows}
-use Rattle.sel_arrow.specs.Value.{Value, Null, Truth, Number, Bytes, Items, Tuple, is_valid, validities}
 use Rattle.sel_arrow.specs.declared.fixed_size_list.FixedSizeListArray.{FixedSizeListArray}
-use Rattle.sel_arrow.proofs.Lists.{both, and_first, and_second}
-use Rattle.sel_gather.specs.Children.{items_in, joined_items}
 use Rattle.sel_gather.proofs.ItemRuns.{joined-append, listed_values}
 use Rattle.sel_gather.proofs.Rebuilt.{IsBlock, blocks_length, blocks_rebuilt}
 use Rattle.sel_lines.specs.declared.blocks.Blocks.{Blocks}
 use Rattle.polars_compute.specs.Entries.{fixed_get, at_each, is_get_error}
 use Rattle.polars_compute.proofs.Blocks.{long_rows}
 use Rattle.sel_lines.specs.declared.rows.Rows.{Rows}
-use Rattle.sel_lines.specs.Blocks.{blocks_of, is_block, parsed_width}
-use Rattle.sel_lines.specs.BlockParts.{HasBlocks, standing_for}
-use Rattle.sel_lines.specs.Columns.{column_text}
-use Rattle.sel_lines.specs.Fixed.{entries_text, fixed_answer, fixed_read, fixed_words}
-use Rattle.sel_lines.specs.ListParts.{shown_list}
-use Rattle.sel_lines.specs.Numbers.{number_of, truth_of}
 use Rattle.sel_lines.specs.Words.{if_both}
 use Rattle.sel_lines.proofs.ReadLists.{hidden-append, length-hidden}
 
@@ -36,10 +18,7 @@ use Rattle.sel_lines.proofs.ReadLists.{hidden-append, length-hidden}
 list_stands : (w : ℕ) (v : Value) → is_block w v ≡ true → IsBlock w (standing_for w v)
 list_stands w Null h = ap length (listed_values (replicate w (Number (pos 0)))) ∙ length-replicate w (Number (pos 0))
 list_stands w (Items items) h = (Decides-eqb _ w).0 h
-list_stands w (Truth b) h = absurd cc
-list_stands w (Number z) h = absurd cc
-list_stands w (Bytes bytes) h = absurd cc
-list_stands w (Tuple parts) h = absurd cc
+list_stands w v h = absurd cc
 
 lists_stand : (w : ℕ) (read : List Value) → list_all (is_block w) read ≡ true → (k : ℕ) → IsBlock w (get_or (map (standing_for w) read) k Null)
 lists_stand w [] all k = tt
@@ -52,11 +31,7 @@ standing_length w read all = blocks_length w (map (standing_for w) read) (lists_
 
 is_there : (w : ℕ) (v : Value) → is_block w v ≡ true → is_valid (standing_for w v) ≡ true
 is_there w Null h = refl
-is_there w (Items items) h = refl
-is_there w (Truth b) h = refl
-is_there w (Number z) h = refl
-is_there w (Bytes bytes) h = refl
-is_there w (Tuple parts) h = refl
+is_there w v h = refl
 
 are_there : (w : ℕ) (read : List Value) → list_all (is_block w) read ≡ true → replicate (length read) true ≡ validities (map (standing_for w) read)
 are_there w [] all = refl
@@ -155,8 +130,4 @@ fixed_answered (width ∷ lists ∷ at ∷ oob ∷ []) d w read index b text fou
     ap Some made
     ∙ ap (if_both (fixed_answer w read) (Some (Number index))) asked ∙ ap (λ x. if_both (fixed_answer w read) x (truth_of oob.now)) placed
     ∙ ap (option_and_then (λ rows. if_both (fixed_answer w rows) (number_of at.now) (truth_of oob.now))) (sym held) ∙ ap (option_and_then (fixed_read lists.now at.now oob.now)) wide
-fixed_answered [] d w read index b text four wide held placed asked made = absurd (omega arith)
-fixed_answered (x ∷ []) d w read index b text four wide held placed asked made = absurd (omega arith)
-fixed_answered (x ∷ y ∷ []) d w read index b text four wide held placed asked made = absurd (omega arith)
-fixed_answered (x ∷ y ∷ z ∷ []) d w read index b text four wide held placed asked made = absurd (omega arith)
-fixed_answered (x ∷ y ∷ z ∷ v ∷ u ∷ rest) d w read index b text four wide held placed asked made = absurd (omega arith)
+fixed_answered words d w read index b text four wide held placed asked made = absurd (omega arith)

@@ -1,21 +1,10 @@
 -- Lists that are parsed one by one.
-use Rattle.std.proofs.Common.{◌≡◌, ℕ, ℤ, zero, suc, pos, ◌+◌, Bool, true, false, Bor, cond, List, [], ◌∷◌, ◌++◌, length, length-append, get_or, map, Option, Some, arith, refl, ap, sym, ◌∙◌}
-use Rattle.std.specs.Prelude.{codes, bytes_eq, ◌==◌}
-use Rattle.std.specs.List.{slice_split}
-use Rattle.std.proofs.lemmas.List.{map-append, append-nil, length-map}
-use Rattle.sel_bits.specs.Bits.{Bits}
-use Rattle.sel_arrow.specs.Masked.{hidden}
-use Rattle.sel_arrow.specs.Nested.{list_of, list_rows}
-use Rattle.sel_arrow.specs.Value.{Value, Null, Number, Items, is_valid, validities}
-use Rattle.sel_gather.specs.Children.{items_in, joined_items}
-use Rattle.sel_gather.specs.Ends.{item_ends}
+use Rattle.std.proofs.Common.{◌≡◌, ℕ, ℤ, zero, suc, pos, ◌+◌, Bool, true, false, Bor, cond, List, [], ◌∷◌, ◌++◌, length, length-append, get_or, map, Option, Some, arith, refl, ap, sym, ◌∙◌, codes, bytes_eq, ◌==◌}
+use Rattle.sel_lines.proofs.Common.{slice_split, map-append, append-nil, length-map, Bits, hidden, list_of, list_rows, Value, Null, Number, Items, is_valid, validities, items_in, joined_items, item_ends, all_some, rows_of_bars, HasRead, IsListRow}
 use Rattle.sel_gather.proofs.ItemRuns.{ends-append, joined-append, listed_values}
 use Rattle.sel_gather.proofs.JoinedRows.{same_numbers}
 use Rattle.sel_gather.proofs.Rebuilt.{IsListed, lists_rebuilt}
 use Rattle.sel_lines.specs.declared.lists.Lists.{Lists}
-use Rattle.sel_lines.specs.Columns.{all_some}
-use Rattle.sel_lines.specs.Lists.{rows_of_bars}
-use Rattle.sel_lines.specs.ListParts.{HasRead, IsListRow}
 use Rattle.sel_lines.proofs.RowLemmas.{map_now}
 
 pub hidden-append : (a b : List Bool) (xs ys : List Value) → length a ≡ length xs → hidden (a ++ b) (xs ++ ys) ≡ hidden a xs ++ hidden b ys

@@ -1,13 +1,8 @@
 -- Rows that are parsed and printed one by one.
-use Rattle.std.proofs.Common.{◌≡◌, ◌≢◌, ℕ, zero, suc, ◌+◌, ◌≤◌, ◌<◌, Bool, false, List, [], ◌∷◌, ◌++◌, length, get_or, take, drop, map, Option, Some, None, arith, refl, ap, sym, ◌∙◌, Bor, append_assoc}
-use Rattle.std.specs.Prelude.{option_map, codes, ◌==◌, bytes_eq, cond, is_some, unwrap_or}
-use Rattle.std.specs.List.{join_with_byte, slice_split}
-use Rattle.std.proofs.lemmas.List.{take_more, map-append, take-append-drop, length-take, length-map}
+use Rattle.std.proofs.Common.{◌≡◌, ◌≢◌, ℕ, zero, suc, ◌+◌, ◌≤◌, ◌<◌, Bool, false, List, [], ◌∷◌, ◌++◌, length, get_or, take, drop, map, Option, Some, None, arith, refl, ap, sym, ◌∙◌, Bor, append_assoc, option_map, codes, ◌==◌, bytes_eq, cond, is_some, unwrap_or}
+use Rattle.sel_lines.proofs.Common.{join_with_byte, slice_split, take_more, map-append, take-append-drop, length-take, length-map, hidden, shown_row, Value, Null}
 use Rattle.std.proofs.Math.Seq.{drop-cons}
 use Rattle.sel_lines.specs.Columns.{all_some, row_of, column_of, row_text, column_text}
-use Rattle.sel_arrow.specs.Masked.{hidden}
-use Rattle.sel_lines.specs.Rows.{shown_row}
-use Rattle.sel_arrow.specs.Value.{Value, Null}
 
 push_on : {X : Type 0} (x : X) (front grown : Option (List X)) (ys : List X) (y : X) → ((zs : List X) → front ≡ Some zs → grown ≡ Some (zs ++ (y ∷ [])))
     → option_map (λ zs. x ∷ zs) front ≡ Some ys → option_map (λ zs. x ∷ zs) grown ≡ Some (ys ++ (y ∷ []))

@@ -1,27 +1,6 @@
 -- The words of a line of `table`, and the types of its columns.
-use Rattle.std.proofs.Common.{◌≡◌, ℕ, ◌+◌, ◌-◌, ◌<◌, true, false, cond, Bor, List, [], ◌∷◌, ◌++◌, All, length, get_or, map, take, drop, Option, Some, arith, refl, ap, sym, ◌∙◌}
-use Rattle.std.specs.Prelude.{◌==◌, ◌&&◌, count_by}
-use Rattle.std.specs.List.{list_all}
-use Rattle.std.proofs.lemmas.Bool.{ne_eqb}
-use Rattle.std.proofs.lemmas.Bool.Decides.{Decides-eqb}
-use Rattle.std.proofs.lemmas.List.{get_or-map, length-map, map-append, length-drop, take_all, take_more}
-use Rattle.std.proofs.lemmas.List.Folds.{list_all-map, list_all_at}
-use Rattle.std.proofs.lemmas.List.Sums.{sum_by-cons}
-use Rattle.sel_bits.specs.declared.faults.PolarsError.{PolarsError}
-use Rattle.sel_bits.specs.declared.faults.PolarsError.TheVariants.{OutOfMemory, SizeLimit, ComputeError}
-use Rattle.sel_arrow.specs.Rows.{rows, type_of}
-use Rattle.sel_arrow.specs.Shape.{of_int64}
-use Rattle.sel_arrow.specs.Value.{Value}
-use Rattle.sel_arrow.specs.declared.array_ref.ArrayRef.{ArrayRef}
-use Rattle.sel_arrow.proofs.Lists.{all_at, and_first}
-use Rattle.sel_gather.proofs.Within.{rows_pass}
-use Rattle.polars_compute.specs.Need.{IsLimitOrMemory, ExceedsNone, exceeded_limits}
-use Rattle.polars_compute.specs.Pick.{take_rows, all_within}
-use Rattle.polars_compute.specs.Select.{select, effective_mask, is_true}
-use Rattle.sel_filter.proofs.Selects.{length-select}
-use Rattle.sel_lines.specs.Columns.{all_some, column_of}
-use Rattle.sel_lines.specs.Numbers.{index_of, number_of, truth_of}
-use Rattle.polars_compute.specs.SelectRows.{rows_of_arrays, type_of_each, select_rows_of, selection_fits, exceeded_selected}
+use Rattle.std.proofs.Common.{◌≡◌, ℕ, ◌-◌, ◌<◌, Bor, List, [], ◌∷◌, All, length, get_or, map, take, drop, Option, Some, arith, refl, ap, sym, ◌∙◌}
+use Rattle.sel_lines.proofs.Common.{get_or-map, length-map, length-drop, take_all, type_of, of_int64, Value, ArrayRef, all_some, column_of, index_of, number_of, truth_of, type_of_each}
 use Rattle.sel_lines.specs.Table.{table_read, table_words}
 use Rattle.sel_lines.proofs.RowLemmas.{map_now}
 
@@ -37,12 +16,10 @@ same_types xs ys same numbers = λ k d h.
 
 table_shape : (words rest : List (Bor (List ℕ))) (d : Bor (List ℕ)) → 2 < length words → rest ≡ drop 2 words →
     table_read (column_of truth_of (get_or words 0 d).now) (column_of index_of (get_or words 1 d).now) (all_some (map (λ word. column_of number_of word.now) rest)) ≡ table_words (map (λ word. word.now) words)
-table_shape [] rest d h is = absurd (omega arith)
-table_shape (mask ∷ []) rest d h is = absurd (omega arith)
-table_shape (mask ∷ indices ∷ []) rest d h is = absurd (omega arith)
 table_shape (mask ∷ indices ∷ column ∷ columns) rest d h is =
     ap (λ l. table_read (column_of truth_of mask.now) (column_of index_of indices.now) (all_some l))
     (ap (map (λ word. column_of number_of word.now)) is ∙ map_now (column_of number_of) (column ∷ columns))
+table_shape words rest d h is = absurd (omega arith)
 
 pub table_words_read : (words rest : List (Bor (List ℕ))) (d : Bor (List ℕ)) (mask indices : List Value) (columns : Option (List (List Value))) → 2 < length words → rest ≡ drop 2 words →
     Some mask ≡ column_of truth_of (get_or words 0 d).now → Some indices ≡ column_of index_of (get_or words 1 d).now → columns ≡ all_some (map (λ word. column_of number_of word.now) rest) →

@@ -1,24 +1,13 @@
 -- Strings as words, and views of them into one data buffer that grows.
-use Rattle.std.proofs.Common.{◌≡◌, ◌≢◌, ℕ, suc, ◌+◌, ◌-◌, ◌≤◌, ◌<◌, Bool, true, false, ◌&&◌, cond, Bor, List, [], ◌∷◌, ◌++◌, length, take, drop, map, get_or, Option, Some, None, arith, refl, ap, sym, subst, ◌∙◌, length-append}
-use Rattle.std.specs.Prelude.{leb, ◌==◌, IsTrue, codes, bytes_eq, option_map, is_some, unwrap_or}
-use Rattle.std.specs.List.{slice_split, onto_first}
+use Rattle.std.proofs.Common.{◌≡◌, ◌≢◌, ℕ, suc, ◌+◌, ◌-◌, ◌≤◌, ◌<◌, Bool, true, false, ◌&&◌, cond, Bor, List, [], ◌∷◌, ◌++◌, length, take, drop, map, get_or, Option, Some, None, arith, refl, ap, sym, subst, ◌∙◌, length-append, leb, ◌==◌, IsTrue, codes, bytes_eq, option_map, is_some, unwrap_or, leb-true, eqb-true}
+use Rattle.sel_lines.proofs.Common.{slice_split, onto_first, map-append, length-map, take_more, take-append-drop, list_all-append, hidden, Value, Null, Bytes, both, byte_count, bytes_needed, all_some, column_of, row_of, string_value, text_row}
 use Rattle.std.specs.Str.{IsUtf8, is_utf8}
-use Rattle.std.proofs.lemmas.Bool.{leb-true, eqb-true}
-use Rattle.std.proofs.lemmas.List.{map-append, length-map, take_more, take-append-drop}
-use Rattle.std.proofs.lemmas.List.Folds.{list_all-append}
 use Rattle.std.proofs.lemmas.Str.{is_utf8-from_IsUtf8}
-use Rattle.sel_arrow.specs.Masked.{hidden}
 use Rattle.sel_arrow.specs.Texts.{all_text, is_text}
-use Rattle.sel_arrow.specs.Value.{Value, Null, Bytes}
 use Rattle.sel_arrow.specs.Views.{all_placed, inline_bytes, view_of, view_value}
 use Rattle.sel_arrow.specs.declared.view.View.{View}
 use Rattle.sel_arrow.proofs.GrownViews.{Named, far_new, near_new, placed_more}
-use Rattle.sel_arrow.proofs.Lists.{both}
-use Rattle.sel_gather.specs.Need.{byte_count, bytes_needed}
 use Rattle.sel_gather.proofs.JoinedRows.{needed-append}
-use Rattle.sel_lines.specs.Columns.{all_some, column_of, row_of}
-use Rattle.sel_lines.specs.Texts.{string_value}
-use Rattle.sel_lines.specs.Parts.{text_row}
 use Rattle.sel_lines.proofs.RowLemmas.{hidden_push}
 
 -- ---- a string after `=`
@@ -142,9 +131,6 @@ grow store views flags rows text b v so is near none utf8 =
       texts = list_all-append is_text rows (cond b (Bytes text) Null ∷ []) ∙ both (all_text rows) (is_text (cond b (Bytes text) Null) && true) so.texts
           (both (is_text (cond b (Bytes text) Null)) true (flag_text b text (is_utf8-from_IsUtf8 text utf8)) refl);
     }
-
-pub at_start : Growing [] [] [] []
-at_start = record { placed = refl; shown = refl; paired = refl; many = refl; held = refl; texts = refl }
 
 -- ---- the strings of the rows so far
 

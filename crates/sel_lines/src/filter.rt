@@ -99,7 +99,7 @@ pub fn numbers_of(array: ArrayRef) -> PrimitiveArray<i64>
     requires { type_of array.column ≡ of_int64 }
     ensures { primitive_rows result ≡ rows array.column }
 {
-    match array.into_primitive::<i64>() {
+    match array.into_array::<PrimitiveArray<i64>>() {
         Ok(numbers) => numbers,
         Err(_) => unreachable!(),
     }

@@ -1,8 +1,5 @@
 use Rattle.std.proofs.Common.{◌≡◌, ◌≤◌, ◌∙◌, ap, arith, subst, sym}
-use Rattle.sel_arrow.specs.Depth.{depth}
-use Rattle.sel_arrow.specs.Rows.{type_of}
-use Rattle.sel_arrow.specs.Shape.{Shape}
-use Rattle.sel_gather.specs.Children.{field}
+use Rattle.sel_calls.proofs.Common.{depth, type_of, Shape, field}
 use Rattle.sel_calls.proofs.Depths.{field_depth}
 use Rattle.sel_calls.proofs.children.field_into.Goals as goal
 

@@ -1,8 +1,6 @@
 use Rattle.std.proofs.Common.{◌≡◌, Bool, List, [], ◌∷◌, inr, length, rules, subst}
-use Rattle.sel_arrow.specs.Rows.{rows, type_of}
+use Rattle.sel_calls.proofs.Common.{rows, type_of, exceeded_taken, IsOkOrLimit, ReturnsColumn}
 use Rattle.sel_ternary.specs.Chosen.{chosen_rows, SideFits}
-use Rattle.sel_gather.specs.Need.{exceeded_taken}
-use Rattle.sel_calls.specs.Returns.{IsOkOrLimit, ReturnsColumn}
 use Rattle.sel_calls.proofs.Made.{returns-made}
 use Rattle.sel_calls.proofs.choices.choose_into.Goals as goal
 

@@ -1,9 +1,7 @@
 use Rattle.std.proofs.Common.{arith, length, ◌∙◌, sym, ap}
-use Rattle.std.proofs.lemmas.List.{length-map}
+use Rattle.sel_calls.proofs.Common.{length-map, Bits, boolean_rows}
 use Rattle.std.proofs.lemmas.Result.{IfOk-weaker}
-use Rattle.sel_bits.specs.Bits.{Bits}
 use Rattle.sel_arrow.proofs.Rows.{length-truth_rows}
-use Rattle.sel_arrow.specs.Columns.{boolean_rows}
 use Rattle.polars_compute.specs.Select.{is_true}
 use Rattle.polars_compute.proofs.Selects.{in_force-all, effective_mask-bools}
 use Rattle.sel_calls.proofs.choices.effective_bits.Goals as goal

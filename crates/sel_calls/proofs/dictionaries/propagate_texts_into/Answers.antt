@@ -1,6 +1,5 @@
 use Rattle.std.proofs.Common.{◌∙◌, ap, inl, inr, length, refl, rules, IsTrue}
-use Rattle.sel_arrow.specs.Columns.{primitive_rows, utf8view_rows}
-use Rattle.polars_compute.specs.Pick.{all_within}
+use Rattle.sel_calls.proofs.Common.{primitive_rows, utf8view_rows, all_within}
 use Rattle.sel_calls.proofs.Limits.{returns-low}
 use Rattle.sel_calls.proofs.dictionaries.propagate_texts_into.Goals as goal
 

@@ -1,10 +1,6 @@
 use Rattle.std.proofs.Common.{◌≡◌, List, [], ◌∷◌, false, subst, w64, to_z, of_z}
-use Rattle.sel_arrow.specs.NestedArrays.{block_column}
-use Rattle.sel_arrow.specs.Rows.{rows, type_of}
-use Rattle.sel_arrow.specs.Value.{Value}
-use Rattle.sel_ffi.specs.Status.{list_index_out_of_bounds}
+use Rattle.sel_calls.proofs.Common.{block_column, rows, type_of, Value, list_index_out_of_bounds, IsOkOrLimit, ReturnsColumn}
 use Rattle.polars_compute.specs.Entries.{fixed_get, at_each, is_get_error, exceeded_entries}
-use Rattle.sel_calls.specs.Returns.{IsOkOrLimit, ReturnsColumn}
 use Rattle.sel_calls.proofs.Entries.{get-error, same-indices}
 use Rattle.sel_calls.proofs.Made.{returns-first, returns-made, returns-none}
 use Rattle.sel_calls.proofs.fixed.entry_into.Goals as goal

@@ -1,8 +1,5 @@
 use Rattle.std.proofs.Common.{[], subst, w64, ℤ, to_z, of_z}
-use Rattle.std.proofs.lemmas.Int.{to_z-of_z}
-use Rattle.sel_arrow.specs.NestedArrays.{list_column}
-use Rattle.sel_arrow.specs.Rows.{rows, type_of}
-use Rattle.sel_gather.specs.Need.{exceeded_limits}
+use Rattle.sel_calls.proofs.Common.{to_z-of_z, list_column, rows, type_of, exceeded_limits}
 use Rattle.polars_compute.specs.Lists.{list_get}
 use Rattle.sel_calls.specs.Elements.{GetsElements}
 use Rattle.sel_calls.proofs.Made.{returns-failed, returns-made}

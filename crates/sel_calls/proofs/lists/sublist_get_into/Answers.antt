@@ -1,9 +1,5 @@
 use Rattle.std.proofs.Common.{◌≡◌, ◌∙◌, [], List, inr, rules, subst, w64, ℤ, to_z, of_z}
-use Rattle.std.proofs.lemmas.Int.{to_z-of_z}
-use Rattle.sel_arrow.specs.NestedArrays.{list_column}
-use Rattle.sel_arrow.specs.Rows.{rows, type_of}
-use Rattle.sel_arrow.specs.Shape.{Shape}
-use Rattle.sel_arrow.specs.Value.{Value}
+use Rattle.sel_calls.proofs.Common.{to_z-of_z, list_column, rows, type_of, Shape, Value}
 use Rattle.sel_calls.specs.Elements.{GetsElements}
 use Rattle.sel_calls.proofs.lists.sublist_get_into.Goals as goal
 
@@ -13,9 +9,9 @@ returns c =
     let before = c.args.out.now.tree in
     let after = c.element_into-status.new.out.tree in
     let index = to_z w64 (of_z w64 c.args.index) in
-    let lists = list_column c.in-Ok-into_list.lists in
-    let held : rows lists ≡ rows c.args.column.now.column = c.in-Ok-into_list.ensures.rows ∙ c.in-Ok.ensures.rows in
-    let typed : type_of lists ≡ type_of c.args.column.now.column = c.in-Ok-into_list.ensures.dtype ∙ c.in-Ok.ensures.dtype in
+    let lists = list_column c.in-Ok-into_array.lists in
+    let held : rows lists ≡ rows c.args.column.now.column = c.in-Ok-into_array.ensures.rows ∙ c.in-Ok.ensures.rows in
+    let typed : type_of lists ≡ type_of c.args.column.now.column = c.in-Ok-into_array.ensures.dtype ∙ c.in-Ok.ensures.dtype in
     let told = subst (λ (i : ℤ). GetsElements status (rows c.args.column.now.column) (type_of c.args.column.now.column) i [] before after) (to_z-of_z w64 c.args.index c.ranges.index)
     (subst (λ (vs : List Value). GetsElements status vs (type_of c.args.column.now.column) index [] before after) held
     (subst (λ (s : Shape). GetsElements status (rows lists) s index [] before after) typed c.element_into-status.ensures)) in

@@ -1,8 +1,5 @@
-use Rattle.std.proofs.Common.{◌<◌, ◌≤◌, All, arith, length, None, refl, subst, sym}
-use Rattle.std.proofs.lemmas.List.{take_all}
-use Rattle.std.proofs.lemmas.List.Elements.{All-more}
-use Rattle.sel_calls.specs.PickLengths.{HasRow}
-use Rattle.sel_calls.specs.Several.{picks_from}
+use Rattle.std.proofs.Common.{◌<◌, ◌≤◌, All, arith, length, None, refl, subst, sym, take_all}
+use Rattle.sel_calls.proofs.Common.{All-more, HasRow, picks_from}
 use Rattle.sel_calls.proofs.picks.are_in_bounds.Goals as goal
 
 pub returns-then-not-has_row : goal.returns-then-not-has_row

@@ -1,7 +1,6 @@
 -- The row references so far are in bounds.
 use Rattle.std.proofs.Common.{All, take}
-use Rattle.sel_calls.specs.PickLengths.{HasRow}
-use Rattle.sel_calls.specs.Several.{picks_from}
+use Rattle.sel_calls.proofs.Common.{HasRow, picks_from}
 use Rattle.sel_calls.proofs.picks.are_in_bounds.Given as goal
 
 abbrev pub invariant-loop-k : goal.invariant-loop-k

@@ -1,8 +1,5 @@
-use Rattle.std.proofs.Common.{◌≡◌, ◌∙◌, All, sym, subst, refl}
-use Rattle.std.proofs.lemmas.List.{take_all}
-use Rattle.std.proofs.lemmas.List.Elements.{All-more}
-use Rattle.sel_arrow.specs.Rows.{type_of}
-use Rattle.sel_arrow.specs.declared.array_ref.ArrayRef.{ArrayRef}
+use Rattle.std.proofs.Common.{◌≡◌, ◌∙◌, All, sym, subst, refl, take_all}
+use Rattle.sel_calls.proofs.Common.{All-more, type_of, ArrayRef}
 use Rattle.sel_calls.proofs.Alike.{alike_types, first_type_is, not_alike}
 use Rattle.sel_calls.proofs.several.are_alike.Goals as goal
 

@@ -1,10 +1,6 @@
 use Rattle.std.proofs.Common.{◌≡◌, ◌≤◌, Option, [], false, inr, length, map, rules, subst}
-use Rattle.sel_bits.specs.Bits.{Bits}
+use Rattle.sel_calls.proofs.Common.{Bits, rows, type_of, ArrayRef, lacks_bits, picks_from, CollectsRows}
 use Rattle.sel_bits.specs.Limits.{max_rows}
-use Rattle.sel_arrow.specs.Rows.{rows, type_of}
-use Rattle.sel_arrow.specs.declared.array_ref.ArrayRef.{ArrayRef}
-use Rattle.sel_ffi.specs.Inputs.{lacks_bits}
-use Rattle.sel_calls.specs.Several.{picks_from, CollectsRows}
 use Rattle.sel_calls.proofs.several.collect_into.Goals as goal
 
 pub returns : goal.returns

@@ -1,20 +1,8 @@
 use Rattle.std.proofs.Common.{rules, arith, ◌≡◌, ◌≤◌, ◌<◌, ◌∙◌, ℕ, All, Bor, ap, sym, subst, map, length, List, []}
-use Rattle.std.proofs.lemmas.List.{length-map}
-use Rattle.sel_arrow.specs.Rows.{rows, type_of}
-use Rattle.sel_arrow.specs.Value.{Value, Null}
-use Rattle.sel_arrow.specs.declared.array_ref.ArrayRef.{ArrayRef}
-use Rattle.sel_arrow.specs.declared.column.Column.{Column}
+use Rattle.sel_calls.proofs.Common.{length-map, rows, type_of, Value, Null, ArrayRef, Column, pick, PickFits, Shape, length_mismatch, type_mismatch, index_out_of_bounds, exceeded_taken, ExceedsNone, IsLimitOrMemory, HasRow, IsOkOrLimit, first_shape, picks_from, AreAlike, depth}
 use Rattle.polars_compute.proofs.Flattening.{as_sources}
-use Rattle.sel_gather.specs.Picks.{pick, PickFits}
 use Rattle.sel_gather.specs.Sources.{first_type}
-use Rattle.sel_arrow.specs.Shape.{Shape}
-use Rattle.sel_ffi.specs.Status.{length_mismatch, type_mismatch, index_out_of_bounds}
-use Rattle.sel_gather.specs.Need.{exceeded_taken, ExceedsNone, IsLimitOrMemory}
-use Rattle.sel_calls.specs.PickLengths.{HasRow}
-use Rattle.sel_calls.specs.Returns.{IsOkOrLimit}
-use Rattle.sel_calls.specs.Several.{first_shape, picks_from, AreAlike}
 use Rattle.sel_calls.proofs.Alike.{alike_columns, first_same}
-use Rattle.sel_arrow.specs.Depth.{depth}
 use Rattle.sel_calls.proofs.Depths.{first_depth}
 use Rattle.sel_calls.proofs.Made.{returns-failed, returns-first, returns-made, returns-refused}
 use Rattle.sel_calls.proofs.PickWords.{rows_fit, rows_had}

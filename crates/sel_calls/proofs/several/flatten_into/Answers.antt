@@ -1,13 +1,6 @@
 use Rattle.std.proofs.Common.{◌<◌, ◌∙◌, IsTrue, [], arith, length, map, subst, sym}
-use Rattle.std.proofs.lemmas.List.{length-map}
-use Rattle.sel_arrow.specs.Rows.{rows, type_of}
-use Rattle.sel_arrow.specs.Shape.{Shape}
-use Rattle.sel_arrow.specs.declared.array_ref.ArrayRef.{ArrayRef}
+use Rattle.sel_calls.proofs.Common.{length-map, rows, type_of, Shape, ArrayRef, length_mismatch, type_mismatch, ExceedsNone, IsLimitOrMemory, IsOkOrLimit, first_shape, AreAlike}
 use Rattle.polars_compute.specs.Flatten.{flatten, parts_fit, exceeded_flattened}
-use Rattle.sel_ffi.specs.Status.{length_mismatch, type_mismatch}
-use Rattle.sel_gather.specs.Need.{ExceedsNone, IsLimitOrMemory}
-use Rattle.sel_calls.specs.Returns.{IsOkOrLimit}
-use Rattle.sel_calls.specs.Several.{first_shape, AreAlike}
 use Rattle.sel_calls.proofs.Alike.{alike_columns, first_same}
 use Rattle.sel_calls.proofs.Made.{returns-failed, returns-first, returns-made, returns-refused}
 use Rattle.sel_calls.proofs.several.flatten_into.Goals as goal

@@ -1,10 +1,5 @@
 use Rattle.std.proofs.Common.{◌∙◌, [], ap, arith, length, IsTrue}
-use Rattle.sel_arrow.specs.Columns.{primitive_rows}
-use Rattle.sel_arrow.specs.Rows.{rows, type_of}
-use Rattle.sel_ffi.specs.Status.{index_out_of_bounds}
-use Rattle.sel_gather.specs.Need.{exceeded_limits}
-use Rattle.polars_compute.specs.Pick.{all_within, take_rows}
-use Rattle.sel_calls.specs.Returns.{IsOkOrLimit}
+use Rattle.sel_calls.proofs.Common.{primitive_rows, rows, type_of, index_out_of_bounds, exceeded_limits, all_within, take_rows, IsOkOrLimit}
 use Rattle.sel_calls.proofs.Made.{returns-failed, returns-first, returns-made, returns-refused}
 use Rattle.sel_calls.proofs.takes.take_at_into.Goals as goal
 

@@ -1,13 +1,6 @@
 use Rattle.std.proofs.Common.{◌≡◌, ◌≤◌, List, [], ◌∷◌, Some, IsTrue, false, inr, length, rules, subst}
 use Rattle.sel_bits.specs.Limits.{max_rows}
-use Rattle.sel_arrow.specs.Rows.{rows, type_of}
-use Rattle.sel_arrow.specs.Shape.{of_uint32}
-use Rattle.sel_arrow.specs.Value.{Value}
-use Rattle.sel_ffi.specs.Inputs.{lacks_bits}
-use Rattle.sel_ffi.specs.Status.{index_out_of_bounds, no_column, unsupported_type}
-use Rattle.sel_gather.specs.Need.{exceeded_limits}
-use Rattle.polars_compute.specs.Pick.{all_within, take_rows}
-use Rattle.sel_calls.specs.Returns.{IsOkOrLimit}
+use Rattle.sel_calls.proofs.Common.{rows, type_of, of_uint32, Value, lacks_bits, index_out_of_bounds, no_column, unsupported_type, exceeded_limits, all_within, take_rows, IsOkOrLimit}
 use Rattle.sel_calls.specs.Takes.{TakesRows}
 use Rattle.sel_calls.proofs.Limits.{without-first}
 use Rattle.sel_calls.proofs.takes.take_rows_into.Goals as goal

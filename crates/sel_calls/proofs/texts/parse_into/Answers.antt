@@ -1,14 +1,9 @@
-use Rattle.std.proofs.Common.{rules, ◌≡◌, ◌≤◌, inl, inr, true, false, length, sym, arith, subst}
-use Rattle.std.specs.Prelude.{nat_lt}
-use Rattle.sel_arrow.specs.DataType.{shape_of}
-use Rattle.sel_arrow.specs.Shape.{Shape}
+use Rattle.std.proofs.Common.{rules, ◌≡◌, ◌≤◌, inl, inr, true, false, length, sym, arith, subst, nat_lt}
+use Rattle.sel_calls.proofs.Common.{shape_of, Shape, exceeds_limit, depth, nat_tests}
 use Rattle.sel_calls.specs.Parsed.{IsRowsText}
-use Rattle.sel_text.specs.Limits.{exceeds_limit}
 use Rattle.sel_text.specs.TextErrors.{HasFittingRows}
-use Rattle.sel_arrow.specs.Depth.{depth}
 use Rattle.sel_text.specs.declared.build.NullSlots.TheVariants.{Zeros}
 use Rattle.sel_text.proofs.Making.{or_second}
-use Rattle.std.proofs.lemmas.Bool.Decides.{nat_tests}
 use Rattle.sel_text.proofs.Within.{neither}
 use Rattle.sel_text.proofs.OneType.{one_spelled}
 use Rattle.sel_calls.proofs.texts.parse_into.Goals as goal

@@ -1,11 +1,7 @@
-use Rattle.std.proofs.Common.{◌≡◌, ◌<◌, true, arith, ap, sym, subst, ◌∙◌}
-use Rattle.std.specs.Prelude.{nat_lt}
-use Rattle.std.proofs.lemmas.Bool.Decides.{nat_tests}
+use Rattle.std.proofs.Common.{◌≡◌, ◌<◌, true, arith, ap, sym, subst, ◌∙◌, nat_lt}
+use Rattle.sel_calls.proofs.Common.{nat_tests, shape_of, exceeds_limit, depth}
 use Rattle.std.proofs.lemmas.Str.{IsUtf8-from_is_utf8}
-use Rattle.sel_arrow.specs.DataType.{shape_of}
-use Rattle.sel_text.specs.Limits.{exceeds_limit}
 use Rattle.sel_text.specs.Spelling.{spelled}
-use Rattle.sel_arrow.specs.Depth.{depth}
 use Rattle.sel_text.specs.declared.build.NullSlots.TheVariants.{Zeros}
 use Rattle.sel_text.proofs.Making.{or_first, or_second}
 use Rattle.sel_text.proofs.OneType.{one_spelled}

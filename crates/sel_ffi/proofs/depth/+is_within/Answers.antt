@@ -1,9 +1,5 @@
-use Rattle.std.proofs.Common.{◌≡◌, ◌≤◌, ◌<◌, All, arith, refl, subst, sym}
-use Rattle.std.proofs.lemmas.List.{take_all}
-use Rattle.std.proofs.lemmas.List.Elements.{All-more}
-use Rattle.sel_arrow.specs.Depth.{depth}
-use Rattle.sel_arrow.specs.Rows.{type_of}
-use Rattle.sel_arrow.specs.declared.column.Column.{Column}
+use Rattle.std.proofs.Common.{◌≤◌, ◌<◌, All, arith, refl, subst, sym, take_all}
+use Rattle.sel_ffi.proofs.Common.{All-more, depth, type_of, Column}
 use Rattle.sel_arrow.proofs.Types.{struct_type}
 use Rattle.sel_ffi.proofs.Depths.{all_within, one_within}
 use Rattle.sel_ffi.proofs.depth.+is_within.Goals as goal

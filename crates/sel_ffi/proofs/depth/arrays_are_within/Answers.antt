@@ -1,9 +1,5 @@
-use Rattle.std.proofs.Common.{◌≡◌, ◌≤◌, All, refl, subst, sym}
-use Rattle.std.proofs.lemmas.List.{take_all}
-use Rattle.std.proofs.lemmas.List.Elements.{All-more}
-use Rattle.sel_arrow.specs.Depth.{depth}
-use Rattle.sel_arrow.specs.Rows.{type_of}
-use Rattle.sel_arrow.specs.declared.array_ref.ArrayRef.{ArrayRef}
+use Rattle.std.proofs.Common.{◌≤◌, All, refl, subst, sym, take_all}
+use Rattle.sel_ffi.proofs.Common.{All-more, depth, type_of, ArrayRef}
 use Rattle.sel_ffi.proofs.Depths.{all_within, one_within}
 use Rattle.sel_ffi.proofs.depth.arrays_are_within.Goals as goal
 

@@ -1,6 +1,5 @@
 use Rattle.std.proofs.Common.{ℕ, ap}
-use Rattle.sel_arrow.specs.Rows.{row_count}
-use Rattle.sel_ffi.specs.Inputs.{list_rules}
+use Rattle.sel_ffi.proofs.Common.{row_count, list_rules}
 use Rattle.sel_ffi.proofs.Reported.{same_count, stored, failed}
 use Rattle.sel_ffi.proofs.nested_into.list_into.Goals as goal
 

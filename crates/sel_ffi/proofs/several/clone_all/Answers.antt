@@ -1,12 +1,6 @@
-use Rattle.std.proofs.Common.{arith, All, ◌≡◌, ◌<◌, ◌++◌, ◌∷◌, [], length, map, ap, ◌∙◌, subst}
+use Rattle.std.proofs.Common.{arith, All, ◌≡◌, ◌<◌, ◌++◌, ◌∷◌, [], length, map, ap, ◌∙◌, subst, take_all}
 use Rattle.std.proofs.Math.Seq.{map-set_same}
-use Rattle.std.proofs.lemmas.Grind.{common_steps}
-use Rattle.std.proofs.lemmas.List.{take_all}
-use Rattle.std.proofs.lemmas.List.Elements.{All-more}
-use Rattle.sel_arrow.specs.Rows.{rows, type_of}
-use Rattle.sel_arrow.specs.declared.array_ref.ArrayRef.{ArrayRef}
-use Rattle.sel_ffi.specs.Status.{held_rows, held_type, HasColumn}
-use Rattle.sel_ffi.specs.declared.handle.Handle.{Handle}
+use Rattle.sel_ffi.proofs.Common.{common_steps, All-more, rows, type_of, ArrayRef, held_rows, held_type, HasColumn, Handle}
 use Rattle.sel_ffi.proofs.Cloned.{same_long, told_at, shared_more, lacks_at}
 use Rattle.sel_ffi.proofs.several.clone_all.Goals as goal
 

@@ -1,7 +1,6 @@
 -- The clones so far; each handle has its column.
 use Rattle.std.proofs.Common.{◌≡◌, ◌≤◌, ◌-◌, length, take, map, All}
-use Rattle.sel_arrow.specs.Rows.{rows, type_of}
-use Rattle.sel_ffi.specs.Status.{held_rows, held_type, HasColumn}
+use Rattle.sel_ffi.proofs.Common.{rows, type_of, held_rows, held_type, HasColumn}
 use Rattle.sel_ffi.proofs.several.clone_all.Given as goal
 
 abbrev pub invariant-loop-i : goal.invariant-loop-i

@@ -1,8 +1,6 @@
-use Rattle.std.proofs.Common.{arith, None, ◌≡◌, All, subst}
-use Rattle.std.proofs.lemmas.Grind.{common_steps}
-use Rattle.std.proofs.lemmas.List.{take_all}
+use Rattle.std.proofs.Common.{arith, None, ◌≡◌, All, subst, take_all}
+use Rattle.sel_ffi.proofs.Common.{common_steps, Handle}
 use Rattle.sel_ffi.proofs.Emptied.{emptied_more}
-use Rattle.sel_ffi.specs.declared.handle.Handle.{Handle}
 use Rattle.sel_ffi.proofs.several.empty_all.Goals as goal
 
 pub loop-i-preserved : goal.loop-i-preserved

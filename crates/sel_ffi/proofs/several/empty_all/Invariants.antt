@@ -1,6 +1,5 @@
 -- The first i handles are empty.
-use Rattle.std.proofs.Common.{◌≡◌, ◌≤◌, ◌-◌, length, take, All}
-use Rattle.std.specs.Prelude.{None}
+use Rattle.std.proofs.Common.{◌≡◌, ◌≤◌, ◌-◌, length, take, All, None}
 use Rattle.sel_ffi.proofs.several.empty_all.Given as goal
 
 abbrev pub invariant-loop-i : goal.invariant-loop-i

@@ -1,9 +1,5 @@
 use Rattle.std.proofs.Common.{◌≡◌, ◌≤◌, ◌++◌, ◌∷◌, [], All, ap, ◌∙◌, map, subst, sym}
-use Rattle.std.proofs.lemmas.List.Elements.{All-more, All-append, All-cons, All-nil}
-use Rattle.sel_arrow.specs.Depth.{depth}
-use Rattle.sel_arrow.specs.Rows.{rows, type_of, buffers_held}
-use Rattle.sel_arrow.specs.declared.array_ref.ArrayRef.{ArrayRef}
-use Rattle.sel_ffi.specs.Status.{held_buffer_lists, held_rows, held_type, HasColumn}
+use Rattle.sel_ffi.proofs.Common.{All-more, All-append, All-cons, All-nil, depth, rows, type_of, buffers_held, ArrayRef, held_buffer_lists, held_rows, held_type, HasColumn}
 use Rattle.sel_ffi.specs.declared.column_ref.ColumnRef.{ColumnRef}
 use Rattle.sel_ffi.proofs.Depths.{mapped_more}
 use Rattle.sel_ffi.proofs.several.share_all.Goals as goal

@@ -1,8 +1,6 @@
 -- The clones so far.
 use Rattle.std.proofs.Common.{◌≡◌, ◌≤◌, take, map, All}
-use Rattle.sel_arrow.specs.Depth.{depth}
-use Rattle.sel_arrow.specs.Rows.{rows, type_of, buffers_held}
-use Rattle.sel_ffi.specs.Status.{held_buffer_lists, held_rows, held_type, HasColumn}
+use Rattle.sel_ffi.proofs.Common.{depth, rows, type_of, buffers_held, held_buffer_lists, held_rows, held_type, HasColumn}
 use Rattle.sel_ffi.proofs.several.share_all.Given as goal
 
 abbrev pub invariant-loop-handle : goal.invariant-loop-handle

@@ -1,6 +1,5 @@
 use Rattle.std.proofs.Common.{◌∙◌, ap, sym, arith}
-use Rattle.sel_lines.specs.Blocks.{is_block}
-use Rattle.sel_lines.specs.ListParts.{shown_list}
+use Rattle.sel_lines.proofs.Common.{is_block, shown_list}
 use Rattle.sel_lines.proofs.ReadBlocks.{width_is}
 use Rattle.sel_lines.proofs.blocks.has_width.Goals as goal
 

@@ -1,7 +1,5 @@
 use Rattle.std.proofs.Common.{[], ◌∙◌, ap, map, subst}
-use Rattle.std.proofs.lemmas.Result.{IfOk-weaker}
-use Rattle.sel_lines.specs.Blocks.{block_of}
-use Rattle.sel_lines.specs.BlockParts.{IsReadingBlocks}
+use Rattle.sel_lines.proofs.Common.{IfOk-weaker, block_of, IsReadingBlocks}
 use Rattle.sel_lines.proofs.ReadLists.{no_bars, rows_from_bars}
 use Rattle.sel_lines.proofs.blocks.parse_blocks.Goals as goal
 

@@ -1,7 +1,5 @@
-use Rattle.std.proofs.Common.{◌++◌, ◌∷◌, [], ◌∙◌, ap, refl, sym}
-use Rattle.std.specs.Prelude.{option_map}
-use Rattle.sel_lines.specs.Blocks.{block_of}
-use Rattle.sel_lines.specs.ListParts.{shown_list}
+use Rattle.std.proofs.Common.{◌++◌, ◌∷◌, [], ◌∙◌, ap, refl, sym, option_map}
+use Rattle.sel_lines.proofs.Common.{block_of, shown_list}
 use Rattle.sel_lines.proofs.RowLemmas.{rows_none, rows_step}
 use Rattle.sel_lines.proofs.blocks.parse_each.Goals as goal
 

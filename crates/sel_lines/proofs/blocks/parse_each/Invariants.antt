@@ -1,9 +1,6 @@
 -- Loop invariant: the rows so far, and the parts that store them.
 use Rattle.std.proofs.Common.{◌≡◌, List, map, take, Some}
-use Rattle.sel_arrow.specs.Value.{Value}
-use Rattle.sel_lines.specs.Blocks.{block_of}
-use Rattle.sel_lines.specs.BlockParts.{HasBlocks}
-use Rattle.sel_lines.specs.Columns.{all_some}
+use Rattle.sel_lines.proofs.Common.{Value, block_of, HasBlocks, all_some}
 use Rattle.sel_lines.proofs.blocks.parse_each.Given as goal
 
 abbrev pub invariant-loop-word : goal.invariant-loop-word

@@ -1,5 +1,4 @@
-use Rattle.std.proofs.Common.{◌+◌, pos, true, arith}
-use Rattle.std.specs.Prelude.{vec_len}
+use Rattle.std.proofs.Common.{◌+◌, pos, true, arith, vec_len}
 use Rattle.sel_gather.proofs.Windows.{resized}
 use Rattle.sel_lines.proofs.ReadBlocks.{null_block_more}
 use Rattle.sel_lines.proofs.blocks.push_null.Goals as goal

@@ -1,7 +1,5 @@
-use Rattle.std.proofs.Common.{sym, arith, ap, ◌∙◌, Some, length, length-append, ◌++◌, ◌∷◌, [], ◌+◌}
-use Rattle.std.specs.Prelude.{option_map}
-use Rattle.sel_lines.specs.Columns.{row_of}
-use Rattle.sel_lines.specs.Rows.{shown_row}
+use Rattle.std.proofs.Common.{sym, arith, ap, ◌∙◌, Some, length, length-append, ◌++◌, ◌∷◌, [], ◌+◌, option_map}
+use Rattle.sel_lines.proofs.Common.{row_of, shown_row}
 use Rattle.sel_lines.proofs.RowLemmas.{rows_step, rows_none, hidden_more}
 use Rattle.sel_lines.proofs.columns.parse_rows.Goals as goal
 

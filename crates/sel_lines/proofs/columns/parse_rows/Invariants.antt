@@ -1,6 +1,5 @@
 use Rattle.std.proofs.Common.{◌≡◌, length, map, take, Some}
-use Rattle.sel_lines.specs.Columns.{all_some, row_of}
-use Rattle.sel_arrow.specs.Masked.{hidden}
+use Rattle.sel_lines.proofs.Common.{all_some, row_of, hidden}
 use Rattle.sel_lines.proofs.columns.parse_rows.Given as goal
 
 abbrev pub invariant-loop-word : goal.invariant-loop-word

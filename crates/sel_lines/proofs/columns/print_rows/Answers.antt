@@ -1,7 +1,5 @@
-use Rattle.std.proofs.Common.{◌∙◌, arith, ap, ◌++◌, lit<}
-use Rattle.std.specs.Prelude.{string_bytes}
-use Rattle.sel_arrow.specs.Value.{Null}
-use Rattle.sel_lines.specs.Columns.{row_text}
+use Rattle.std.proofs.Common.{◌∙◌, arith, ap, ◌++◌, lit<, string_bytes}
+use Rattle.sel_lines.proofs.Common.{Null, row_text}
 use Rattle.sel_lines.proofs.RowLemmas.{join_step, join_first_step}
 use Rattle.sel_lines.proofs.columns.print_rows.Goals as goal
 use Rattle.sel_lines.proofs.columns.print_rows.Goals.{then-place-gt0+in_ok-push, else-place-gt0}

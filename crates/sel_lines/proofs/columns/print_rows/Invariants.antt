@@ -1,7 +1,5 @@
-use Rattle.std.proofs.Common.{◌≡◌, map, take}
-use Rattle.std.specs.Prelude.{string_bytes}
-use Rattle.std.specs.List.{join_with_byte}
-use Rattle.sel_lines.specs.Columns.{row_text}
+use Rattle.std.proofs.Common.{◌≡◌, map, take, string_bytes}
+use Rattle.sel_lines.proofs.Common.{join_with_byte, row_text}
 use Rattle.sel_lines.proofs.columns.print_rows.Given as goal
 
 abbrev pub invariant-loop-place : goal.invariant-loop-place

@@ -1,7 +1,5 @@
-use Rattle.std.proofs.Common.{◌∙◌, ap, map, arith}
-use Rattle.std.proofs.lemmas.Result.{IfOk-weaker}
-use Rattle.std.specs.List.{slice_split}
-use Rattle.std.specs.Prelude.{◌==◌}
+use Rattle.std.proofs.Common.{◌∙◌, ap, map, arith, ◌==◌}
+use Rattle.sel_lines.proofs.Common.{IfOk-weaker, slice_split}
 use Rattle.sel_lines.specs.Commands.{answer_of_words}
 use Rattle.sel_lines.proofs.Answered.{too_long, no_text, of_text}
 use Rattle.sel_lines.proofs.commands.answer_line.Goals as goal

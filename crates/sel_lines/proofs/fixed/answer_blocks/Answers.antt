@@ -1,10 +1,6 @@
 use Rattle.std.proofs.Common.{◌∙◌, ap, subst, length, replicate, w64, to_z, of_z}
-use Rattle.std.proofs.lemmas.Int.{to_z-of_z}
-use Rattle.std.proofs.lemmas.Result.{IfOk-weaker}
-use Rattle.sel_arrow.specs.Value.{Number}
+use Rattle.sel_lines.proofs.Common.{to_z-of_z, IfOk-weaker, Number, column_text, entries_text}
 use Rattle.polars_compute.specs.Entries.{at_each, IsGetError}
-use Rattle.sel_lines.specs.Columns.{column_text}
-use Rattle.sel_lines.specs.Fixed.{entries_text}
 use Rattle.sel_lines.proofs.ReadBlocks.{entries_printed, refusal_printed}
 use Rattle.sel_lines.proofs.fixed.answer_blocks.Goals as goal
 

@@ -1,9 +1,5 @@
-use Rattle.std.proofs.Common.{◌∙◌, arith, ap, sym, subst, length, replicate, rules, w64}
-use Rattle.std.specs.Prelude.{option_map}
-use Rattle.std.proofs.lemmas.Int.{to_z-of_z}
-use Rattle.sel_arrow.specs.Value.{Number, Truth}
-use Rattle.sel_lines.specs.BlockParts.{IsReadingBlocks}
-use Rattle.sel_lines.specs.Fixed.{entries_text}
+use Rattle.std.proofs.Common.{◌∙◌, arith, ap, sym, subst, length, replicate, rules, w64, option_map}
+use Rattle.sel_lines.proofs.Common.{to_z-of_z, Number, Truth, IsReadingBlocks, entries_text}
 use Rattle.sel_lines.proofs.FewItems.{few_blocks, narrow_width}
 use Rattle.sel_lines.proofs.ReadBlocks.{fixed_answered}
 use Rattle.sel_lines.proofs.fixed.answer_fixed.Goals as goal

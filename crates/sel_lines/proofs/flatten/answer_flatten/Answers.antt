@@ -1,7 +1,5 @@
-use Rattle.std.proofs.Common.{◌∙◌, Some, None, ap, sym, map}
-use Rattle.std.specs.Prelude.{option_map}
-use Rattle.std.proofs.lemmas.Result.{IfOk-weaker}
-use Rattle.sel_lines.specs.Parts.{read_part}
+use Rattle.std.proofs.Common.{◌∙◌, Some, None, ap, sym, map, option_map}
+use Rattle.sel_lines.proofs.Common.{IfOk-weaker, read_part}
 use Rattle.sel_lines.proofs.Flattened.{words_read}
 use Rattle.sel_lines.proofs.flatten.answer_flatten.Goals as goal
 

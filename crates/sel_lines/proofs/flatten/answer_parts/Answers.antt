@@ -1,8 +1,6 @@
-use Rattle.std.proofs.Common.{◌∙◌, Some, ap, sym}
-use Rattle.std.specs.Prelude.{option_map}
-use Rattle.sel_arrow.specs.Columns.{primitive_rows}
+use Rattle.std.proofs.Common.{◌∙◌, Some, ap, sym, option_map}
+use Rattle.sel_lines.proofs.Common.{primitive_rows, flat_text}
 use Rattle.sel_arrow.proofs.Rows.{length-number_rows}
-use Rattle.sel_lines.specs.Flatten.{flat_text}
 use Rattle.sel_lines.proofs.Flattened.{answer_read, column_flat_text}
 use Rattle.sel_lines.proofs.flatten.answer_parts.Goals as goal
 

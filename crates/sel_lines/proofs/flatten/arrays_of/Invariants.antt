@@ -1,7 +1,5 @@
 use Rattle.std.proofs.Common.{◌≡◌, All, map}
-use Rattle.sel_arrow.specs.Columns.{primitive_rows}
-use Rattle.sel_arrow.specs.Rows.{rows, type_of}
-use Rattle.sel_arrow.specs.Shape.{of_int64}
+use Rattle.sel_lines.proofs.Common.{primitive_rows, rows, type_of, of_int64}
 use Rattle.sel_lines.proofs.flatten.arrays_of.Given as goal
 
 abbrev pub invariant-loop-part : goal.invariant-loop-part

@@ -1,8 +1,5 @@
 use Rattle.std.proofs.Common.{map}
-use Rattle.std.proofs.lemmas.List.{length-map}
-use Rattle.std.proofs.lemmas.Result.{err_from_is_err_and}
-use Rattle.sel_arrow.specs.Rows.{rows}
-use Rattle.sel_arrow.specs.declared.array_ref.ArrayRef.{ArrayRef}
+use Rattle.sel_lines.proofs.Common.{length-map, err_from_is_err_and, rows, ArrayRef}
 use Rattle.sel_lines.proofs.Flattened.{not_fitting, numbers_alike, refused_text}
 use Rattle.sel_lines.proofs.flatten.flatten_columns.Goals as goal
 

@@ -1,8 +1,5 @@
-use Rattle.std.proofs.Common.{Bor, List, ℕ, ◌∙◌, Some, arith, ap, map, sym}
-use Rattle.std.specs.Prelude.{option_map}
-use Rattle.std.proofs.lemmas.List.{map-append}
-use Rattle.sel_lines.specs.Flatten.{flatten_part}
-use Rattle.sel_lines.specs.Parts.{read_part}
+use Rattle.std.proofs.Common.{Bor, List, ℕ, ◌∙◌, Some, arith, ap, map, sym, option_map}
+use Rattle.sel_lines.proofs.Common.{map-append, flatten_part, read_part}
 use Rattle.sel_lines.proofs.RowLemmas.{rows_step, rows_none}
 use Rattle.sel_lines.proofs.flatten.parse_parts.Goals as goal
 

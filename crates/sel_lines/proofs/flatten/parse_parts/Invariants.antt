@@ -1,7 +1,5 @@
 use Rattle.std.proofs.Common.{◌≡◌, Some, map, take}
-use Rattle.sel_lines.specs.Columns.{all_some}
-use Rattle.sel_lines.specs.Flatten.{flatten_part}
-use Rattle.sel_lines.specs.Parts.{read_part}
+use Rattle.sel_lines.proofs.Common.{all_some, flatten_part, read_part}
 use Rattle.sel_lines.proofs.flatten.parse_parts.Given as goal
 
 abbrev pub invariant-loop-word : goal.invariant-loop-word

@@ -1,7 +1,5 @@
-use Rattle.std.proofs.Common.{◌++◌, ◌∷◌, [], ◌∙◌, ap, sym}
-use Rattle.std.specs.Prelude.{option_map}
-use Rattle.sel_lines.specs.Lists.{list_of_word}
-use Rattle.sel_lines.specs.ListParts.{shown_list}
+use Rattle.std.proofs.Common.{◌++◌, ◌∷◌, [], ◌∙◌, ap, sym, option_map}
+use Rattle.sel_lines.proofs.Common.{list_of_word, shown_list}
 use Rattle.sel_lines.proofs.RowLemmas.{rows_none, rows_step}
 use Rattle.sel_lines.proofs.lists.parse_each.Goals as goal
 

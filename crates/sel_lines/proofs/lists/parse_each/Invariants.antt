@@ -1,9 +1,6 @@
 -- Loop invariant: the rows so far, and the parts that store them.
 use Rattle.std.proofs.Common.{◌≡◌, List, map, take, Some}
-use Rattle.sel_arrow.specs.Value.{Value}
-use Rattle.sel_lines.specs.Columns.{all_some}
-use Rattle.sel_lines.specs.Lists.{list_of_word}
-use Rattle.sel_lines.specs.ListParts.{HasRead}
+use Rattle.sel_lines.proofs.Common.{Value, all_some, list_of_word, HasRead}
 use Rattle.sel_lines.proofs.lists.parse_each.Given as goal
 
 abbrev pub invariant-loop-word : goal.invariant-loop-word

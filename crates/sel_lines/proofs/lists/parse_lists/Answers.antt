@@ -1,7 +1,5 @@
 use Rattle.std.proofs.Common.{◌∙◌, ap, map, subst}
-use Rattle.std.proofs.lemmas.Result.{IfOk-weaker}
-use Rattle.sel_lines.specs.Lists.{list_of_word}
-use Rattle.sel_lines.specs.ListParts.{IsReading}
+use Rattle.sel_lines.proofs.Common.{IfOk-weaker, list_of_word, IsReading}
 use Rattle.sel_lines.proofs.ReadLists.{rows_from_bars}
 use Rattle.sel_lines.proofs.lists.parse_lists.Goals as goal
 

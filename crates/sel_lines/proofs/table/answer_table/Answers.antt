@@ -1,9 +1,5 @@
-use Rattle.std.proofs.Common.{◌<◌, ◌∙◌, None, Some, ap, arith, length, pos, sym}
-use Rattle.std.specs.Prelude.{option_map}
-use Rattle.std.proofs.lemmas.Result.{IfOk-weaker}
-use Rattle.sel_arrow.specs.Value.{Number, Truth}
-use Rattle.sel_lines.specs.Rows.{parsed_rows}
-use Rattle.polars_compute.specs.SelectRows.{rows_of_arrays}
+use Rattle.std.proofs.Common.{◌<◌, ◌∙◌, None, Some, ap, arith, length, pos, sym, option_map}
+use Rattle.sel_lines.proofs.Common.{IfOk-weaker, Number, Truth, parsed_rows, rows_of_arrays}
 use Rattle.sel_lines.specs.Table.{table_answer}
 use Rattle.sel_lines.proofs.TableWords.{rest_is, table_words_read}
 use Rattle.sel_lines.proofs.table.answer_table.Goals as goal

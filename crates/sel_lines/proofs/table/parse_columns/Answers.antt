@@ -1,13 +1,5 @@
-use Rattle.std.proofs.Common.{◌≡◌, All, Bor, List, ℕ, ◌∙◌, Some, arith, ap, sym, subst}
-use Rattle.std.specs.Prelude.{IfSome, option_map}
-use Rattle.std.proofs.lemmas.List.{map-append}
-use Rattle.std.proofs.lemmas.List.Elements.{All-push}
-use Rattle.sel_arrow.specs.Rows.{rows, type_of}
-use Rattle.sel_arrow.specs.Shape.{of_int64}
-use Rattle.sel_arrow.specs.declared.array_ref.ArrayRef.{ArrayRef}
-use Rattle.sel_lines.specs.Columns.{column_of}
-use Rattle.sel_lines.specs.Numbers.{number_of}
-use Rattle.polars_compute.specs.SelectRows.{rows_of_arrays}
+use Rattle.std.proofs.Common.{◌≡◌, All, Bor, List, ℕ, ◌∙◌, Some, arith, ap, sym, subst, IfSome, option_map}
+use Rattle.sel_lines.proofs.Common.{map-append, All-push, rows, type_of, of_int64, ArrayRef, column_of, number_of, rows_of_arrays}
 use Rattle.sel_lines.proofs.RowLemmas.{rows_step, rows_none}
 use Rattle.sel_lines.proofs.table.parse_columns.Goals as goal
 

@@ -1,10 +1,6 @@
 -- Loop invariant: the columns so far.
 use Rattle.std.proofs.Common.{◌≡◌, ◌≤◌, All, Some, length, map, take, vec_len, vec_capacity}
-use Rattle.sel_arrow.specs.Rows.{type_of}
-use Rattle.sel_arrow.specs.Shape.{of_int64}
-use Rattle.sel_lines.specs.Columns.{all_some, column_of}
-use Rattle.sel_lines.specs.Numbers.{number_of}
-use Rattle.polars_compute.specs.SelectRows.{rows_of_arrays}
+use Rattle.sel_lines.proofs.Common.{type_of, of_int64, all_some, column_of, number_of, rows_of_arrays}
 use Rattle.sel_lines.proofs.table.parse_columns.Given as goal
 
 abbrev pub invariant-loop-word : goal.invariant-loop-word

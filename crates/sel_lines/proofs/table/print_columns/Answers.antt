@@ -1,11 +1,6 @@
-use Rattle.std.proofs.Common.{◌≤◌, ◌∙◌, arith, ap, sym, ◌++◌, length, map, lit<}
-use Rattle.std.specs.Prelude.{string_bytes}
-use Rattle.std.specs.List.{join_with_byte}
-use Rattle.std.proofs.lemmas.List.{take_all}
-use Rattle.sel_arrow.specs.Rows.{rows}
-use Rattle.sel_arrow.specs.declared.array_ref.ArrayRef.{ArrayRef}
+use Rattle.std.proofs.Common.{◌≤◌, ◌∙◌, arith, ap, sym, ◌++◌, length, map, lit<, string_bytes, take_all}
+use Rattle.sel_lines.proofs.Common.{join_with_byte, rows, ArrayRef, column_text}
 use Rattle.polars_compute.proofs.Offsets.{map_map}
-use Rattle.sel_lines.specs.Columns.{column_text}
 use Rattle.sel_lines.proofs.RowLemmas.{join_step, join_first_step}
 use Rattle.sel_lines.proofs.table.print_columns.Goals as goal
 use Rattle.sel_lines.proofs.table.print_columns.Goals.{then-place-gt0+in_ok-push, else-place-gt0}

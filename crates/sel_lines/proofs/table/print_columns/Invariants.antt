@@ -1,9 +1,6 @@
 -- Loop invariant: the columns so far, printed.
-use Rattle.std.proofs.Common.{◌≡◌, map, take}
-use Rattle.std.specs.Prelude.{string_bytes}
-use Rattle.std.specs.List.{join_with_byte}
-use Rattle.sel_arrow.specs.Rows.{rows}
-use Rattle.sel_lines.specs.Columns.{column_text}
+use Rattle.std.proofs.Common.{◌≡◌, map, take, string_bytes}
+use Rattle.sel_lines.proofs.Common.{join_with_byte, rows, column_text}
 use Rattle.sel_lines.proofs.table.print_columns.Given as goal
 
 abbrev pub invariant-loop-place : goal.invariant-loop-place

@@ -1,7 +1,5 @@
 use Rattle.std.proofs.Common.{◌∙◌, sym, ap, refl}
-use Rattle.polars_compute.specs.Pick.{all_within}
-use Rattle.sel_arrow.specs.Columns.{primitive_rows}
-use Rattle.sel_lines.specs.Columns.{column_text}
+use Rattle.sel_lines.proofs.Common.{all_within, primitive_rows, column_text}
 use Rattle.sel_lines.proofs.Answered.{take_answered}
 use Rattle.sel_lines.proofs.take.take_column.Goals as goal
 

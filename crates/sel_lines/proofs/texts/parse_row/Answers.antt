@@ -1,7 +1,6 @@
 use Rattle.std.proofs.Common.{◌∙◌, Some, ap, cond, lit<}
 use Rattle.std.proofs.lemmas.Str.Pattern.{strip_prefix_char}
-use Rattle.sel_arrow.specs.Value.{Null}
-use Rattle.sel_lines.specs.Texts.{string_value}
+use Rattle.sel_lines.proofs.Common.{Null, string_value}
 use Rattle.sel_lines.proofs.TextViews.{text_some, text_none}
 use Rattle.sel_lines.proofs.texts.parse_row.Goals as goal
 

@@ -1,6 +1,5 @@
 use Rattle.std.proofs.Common.{◌∙◌, ap, map}
-use Rattle.std.proofs.lemmas.Result.{IfOk-weaker}
-use Rattle.sel_lines.specs.Texts.{string_value}
+use Rattle.sel_lines.proofs.Common.{IfOk-weaker, string_value}
 use Rattle.sel_lines.proofs.RowLemmas.{column_from_rows}
 use Rattle.sel_lines.proofs.texts.parse_rows.Goals as goal
 

@@ -1,8 +1,5 @@
-use Rattle.std.proofs.Common.{◌∙◌, sym, ap, map, length, arith}
-use Rattle.std.specs.Prelude.{option_map}
-use Rattle.std.proofs.lemmas.List.{length-map}
-use Rattle.sel_gather.specs.Need.{bytes_needed}
-use Rattle.sel_lines.specs.Parts.{text_row}
+use Rattle.std.proofs.Common.{◌∙◌, sym, ap, map, length, arith, option_map}
+use Rattle.sel_lines.proofs.Common.{length-map, bytes_needed, text_row}
 use Rattle.sel_lines.proofs.TextViews.{column_fits}
 use Rattle.sel_lines.proofs.texts.parse_texts.Goals as goal
 

@@ -1,9 +1,5 @@
-use Rattle.std.proofs.Common.{Bor, List, ℕ, ◌∙◌, Some, arith, ap, map, sym}
-use Rattle.std.specs.Prelude.{option_map}
-use Rattle.std.proofs.lemmas.List.{map-append}
-use Rattle.sel_lines.specs.Columns.{row_of}
-use Rattle.sel_lines.specs.Texts.{string_value}
-use Rattle.sel_lines.specs.Parts.{text_row}
+use Rattle.std.proofs.Common.{Bor, List, ℕ, ◌∙◌, Some, arith, ap, map, sym, option_map}
+use Rattle.sel_lines.proofs.Common.{map-append, row_of, string_value, text_row}
 use Rattle.sel_lines.proofs.RowLemmas.{rows_step, rows_none}
 use Rattle.sel_lines.proofs.texts.parse_words.Goals as goal
 

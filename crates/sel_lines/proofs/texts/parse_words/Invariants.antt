@@ -1,7 +1,5 @@
 use Rattle.std.proofs.Common.{◌≡◌, Some, map, take}
-use Rattle.sel_lines.specs.Columns.{all_some, row_of}
-use Rattle.sel_lines.specs.Texts.{string_value}
-use Rattle.sel_lines.specs.Parts.{text_row}
+use Rattle.sel_lines.proofs.Common.{all_some, row_of, string_value, text_row}
 use Rattle.sel_lines.proofs.texts.parse_words.Given as goal
 
 abbrev pub invariant-loop-word : goal.invariant-loop-word

@@ -1,12 +1,6 @@
-use Rattle.std.proofs.Common.{◌≡◌, ◌∙◌, ◌*◌, ℕ, map, ap, arith, length, sym}
-use Rattle.std.proofs.lemmas.List.{length-map}
-use Rattle.sel_arrow.specs.Masked.{hidden}
-use Rattle.sel_arrow.specs.Nested.{block_rows}
-use Rattle.sel_arrow.specs.Rows.{rows, row_count}
-use Rattle.sel_arrow.specs.Value.{Number, is_valid}
+use Rattle.std.proofs.Common.{◌≡◌, ◌∙◌, ◌*◌, map, ap, arith, length, sym}
+use Rattle.sel_lines.proofs.Common.{length-map, hidden, block_rows, rows, row_count, Number, is_valid, joined_items, standing_for}
 use Rattle.sel_arrow.proofs.NestedRows.{length-rows}
-use Rattle.sel_gather.specs.Children.{joined_items}
-use Rattle.sel_lines.specs.BlockParts.{standing_for}
 use Rattle.sel_lines.proofs.MadeColumns.{block_sound, memory_alone}
 use Rattle.sel_lines.proofs.ReadBlocks.{blocks_made, standing_length}
 use Rattle.sel_lines.proofs.ReadLists.{length-hidden}

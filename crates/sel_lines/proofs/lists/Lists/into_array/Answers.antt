@@ -1,13 +1,6 @@
-use Rattle.std.proofs.Common.{◌≡◌, ◌∙◌, ◌∷◌, ℤ, pos, map, ap, arith, length, sym, refl, Some}
-use Rattle.std.proofs.lemmas.List.{length-map}
-use Rattle.sel_arrow.specs.Makers.{list_fault}
-use Rattle.sel_arrow.specs.Masked.{hidden}
-use Rattle.sel_arrow.specs.Nested.{list_rows}
-use Rattle.sel_arrow.specs.Rows.{rows, row_count}
-use Rattle.sel_arrow.specs.Value.{Number}
+use Rattle.std.proofs.Common.{◌≡◌, ◌∙◌, ◌∷◌, ℤ, map, ap, arith, length, sym, refl}
+use Rattle.sel_lines.proofs.Common.{length-map, hidden, list_rows, rows, row_count, Number, joined_items, item_ends}
 use Rattle.sel_arrow.proofs.NestedRows.{length-rows}
-use Rattle.sel_gather.specs.Children.{joined_items}
-use Rattle.sel_gather.specs.Ends.{item_ends}
 use Rattle.sel_gather.proofs.JoinedRows.{map_same, offsets_of, same_numbers}
 use Rattle.sel_gather.proofs.Rebuilt.{rising_ends}
 use Rattle.sel_lines.proofs.MadeColumns.{list_sound, memory_alone}

@@ -1,5 +1,4 @@
-use Rattle.std.proofs.Common.{◌∙◌, ap}
-use Rattle.std.specs.Prelude.{option_map}
+use Rattle.std.proofs.Common.{◌∙◌, ap, option_map}
 use Rattle.sel_arrow.specs.Value.{Number}
 use Rattle.sel_lines.proofs.Printed.{integer_parsed, integer_refused}
 use Rattle.sel_lines.proofs.numbers.I64Item.parse.Goals as goal

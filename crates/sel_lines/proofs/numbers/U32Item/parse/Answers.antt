@@ -1,5 +1,4 @@
-use Rattle.std.proofs.Common.{◌∙◌, ap, pos, arith}
-use Rattle.std.specs.Prelude.{option_map}
+use Rattle.std.proofs.Common.{◌∙◌, ap, pos, arith, option_map}
 use Rattle.sel_arrow.specs.Value.{Number}
 use Rattle.sel_lines.proofs.Printed.{unsigned_parsed, unsigned_refused}
 use Rattle.sel_lines.proofs.numbers.U32Item.parse.Goals as goal
