@@ -372,7 +372,7 @@ fn are_numbers<T: ArrowPrimitive + PartialEq>(
     erased: ArrayRef,
     values: &[T; 3],
 ) -> Result<bool, Fail> {
-    let column = taken(erased.into_primitive::<T>())?;
+    let column = taken(erased.into_array::<PrimitiveArray<T>>())?;
     let bits = validity(alloc, &[false, true, true])?;
     Ok(keeps_numbers(column, bits, values))
 }
@@ -468,8 +468,8 @@ fn conversion_to_another_integer_type_fails(rt: HostRuntime) -> Result<(), Fail>
 
 /// Returns the number of rows of the null column in a column of any type.
 fn nulls_again(erased: ArrayRef) -> Result<usize, Fail> {
-    let erased = kept(erased.into_boolean())?;
-    Ok(taken(erased.into_null())?.len())
+    let erased = kept(erased.into_array::<BooleanArray>())?;
+    Ok(taken(erased.into_array::<NullArray>())?.len())
 }
 
 #[test]
@@ -481,8 +481,8 @@ fn null_columns(rt: HostRuntime) -> Result<(), Fail> {
 
 /// Returns the boolean column in a column of any type.
 fn truths_again(erased: ArrayRef) -> Result<BooleanArray, Fail> {
-    let erased = kept(erased.into_null())?;
-    taken(erased.into_boolean())
+    let erased = kept(erased.into_array::<NullArray>())?;
+    taken(erased.into_array::<BooleanArray>())
 }
 
 /// Returns whether the rows are these booleans, and the second one is true without the validity.
@@ -511,8 +511,8 @@ fn three_pieces<O: Offset>(alloc: Global, offsets: &[O]) -> Result<BinaryArray<O
 
 /// Returns the binary column in a column of any type.
 fn bytes_again(erased: ArrayRef) -> Result<BinaryArray<i64>, Fail> {
-    let erased = kept(erased.into_binview())?;
-    taken(erased.into_binary())
+    let erased = kept(erased.into_array::<BinaryViewArray>())?;
+    taken(erased.into_array::<BinaryArray<i64>>())
 }
 
 /// Returns whether a slice of such a column shares its bytes.
@@ -573,8 +573,8 @@ fn three_views(alloc: Global) -> Result<BinaryViewArray, Fail> {
 
 /// Returns the view column in a column of any type.
 fn views_again(erased: ArrayRef) -> Result<BinaryViewArray, Fail> {
-    let erased = kept(erased.into_utf8view())?;
-    taken(erased.into_binview())
+    let erased = kept(erased.into_array::<Utf8ViewArray>())?;
+    taken(erased.into_array::<BinaryViewArray>())
 }
 
 /// Returns whether there are three views of strings over one data buffer.
@@ -604,8 +604,8 @@ fn binary_view_columns(rt: HostRuntime) -> Result<(), Fail> {
 
 /// Returns the string column in a column of any type.
 fn texts_again(erased: ArrayRef) -> Result<Utf8ViewArray, Fail> {
-    let erased = kept(erased.into_binary())?;
-    taken(erased.into_utf8view())
+    let erased = kept(erased.into_array::<BinaryArray<i64>>())?;
+    taken(erased.into_array::<Utf8ViewArray>())
 }
 
 /// Returns views of strings as a string column.

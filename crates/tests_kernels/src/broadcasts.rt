@@ -104,7 +104,7 @@ const BYTES: &str = r#"[h"61",null,h"63",h"6768696a6b6c6d6e6f70717273",h"65"]"#;
 const LONG: &[u8; 13] = b"nopqrstuvwxyz";
 
 fn views(alloc: Global) -> Result<BinaryViewArray, Fail> {
-    match parsed(alloc, "binview", BYTES)?.into_binview() {
+    match parsed(alloc, "binview", BYTES)?.into_array::<BinaryViewArray>() {
         Ok(views) => Ok(views),
         Err(back) => {
             drop(back);
@@ -141,7 +141,7 @@ fn texts(alloc: Global) -> Result<Utf8ViewArray, Fail> {
         "utf8",
         r#"["a",null,"c","a string of many bytes","e"]"#,
     )?
-    .into_utf8view()
+    .into_array::<Utf8ViewArray>()
     {
         Ok(texts) => Ok(texts),
         Err(back) => {

@@ -4,6 +4,9 @@
 use crate::parsed::{fixed_lists, lists, parsed, prints, structs};
 use sel_arrow::array::Array;
 use sel_arrow::array_ref::ArrayRef;
+use sel_arrow::fixed_size_list::FixedSizeListArray;
+use sel_arrow::list::ListArray;
+use sel_arrow::structure::StructArray;
 use sel_bits::bitmap::Bitmap;
 use sel_text::read_type::parse_dtype;
 use std::alloc::Global;
@@ -71,13 +74,13 @@ fn failed_conversion_returns_the_column(rt: HostRuntime) -> Result<(), Fail> {
     let alloc = rt.alloc();
     let rows = "[[1,2],null,[3]]";
     let column = parsed(alloc, "list<i64>", rows)?;
-    assert!(rt; gives_back(alloc, column.into_struct(), rows)?);
+    assert!(rt; gives_back(alloc, column.into_array::<StructArray>(), rows)?);
     let rows = "[[1,2],null]";
     let column = parsed(alloc, "fixed<2,i64>", rows)?;
-    assert!(rt; gives_back(alloc, column.into_list(), rows)?);
+    assert!(rt; gives_back(alloc, column.into_array::<ListArray<i64>>(), rows)?);
     let rows = "[(1,true),(2,null),null]";
     let column = parsed(alloc, "struct<i64,bool>", rows)?;
-    assert!(rt; gives_back(alloc, column.into_fixed_size_list(), rows)?);
+    assert!(rt; gives_back(alloc, column.into_array::<FixedSizeListArray>(), rows)?);
     Ok(())
 }
 
@@ -88,13 +91,13 @@ fn accepts(alloc: Global, dtype: &str, row: &ArrayRef) -> Result<bool, Fail> {
     };
     let type_accepts = parsed_type.scalar_fits(row);
     drop(parsed_type);
-    let column_accepts = match parsed(alloc, dtype, "[]")?.into_list() {
+    let column_accepts = match parsed(alloc, dtype, "[]")?.into_array::<ListArray<i64>>() {
         Ok(lists) => {
             let fits = lists.scalar_fits(row);
             drop(lists);
             fits
         }
-        Err(back) => match back.into_fixed_size_list() {
+        Err(back) => match back.into_array::<FixedSizeListArray>() {
             Ok(lists) => {
                 let fits = lists.scalar_fits(row);
                 drop(lists);

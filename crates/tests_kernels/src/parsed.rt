@@ -52,15 +52,15 @@ fn of_type<A>(found: Result<A, ArrayRef>) -> Result<A, Fail> {
 
 /// Returns a column of lists.
 pub fn lists(alloc: Global, dtype: &str, rows: &str) -> Result<ListArray<i64>, Fail> {
-    of_type(parsed(alloc, dtype, rows)?.into_list())
+    of_type(parsed(alloc, dtype, rows)?.into_array::<ListArray<i64>>())
 }
 
 /// Returns a column of fixed-size lists.
 pub fn fixed_lists(alloc: Global, dtype: &str, rows: &str) -> Result<FixedSizeListArray, Fail> {
-    of_type(parsed(alloc, dtype, rows)?.into_fixed_size_list())
+    of_type(parsed(alloc, dtype, rows)?.into_array::<FixedSizeListArray>())
 }
 
 /// Returns a column of structs.
 pub fn structs(alloc: Global, dtype: &str, rows: &str) -> Result<StructArray, Fail> {
-    of_type(parsed(alloc, dtype, rows)?.into_struct())
+    of_type(parsed(alloc, dtype, rows)?.into_array::<StructArray>())
 }
