@@ -90,7 +90,7 @@ pub(crate) fn gather_flat_blocks<'a, P: Plan>(
     Ok(Some(column))
 }
 
-// Returns whether `gather_flat` has the type. The result is a hint.
+// Returns whether `gather_flat` gathers columns of this type. No contract depends on the result.
 fn is_flat(column: &Column) -> bool {
     match column {
         Column::Boolean(_)
@@ -144,7 +144,7 @@ fn list_ends<P: Plan>(
 }
 
 // Returns the `need` items of the lists at the row references of a plan, and `width` nulls for each
-// null list; none if their type is none of `gather_flat`. Errors: `OutOfMemory`.
+// null list; none if `gather_flat` does not gather their type. Errors: `OutOfMemory`.
 fn gather_items<'a, P: Plan>(
     alloc: Global,
     first: &Column,
