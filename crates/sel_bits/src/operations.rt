@@ -10,7 +10,7 @@ ghost use Rattle.sel_bits.specs.Words.{is_set, word_of};
 use crate::bitmap::Bitmap;
 use crate::faults::PolarsResult;
 use crate::packer::BitPacker;
-use crate::words::low_bits;
+use crate::words::{low_bits, whole_word};
 use std::alloc::Global;
 
 impl Bitmap {
@@ -221,10 +221,16 @@ fn whole_words_by<R: BitRule>(
         (zip_three R.on_bits x.now.bits y.now.bits z.now.bits)) }
     ensures refusal { IfErr result IsOutOfMemory }
 {
-    let count = x.len();
+    let (x_bytes, x_shift, count) = x.as_slice();
+    let (y_bytes, y_shift, _) = y.as_slice();
+    let (z_bytes, z_shift, _) = z.as_slice();
     let mut packer = BitPacker::with_capacity(alloc, count)?;
     for block in 0..count / 64 {
-        packer.append(word_by::<R>(x, y, z, 64 * block, 64), 64)?;
+        let at = 8 * block;
+        let x_word = whole_word(x_bytes, at, x_shift);
+        let y_word = whole_word(y_bytes, at, y_shift);
+        let z_word = whole_word(z_bytes, at, z_shift);
+        packer.append(R::on_words(x_word, y_word, z_word), 64)?;
     }
     Ok(packer)
 }

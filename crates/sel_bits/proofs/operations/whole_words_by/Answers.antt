@@ -1,19 +1,37 @@
-use Rattle.std.proofs.Common.{◌≡◌, ◌+◌, ◌*◌, ◌≤◌, ◌∙◌, ap, length, take, arith}
-use Rattle.sel_bits.specs.Bits.{zip_three}
-use Rattle.sel_bits.proofs.Combining.{length-zip_three, packed_more, part_fits}
+use Rattle.std.proofs.Common.{◌≡◌, ◌+◌, ◌*◌, ◌%◌, ◌^◌, ◌≤◌, ◌∙◌, ap, sym, ℕ, List, length, take, drop, arith, Bool}
+use Rattle.std.proofs.Math.Nat.{mod-eq_of_lt}
+use Rattle.sel_bits.specs.Bits.{bits_from, zip_three}
+use Rattle.sel_bits.specs.Words.{word_of}
+use Rattle.sel_bits.proofs.Combining.{length-zip_three, masked_made, packed_more}
+use Rattle.sel_bits.proofs.Loads.{block_word}
 use Rattle.sel_bits.proofs.operations.whole_words_by.Goals as goal
 
-pub append-requires-clause-fits : goal.append-requires-clause-fits
-append-requires-clause-fits g c =
-    let made = zip_three g.R.BitRule.on_bits c.args.x.now.bits c.args.y.now.bits c.args.z.now.bits in
-    let long = length-zip_three g.R.BitRule.on_bits c.args.x.now.bits c.args.y.now.bits c.args.z.now.bits c.requires.second c.requires.third in
-    let inside : 64 * c.loop-block.block + 64 ≤ length made = omega (arith, long) in
-    rw c.word_by.ensures (part_fits made (64 * c.loop-block.block) 64 inside)
+-- The word of a block of a bitmap's bits, by its bytes.
+read : (bits : List Bool) (bytes : List ℕ) (shift len block word : ℕ) → bits ≡ bits_from bytes shift len → 64 * block + 64 ≤ len
+    → word ≡ word_of (bits_from (drop (8 * block) bytes) shift 64) → word ≡ word_of (take 64 (drop (64 * block) bits))
+read bits bytes shift len block word is within made =
+    made ∙ block_word bytes shift len block 64 within ∙ ap (λ l. word_of (take 64 (drop (64 * block) l))) (sym is)
 
 pub loop-block-preserved : goal.loop-block-preserved
 loop-block-preserved g c =
-    let made = zip_three g.R.BitRule.on_bits c.args.x.now.bits c.args.y.now.bits c.args.z.now.bits in
-    let long = length-zip_three g.R.BitRule.on_bits c.args.x.now.bits c.args.y.now.bits c.args.z.now.bits c.requires.second c.requires.third in
-    let inside : 64 * c.loop-block.block + 64 ≤ length made = omega (arith, long) in
-    let next : 64 * c.loop-block.block + 64 ≡ 64 * (c.loop-block.block + 1) = omega arith in
-    rw (c.in_ok-append.ensures.appended, c.word_by.ensures, c.loop-block.invariant) (packed_more made (64 * c.loop-block.block) 64 inside ∙ ap (λ n. take n made) next)
+    let xs = c.args.x.now.bits in
+    let ys = c.args.y.now.bits in
+    let zs = c.args.z.now.bits in
+    let made = zip_three g.R.BitRule.on_bits xs ys zs in
+    let long = length-zip_three g.R.BitRule.on_bits xs ys zs c.requires.second c.requires.third in
+    let block = c.loop-block.block in
+    let within : 64 * block + 64 ≤ length xs = omega arith in
+    let next : 64 * block + 64 ≡ 64 * (block + 1) = omega arith in
+    let word =
+    sym (mod-eq_of_lt (omega arith))
+    ∙ masked_made g.R.BitRule.on_bits xs ys zs (64 * block) 64
+    c.whole_word-x_word.result c.whole_word-y_word.result c.whole_word-z_word.result c.on_words.result
+    c.requires.second c.requires.third within (omega arith)
+    (read xs c.as_slice-x_shift.result.0.now c.as_slice-x_shift.result.1 c.as_slice-x_shift.result.2 block c.whole_word-x_word.result
+    c.as_slice-x_shift.ensures.bits (omega arith) c.whole_word-x_word.ensures)
+    (read ys c.as_slice-y_shift.result.0.now c.as_slice-y_shift.result.1 c.as_slice-y_shift.result.2 block c.whole_word-y_word.result
+    c.as_slice-y_shift.ensures.bits (omega arith) c.whole_word-y_word.ensures)
+    (read zs c.as_slice-z_shift.result.0.now c.as_slice-z_shift.result.1 c.as_slice-z_shift.result.2 block c.whole_word-z_word.result
+    c.as_slice-z_shift.ensures.bits (omega arith) c.whole_word-z_word.ensures)
+    c.on_words.ensures in
+    rw (c.in_ok-append.ensures.appended, word, c.loop-block.invariant) (packed_more made (64 * block) 64 (omega (arith, long)) ∙ ap (λ n. take n made) next)
