@@ -1,5 +1,6 @@
 /* The allocator of the tests of the Arrow interface, and all of these tests. */
 #include "arrow_test.h"
+#include "wrapped.h"
 
 #include <stdio.h>
 #include <stdlib.h>
@@ -8,15 +9,6 @@
 
 static long until_refused = -1, held;
 static bool was_refused;
-
-void *__real_malloc(size_t size);
-void *__real_calloc(size_t count, size_t size);
-void *__real_realloc(void *at, size_t size);
-void __real_free(void *at);
-void *__wrap_malloc(size_t size);
-void *__wrap_calloc(size_t count, size_t size);
-void *__wrap_realloc(void *at, size_t size);
-void __wrap_free(void *at);
 
 static bool is_refused(void) {
     bool refuses = until_refused >= 0 && until_refused-- == 0;

@@ -2,6 +2,7 @@
  * linked with -Wl,--wrap=NAME for each of the four functions below. */
 
 #include "test.h"
+#include "wrapped.h"
 
 #include <malloc.h>
 #include <stdio.h>
@@ -9,15 +10,6 @@
 #include <string.h>
 
 /* ---- the allocator ---- */
-
-void *__real_malloc(size_t size);
-void *__real_calloc(size_t count, size_t size);
-void *__real_realloc(void *block, size_t size);
-void __real_free(void *block);
-void *__wrap_malloc(size_t size);
-void *__wrap_calloc(size_t count, size_t size);
-void *__wrap_realloc(void *block, size_t size);
-void __wrap_free(void *block);
 
 static long blocks = 0;
 static long until_refused = -1;

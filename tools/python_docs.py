@@ -92,7 +92,7 @@ def of_function(module: Module, function: Function, level: int, owner: str = "")
 
 def of_class(module: Module, item: ast.ClassDef) -> Iterator[str]:
     """Yields the sections of a class: of itself, and of its methods that are public or that have a docstring."""
-    bases = [module.source(base) for base in item.bases if not (isinstance(base, ast.Name) and base.id == "Owner")]
+    bases = [module.source(base) for base in item.bases if not (isinstance(base, ast.Name) and base.id in ("HandleOwner", "Owner"))]
     methods = [part for part in item.body if isinstance(part, ast.FunctionDef) and "overload" not in decorators(part)]
     made = next((part for part in methods if part.name in ("__new__", "__init__")), None)
     if "dataclass" in {module.source(decorator).partition("(")[0] for decorator in item.decorator_list}:

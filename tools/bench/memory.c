@@ -1,21 +1,13 @@
 /* Counts the allocations of a call and the most memory that is in use while it runs. Linked with build/libsel.a and with
  * -Wl,--wrap=malloc, realloc, calloc and free. Prints a line for each case: its name, the levels of its type, the allocations, the
  * bytes of the result, and the most bytes beyond those before the call. */
-#include "sel.h"
+#include "../../c/wrapped.h"
+#include "common.h"
 
 #include <malloc.h>
 #include <stdio.h>
 #include <stdlib.h>
 #include <string.h>
-
-void *__real_malloc(size_t size);
-void *__real_calloc(size_t count, size_t size);
-void *__real_realloc(void *block, size_t size);
-void __real_free(void *block);
-void *__wrap_malloc(size_t size);
-void *__wrap_calloc(size_t count, size_t size);
-void *__wrap_realloc(void *block, size_t size);
-void __wrap_free(void *block);
 
 static size_t made = 0, in_use = 0, most = 0;
 
@@ -51,29 +43,6 @@ void __wrap_free(void *block) {
 }
 
 enum { ROWS = 100000, ITEMS = 4 };
-
-static void must(sel_status status) {
-    if (status != SEL_OK) {
-        fprintf(stderr, "a call failed: %s\n", sel_status_string(status));
-        exit(1);
-    }
-}
-
-/* Memory of `count` times `size` bytes, all 0. */
-static void *room(size_t count, size_t size) {
-    void *block = calloc(count, size);
-    if (block == NULL) {
-        fprintf(stderr, "out of memory\n");
-        exit(1);
-    }
-    return block;
-}
-
-static uint32_t next(void) {
-    static uint64_t state = 7;
-    state = state * 6364136223846793005u + 1442695040888963407u;
-    return (uint32_t)(state >> 33);
-}
 
 /* One bit for each of some rows; `of` of ten are set. */
 static uint8_t *bits(size_t rows, uint32_t of) {

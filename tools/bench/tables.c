@@ -2,26 +2,13 @@
  * case: the rows, the percentage of the mask's values that are true, whether the mask has nulls, and both times of a column in ns. */
 #define _POSIX_C_SOURCE 200809L
 
-#include "sel.h"
+#include "common.h"
 
 #include <stdio.h>
 #include <stdlib.h>
 #include <time.h>
 
 enum { COLUMNS = 1000, ROUNDS = 30 };
-
-static void must(sel_status status) {
-    if (status != SEL_OK) {
-        fprintf(stderr, "a call failed: %s\n", sel_status_string(status));
-        exit(1);
-    }
-}
-
-static uint32_t next(void) {
-    static uint64_t state = 7;
-    state = state * 6364136223846793005u + 1442695040888963407u;
-    return (uint32_t)(state >> 33);
-}
 
 static double now(void) {
     struct timespec at;
@@ -57,16 +44,6 @@ static double best(void (*filter)(const sel_column *mask), const sel_column *mas
         least = round == 0 || took < least ? took : least;
     }
     return least;
-}
-
-/* Memory of `count` times `size` bytes, all 0. */
-static void *room(size_t count, size_t size) {
-    void *block = calloc(count, size);
-    if (block == NULL) {
-        fprintf(stderr, "out of memory\n");
-        exit(1);
-    }
-    return block;
 }
 
 static void time_table(size_t rows, bool has_nulls, uint32_t kept_of_hundred) {

@@ -9,7 +9,7 @@ from typing import TYPE_CHECKING, Any
 
 from ._library import ArrowSchema, Handle, TypeHandle, call, lib
 from ._memory import room
-from ._owner import Owner, derived
+from ._owner import HandleOwner, Owner, derived
 from ._types import KINDS, Type
 
 if TYPE_CHECKING:
@@ -29,10 +29,10 @@ _STORAGE = {
 _DECIMALS = {"32": "i32", "64": "i64", "128": "i128"}
 
 
-class TypeOwner:
+class TypeOwner(HandleOwner):
     """Owns a logical type of the library. Types are never changed; several threads may use one owner at the same time."""
 
-    __slots__ = ("_handle",)
+    __slots__ = ()
 
     _handle: TypeHandle
 
@@ -45,11 +45,6 @@ class TypeOwner:
     def __del__(self) -> None:
         if self._handle.at:
             lib.sel_type_free(byref(self._handle))
-
-    @property
-    def _as_parameter_(self) -> Any:
-        """The handle as an argument of a call."""
-        return byref(self._handle)
 
 
 def _made(name: str, *arguments: Any) -> TypeOwner:

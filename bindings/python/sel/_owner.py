@@ -13,10 +13,23 @@ from ._types import KINDS
 if TYPE_CHECKING:
     from typing_extensions import Self
 
-__all__ = ["Owner", "concatenated", "derived", "from_several"]
+__all__ = ["HandleOwner", "Owner", "concatenated", "derived", "from_several"]
 
 
-class Owner:
+class HandleOwner:
+    """Owns a handle of the library, which each subclass makes and frees."""
+
+    __slots__ = ("_handle",)
+
+    _handle: Any
+
+    @property
+    def _as_parameter_(self) -> Any:
+        """The handle as an argument of a call."""
+        return byref(self._handle)
+
+
+class Owner(HandleOwner):
     """Owns a handle of the library, and the column that it holds. Several threads may use one owner at the same time.
 
     Most calls run without the interpreter's lock. They get the owner itself as their argument, so that it lives until the call
@@ -24,7 +37,7 @@ class Owner:
     makes the column, and when it is moved into another new owner.
     """
 
-    __slots__ = ("_handle",)
+    __slots__ = ()
 
     _handle: Handle
 
@@ -37,11 +50,6 @@ class Owner:
     def __del__(self) -> None:
         if self._handle.at:
             lib.sel_free(byref(self._handle))
-
-    @property
-    def _as_parameter_(self) -> Any:
-        """The handle as an argument of a call."""
-        return byref(self._handle)
 
     def __len__(self) -> int:
         """Returns the number of rows."""

@@ -8,7 +8,7 @@ from typing import TYPE_CHECKING, Any, NoReturn
 
 from ._arguments import mask_of
 from ._library import SelectionHandle, call, lib
-from ._owner import Owner
+from ._owner import HandleOwner, Owner
 
 if TYPE_CHECKING:
     from typing import Union
@@ -22,7 +22,7 @@ if TYPE_CHECKING:
 __all__ = ["Selection"]
 
 
-class Selection:
+class Selection(HandleOwner):
     """The rows that a mask selects, prepared once: `Column.filter` and `Table.filter` take it in place of the mask.
 
     The mask is a column of booleans, a numpy array of them or an iterable of Python values; a null counts as false. A selection
@@ -35,7 +35,7 @@ class Selection:
     (Column(utf8, ["a","d"]), Column(i64, [1,4]))
     """
 
-    __slots__ = ("_handle",)
+    __slots__ = ()
 
     _handle: SelectionHandle
 
@@ -50,11 +50,6 @@ class Selection:
     def __del__(self) -> None:
         if self._handle.at:
             lib.sel_selection_free(byref(self._handle))
-
-    @property
-    def _as_parameter_(self) -> Any:
-        """The handle as an argument of a call."""
-        return byref(self._handle)
 
     def _number(self, name: str) -> int:
         """Returns the number that a call reports of the selection."""

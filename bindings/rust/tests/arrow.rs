@@ -1,5 +1,8 @@
 //! Columns in and out by the Arrow C data interface, with structures of another producer and another consumer.
 
+mod foreign;
+
+use foreign::ForeignArray;
 use sel::{ArrowArray, ArrowSchema, Column, Error};
 use std::cell::Cell;
 use std::ffi::{c_char, c_void, CStr};
@@ -10,21 +13,6 @@ use std::sync::atomic::{AtomicUsize, Ordering};
 use std::sync::Arc;
 use std::thread::sleep;
 use std::time::Duration;
-
-/// An array as another library declares it.
-#[repr(C)]
-struct ForeignArray {
-    length: i64,
-    null_count: i64,
-    offset: i64,
-    n_buffers: i64,
-    n_children: i64,
-    buffers: *mut *const c_void,
-    children: *mut *mut ForeignArray,
-    dictionary: *mut ForeignArray,
-    release: Option<unsafe extern "C" fn(*mut ForeignArray)>,
-    private_data: *mut c_void,
-}
 
 /// A schema as another library declares it.
 #[repr(C)]

@@ -1,5 +1,8 @@
 //! The values of columns as slices: those of an imported array are the producer's, at the addresses that it gave.
 
+mod foreign;
+
+use foreign::ForeignArray;
 use sel::{ArrowArray, ArrowSchema, ArrowType, Column, Error, Native, Number, TypedColumn};
 use std::ffi::c_void;
 use std::ptr::{addr_of_mut, null, null_mut};
@@ -8,21 +11,6 @@ use std::sync::Arc;
 use std::thread;
 
 const WRONG_KIND: Error = Error::WrongArgument(3);
-
-/// An array as another library declares it.
-#[repr(C)]
-struct ForeignArray {
-    length: i64,
-    null_count: i64,
-    offset: i64,
-    n_buffers: i64,
-    n_children: i64,
-    buffers: *mut *const c_void,
-    children: *mut *mut ForeignArray,
-    dictionary: *mut ForeignArray,
-    release: Option<unsafe extern "C" fn(*mut ForeignArray)>,
-    private_data: *mut c_void,
-}
 
 /// What an array owns until its release: its values, the bits of its validity, and the addresses of both.
 struct Owned<T> {
