@@ -14,8 +14,8 @@ use sel_arrow::array::Array;
 use sel_arrow::array_ref::ArrayRef;
 use sel_arrow::boolean::BooleanArray;
 use sel_arrow::column::Column;
-use sel_bits::bitmap::Bitmap;
 use sel_ffi::handle::Handle;
+use sel_ffi::inputs::copied_bits;
 use sel_ffi::status::{LENGTH_MISMATCH, OUT_OF_MEMORY, UNSUPPORTED_TYPE, put};
 use std::alloc::Global;
 
@@ -69,10 +69,7 @@ pub fn filter_bits_into(
     if column.len() != len || mask.len() < len.div_ceil(8) {
         return LENGTH_MISMATCH;
     }
-    let Ok(copied) = Vec::from_slice(alloc, mask) else {
-        return OUT_OF_MEMORY;
-    };
-    let Ok(bits) = Bitmap::from_u8_vec(copied, len) else {
+    let Ok(bits) = copied_bits(alloc, mask, len) else {
         return OUT_OF_MEMORY;
     };
     match filter_with_bitmap(alloc, column, &bits) {

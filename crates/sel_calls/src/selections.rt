@@ -10,8 +10,8 @@ use polars_compute::filter::{Selection, filter_selected};
 use sel_arrow::array::Array;
 use sel_arrow::array_ref::ArrayRef;
 use sel_arrow::column::Column;
-use sel_bits::bitmap::Bitmap;
 use sel_ffi::handle::Handle;
+use sel_ffi::inputs::copied_bits;
 use sel_ffi::status::{LENGTH_MISMATCH, OK, OUT_OF_MEMORY, UNSUPPORTED_TYPE, put};
 use std::alloc::Global;
 
@@ -45,10 +45,7 @@ pub fn selection_of_bits_into(
     if mask.len() < len.div_ceil(8) {
         return LENGTH_MISMATCH;
     }
-    let Ok(copied) = Vec::from_slice(alloc, mask) else {
-        return OUT_OF_MEMORY;
-    };
-    let Ok(bits) = Bitmap::from_u8_vec(copied, len) else {
+    let Ok(bits) = copied_bits(alloc, mask, len) else {
         return OUT_OF_MEMORY;
     };
     match Selection::of_bitmap(bits) {

@@ -3,7 +3,7 @@
 ghost use Rattle.std.specs.Prelude.{◌≡◌, ◌≤◌, ◌*◌, IfOk, IfErr, length, None, Some, false, [], ◌∷◌};
 ghost use Rattle.sel_bits.specs.Faults.{first_broken, IsFaultOrMemory};
 ghost use Rattle.sel_arrow.specs.Masked.{Covers, number_rows, bool_rows};
-ghost use Rattle.sel_bits.specs.Bits.{bits_from};
+ghost use Rattle.sel_bits.specs.Bits.{bits_from, unsliced};
 ghost use Rattle.sel_arrow.specs.Shape.{of_boolean};
 ghost use Rattle.sel_arrow.specs.Rows.{rows, type_of};
 ghost use Rattle.sel_ffi.specs.Inputs.{validity_in, lacks_bits, flat_rules};
@@ -17,6 +17,45 @@ use sel_bits::bitmap::Bitmap;
 use sel_bits::buffer::Buffer;
 use sel_bits::faults::{MakeError, Malformed};
 use std::alloc::Global;
+
+/// Copies values.
+///
+/// # Errors
+/// `OutOfMemory` if an allocation fails.
+pub fn copied_values<T: Copy + Drop>(alloc: Global, values: &[T]) -> Result<Buffer<T>, MakeError>
+    ensures values { IfOk result (λ buffer. buffer ≡ values.now) }
+    ensures refusal { IfErr result (λ error. error ≡ MakeError.OutOfMemory) }
+{
+    let Ok(copied) = Vec::from_slice(alloc, values) else {
+        return Err(MakeError::OutOfMemory);
+    };
+    match Buffer::from_vec(copied) {
+        Ok(buffer) => Ok(buffer),
+        Err(_) => Err(MakeError::OutOfMemory),
+    }
+}
+
+/// Copies the first `len` bits of `bytes`, least significant bit first.
+///
+/// # Requires
+/// `len <= 8 * bytes.len()`.
+///
+/// # Errors
+/// `OutOfMemory` if an allocation fails.
+pub fn copied_bits(alloc: Global, bytes: &[u8], len: usize) -> Result<Bitmap, MakeError>
+    requires { len ≤ 8 * length bytes.now }
+    ensures value { IfOk result (λ bitmap. bitmap ≡ unsliced (bits_from bytes.now 0 len)) }
+    ensures len { IfOk result (λ bitmap. length bitmap.bits ≡ len) }
+    ensures refusal { IfErr result (λ error. error ≡ MakeError.OutOfMemory) }
+{
+    let Ok(copied) = Vec::from_slice(alloc, bytes) else {
+        return Err(MakeError::OutOfMemory);
+    };
+    match Bitmap::from_u8_vec(copied, len) {
+        Ok(bits) => Ok(bits),
+        Err(_) => Err(MakeError::OutOfMemory),
+    }
+}
 
 /// Copies the validity of `len` rows from `bytes`; returns none if `has` is false.
 ///
@@ -40,13 +79,7 @@ pub fn validity_of(
     if bytes.len() < len.div_ceil(8) {
         return Err(MakeError::Malformed(Malformed::ValidityLength));
     }
-    let Ok(copied) = Vec::from_slice(alloc, bytes) else {
-        return Err(MakeError::OutOfMemory);
-    };
-    match Bitmap::from_u8_vec(copied, len) {
-        Ok(bits) => Ok(Some(bits)),
-        Err(_) => Err(MakeError::OutOfMemory),
-    }
+    Ok(Some(copied_bits(alloc, bytes, len)?))
 }
 
 /// Builds a primitive column from copies of `values` and of the validity in `bytes`.
@@ -73,17 +106,8 @@ pub fn numbers_of<T: ArrowPrimitive>(
         return Err(MakeError::Malformed(Malformed::TooManyRows));
     }
     let validity = validity_of(alloc, bytes, has, values.len())?;
-    let Ok(copied) = Vec::from_slice(alloc, values) else {
-        return Err(MakeError::OutOfMemory);
-    };
-    let Ok(buffer) = Buffer::from_vec(copied) else {
-        return Err(MakeError::OutOfMemory);
-    };
-    Ok(PrimitiveArray {
-        values: buffer,
-        validity,
-    }
-    .into_ref())
+    let values = copied_values(alloc, values)?;
+    Ok(PrimitiveArray { values, validity }.into_ref())
 }
 
 /// Builds a boolean column from copies of the first `len` bits of `values`, least significant bit
@@ -115,15 +139,6 @@ pub fn booleans_of(
         return Err(MakeError::Malformed(Malformed::TooManyRows));
     }
     let validity = validity_of(alloc, bytes, has, len)?;
-    let Ok(copied) = Vec::from_slice(alloc, values) else {
-        return Err(MakeError::OutOfMemory);
-    };
-    let Ok(bits) = Bitmap::from_u8_vec(copied, len) else {
-        return Err(MakeError::OutOfMemory);
-    };
-    Ok(BooleanArray {
-        values: bits,
-        validity,
-    }
-    .into_ref())
+    let values = copied_bits(alloc, values, len)?;
+    Ok(BooleanArray { values, validity }.into_ref())
 }

@@ -9,14 +9,13 @@ ghost use Rattle.sel_arrow.specs.Rows.{rows, row_count, type_of};
 ghost use Rattle.sel_arrow.specs.Shape.{of_large_binary, of_large_list, of_fixed_size_list, of_struct, shapes_of};
 ghost use Rattle.sel_ffi.specs.Inputs.{positions, validity_in, validity_rule, binary_rules, list_rules, block_rules, struct_rules, IsRuleOrMemory};
 
-use crate::inputs::validity_of;
+use crate::inputs::{copied_values, validity_of};
 use sel_arrow::array::Array;
 use sel_arrow::array_ref::ArrayRef;
 use sel_arrow::binary::BinaryArray;
 use sel_arrow::fixed_size_list::FixedSizeListArray;
 use sel_arrow::list::ListArray;
 use sel_arrow::structure::StructArray;
-use sel_bits::buffer::Buffer;
 use sel_bits::faults::MakeError;
 use sel_bits::offsets::OffsetsBuffer;
 use std::alloc::Global;
@@ -31,10 +30,7 @@ pub fn offsets_of(alloc: Global, offsets: &[i64]) -> Result<OffsetsBuffer<i64>, 
     ensures accepted { IfOk result (λ _. offsets_fault (λ x. x) offsets.now ≡ None) }
     ensures refused { IfErr result (IsRuleOrMemory (offsets_fault (λ x. x) offsets.now)) }
 {
-    let Ok(copied) = Vec::from_slice(alloc, offsets) else {
-        return Err(MakeError::OutOfMemory);
-    };
-    OffsetsBuffer::try_from(copied)
+    OffsetsBuffer::try_from_buffer(copied_values(alloc, offsets)?)
 }
 
 /// Builds a binary column with 64-bit offsets from copies of its offsets, values and validity.
@@ -59,12 +55,7 @@ pub fn binary_of(
 {
     let offsets = offsets_of(alloc, offsets)?;
     let validity = validity_of(alloc, bytes, has, offsets.len_proxy())?;
-    let Ok(copied) = Vec::from_slice(alloc, values) else {
-        return Err(MakeError::OutOfMemory);
-    };
-    let Ok(values) = Buffer::from_vec(copied) else {
-        return Err(MakeError::OutOfMemory);
-    };
+    let values = copied_values(alloc, values)?;
     match BinaryArray::<i64>::try_new(offsets, values, validity) {
         Ok(array) => Ok(array.into_ref()),
         Err(fault) => Err(fault),

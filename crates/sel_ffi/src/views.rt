@@ -4,7 +4,7 @@ ghost use Rattle.std.specs.Prelude.{◌≡◌, None, IfOk, IfErr, length, map};
 ghost use Rattle.sel_arrow.specs.Rows.{rows, type_of};
 ghost use Rattle.sel_arrow.specs.Shape.{of_binary_view, of_utf8_view};
 ghost use Rattle.sel_arrow.specs.Views.{view_rows};
-ghost use Rattle.sel_ffi.specs.Inputs.{validity_in, views_in, binview_rules, utf8view_rules, IsRuleOrMemory};
+ghost use Rattle.sel_ffi.specs.Inputs.{validity_in, validity_rule, views_in, binview_rules, utf8view_rules, IsRuleOrMemory};
 
 use crate::inputs::validity_of;
 use sel_arrow::array::Array;
@@ -12,6 +12,7 @@ use sel_arrow::array_ref::ArrayRef;
 use sel_arrow::binview::BinaryViewArray;
 use sel_arrow::utf8view::Utf8ViewArray;
 use sel_arrow::view::View;
+use sel_bits::bitmap::Bitmap;
 use sel_bits::buffer::Buffer;
 use sel_bits::faults::{MakeError, PolarsResult};
 use std::alloc::Global;
@@ -64,6 +65,35 @@ fn buffers_of(alloc: Global, slices: &[&[u8]]) -> PolarsResult<Buffer<Buffer<u8>
     Buffer::from_vec(buffers)
 }
 
+/// Returns copies of the views, the data buffers and the validity of a view column.
+///
+/// # Errors
+/// `ValidityLength` if `bytes` has fewer bits than there are views; `OutOfMemory`.
+fn view_parts(
+    alloc: Global,
+    words: &[ViewWords],
+    slices: &[&[u8]],
+    bytes: &[u8],
+    has: bool,
+) -> Result<(Buffer<View>, Buffer<Buffer<u8>>, Option<Bitmap>), MakeError>
+    ensures views { IfOk result (λ parts. parts.0 ≡ views_in words.now) }
+    ensures buffers { IfOk result (λ parts. parts.1 ≡ map (λ s. s.now) slices.now) }
+    ensures validity { IfOk result (λ parts. parts.2 ≡
+        validity_in bytes.now has (length words.now)) }
+    ensures accepted { IfOk result (λ _. validity_rule bytes.now has (length words.now) ≡ None) }
+    ensures refused { IfErr result
+        (IsRuleOrMemory (validity_rule bytes.now has (length words.now))) }
+{
+    let validity = validity_of(alloc, bytes, has, words.len())?;
+    let Ok(views) = views_of(alloc, words) else {
+        return Err(MakeError::OutOfMemory);
+    };
+    match buffers_of(alloc, slices) {
+        Ok(buffers) => Ok((views, buffers, validity)),
+        Err(_) => Err(MakeError::OutOfMemory),
+    }
+}
+
 /// Builds a binary view column from copies of its views, data buffers and validity.
 ///
 /// # Errors
@@ -84,13 +114,7 @@ pub fn binview_of(
     ensures refused { IfErr result (IsRuleOrMemory (binview_rules (views_in words.now)
         (map (λ s. s.now) slices.now) bytes.now has)) }
 {
-    let validity = validity_of(alloc, bytes, has, words.len())?;
-    let Ok(views) = views_of(alloc, words) else {
-        return Err(MakeError::OutOfMemory);
-    };
-    let Ok(buffers) = buffers_of(alloc, slices) else {
-        return Err(MakeError::OutOfMemory);
-    };
+    let (views, buffers, validity) = view_parts(alloc, words, slices, bytes, has)?;
     match BinaryViewArray::try_new(views, buffers, validity) {
         Ok(array) => Ok(array.into_ref()),
         Err(fault) => Err(fault),
@@ -116,13 +140,7 @@ pub fn utf8view_of(
     ensures refused { IfErr result (IsRuleOrMemory (utf8view_rules (views_in words.now)
         (map (λ s. s.now) slices.now) bytes.now has)) }
 {
-    let validity = validity_of(alloc, bytes, has, words.len())?;
-    let Ok(views) = views_of(alloc, words) else {
-        return Err(MakeError::OutOfMemory);
-    };
-    let Ok(buffers) = buffers_of(alloc, slices) else {
-        return Err(MakeError::OutOfMemory);
-    };
+    let (views, buffers, validity) = view_parts(alloc, words, slices, bytes, has)?;
     match Utf8ViewArray::try_new(views, buffers, validity) {
         Ok(array) => Ok(array.into_ref()),
         Err(fault) => Err(fault),

@@ -1,9 +1,9 @@
 //! View columns over shared buffers, without a copy.
 
-ghost use Rattle.std.specs.Prelude.{◌≡◌, ◌≢◌, IfOk, IfErr, map};
+ghost use Rattle.std.specs.Prelude.{◌≡◌, ◌≢◌, IfOk, IfErr, length, map};
 ghost use Rattle.sel_arrow.specs.Shape.{of_binary_view, of_utf8_view};
 ghost use Rattle.sel_ffi.specs.Status.{ok};
-ghost use Rattle.sel_lent.specs.Buffers.{bytes_of, views_of};
+ghost use Rattle.sel_lent.specs.Buffers.{bytes_of, validity_over, views_of};
 ghost use Rattle.sel_lent.specs.ColumnsOver.{view_rows_over, MakesColumn};
 
 use crate::buffer_ref::BufferRef;
@@ -13,6 +13,7 @@ use sel_arrow::array::Array;
 use sel_arrow::binview::BinaryViewArray;
 use sel_arrow::utf8view::Utf8ViewArray;
 use sel_arrow::view::View;
+use sel_bits::bitmap::Bitmap;
 use sel_bits::buffer::Buffer;
 use sel_ffi::handle::Handle;
 use sel_ffi::status::{OUT_OF_MEMORY, UNSUPPORTED_TYPE, put, status_of_maker};
@@ -62,6 +63,30 @@ fn data_from(alloc: Global, handles: &[BufferRef]) -> Result<Buffer<Buffer<u8>>,
     }
 }
 
+/// Returns the views, the data buffers and the validity of a view column; the validity as in
+/// [`validity_from`].
+///
+/// Errors: those of `views_from`, [`validity_from`] and `data_from`.
+fn parts_from(
+    alloc: Global,
+    views: &BufferRef,
+    buffers: &[BufferRef],
+    validity: &BufferRef,
+    first: usize,
+) -> Result<(Buffer<View>, Buffer<Buffer<u8>>, Option<Bitmap>), u32>
+    ensures views { IfOk result (λ parts. parts.0 ≡ views_of views.now.buffer) }
+    ensures data { IfOk result (λ parts. parts.1 ≡
+        map (λ handle. bytes_of handle.buffer) buffers.now) }
+    ensures validity { IfOk result (λ parts. parts.2 ≡
+        validity_over validity.now.buffer first (length (views_of views.now.buffer))) }
+    ensures refusal { IfErr result (λ status. status ≢ ok) }
+{
+    let views = views_from(views)?;
+    let bits = validity_from(validity, first, views.len())?;
+    let data = data_from(alloc, buffers)?;
+    Ok((views, data, bits))
+}
+
 /// Stores in `out` the binary view column of a buffer of views and of data buffers. Its validity is
 /// as in [`validity_from`].
 ///
@@ -80,16 +105,8 @@ pub fn binary_views_over(
         (view_rows_over views.now.buffer (map (λ handle. bytes_of handle.buffer) buffers.now)
         validity.now.buffer first) }
 {
-    let views = match views_from(views) {
-        Ok(views) => views,
-        Err(status) => return status,
-    };
-    let bits = match validity_from(validity, first, views.len()) {
-        Ok(bits) => bits,
-        Err(status) => return status,
-    };
-    let data = match data_from(alloc, buffers) {
-        Ok(data) => data,
+    let (views, data, bits) = match parts_from(alloc, views, buffers, validity, first) {
+        Ok(parts) => parts,
         Err(status) => return status,
     };
     match BinaryViewArray::try_new(views, data, bits) {
@@ -116,16 +133,8 @@ pub fn string_views_over(
         (view_rows_over views.now.buffer (map (λ handle. bytes_of handle.buffer) buffers.now)
         validity.now.buffer first) }
 {
-    let views = match views_from(views) {
-        Ok(views) => views,
-        Err(status) => return status,
-    };
-    let bits = match validity_from(validity, first, views.len()) {
-        Ok(bits) => bits,
-        Err(status) => return status,
-    };
-    let data = match data_from(alloc, buffers) {
-        Ok(data) => data,
+    let (views, data, bits) = match parts_from(alloc, views, buffers, validity, first) {
+        Ok(parts) => parts,
         Err(status) => return status,
     };
     match Utf8ViewArray::try_new(views, data, bits) {
