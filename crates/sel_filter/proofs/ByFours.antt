@@ -1,17 +1,10 @@
 -- Compression of a word, four bits at a time.
-use Rattle.std.proofs.Common.{◌≡◌, ℕ, ◌+◌, ◌*◌, ◌/◌, ◌%◌, ◌^◌, ◌<◌, ◌≤◌, List, [], Bool, ◌++◌, length, get_or, ap, sym, ◌∙◌, arith, length-append}
-use Rattle.std.specs.Prelude.{bit_or, count_ones}
-use Rattle.std.proofs.Math.Nat.{div-one}
-use Rattle.std.proofs.lemmas.Nat.{shl_whole, shr-shr, or_comm, or_shifted}
-use lib.Pow.{pow_mono}
-use Rattle.sel_bits.specs.Words.{bits, word_of}
-use Rattle.sel_bits.proofs.Lists.{bits_zero}
-use Rattle.sel_bits.proofs.Packs.{length_bits, bits_same, bits_split}
-use Rattle.sel_bits.proofs.Padded.{word_of_lt}
-use Rattle.sel_bits.proofs.Shifts.{bit_at_mod}
-use Rattle.sel_filter.specs.Select.{select}
-use Rattle.sel_filter.specs.Compress.{compress}
-use Rattle.sel_filter.specs.declared.nibbles.TheConstants.{NIBBLES}
+use Rattle.sel_filter.proofs.Common.{◌≡◌, ℕ, ◌+◌, ◌*◌, ◌/◌, ◌%◌, ◌^◌, ◌<◌, ◌≤◌, List, [], Bool, ◌++◌, length, get_or, ap, sym, ◌∙◌, arith, length-append}
+use Rattle.sel_filter.proofs.Common.{count_ones, div-one, shr-shr, pow_mono, bits, word_of, bits_zero, length_bits, bits_split, word_of_lt, bit_at_mod, select}
+use Rattle.sel_filter.proofs.Common.{compress, NIBBLES}
+use Rattle.std.specs.Prelude.{bit_or}
+use Rattle.std.proofs.lemmas.Nat.{shl_whole, or_comm, or_shifted}
+use Rattle.sel_bits.proofs.Packs.{bits_same}
 use Rattle.sel_filter.proofs.Selects.{select-append, few_kept}
 use Rattle.sel_filter.proofs.WordLists.{word_of-append}
 use Rattle.sel_filter.proofs.FourBits.{kept_four, entry_is, count_is}

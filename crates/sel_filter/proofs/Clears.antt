@@ -1,6 +1,5 @@
 -- The number of clear bits below a position.
-use Rattle.std.proofs.Common.{◌≡◌, ℕ, zero, suc, ◌+◌, ◌-◌, ◌<◌, ◌≤◌, refl, ap, arith}
-use Rattle.std.specs.Int.{bit_at}
+use Rattle.sel_filter.proofs.Common.{◌≡◌, ℕ, zero, suc, ◌+◌, ◌-◌, ◌<◌, ◌≤◌, refl, ap, arith, bit_at}
 
 -- The number of clear bits of m below position q.
 unfoldable pub clears : ℕ → ℕ → ℕ

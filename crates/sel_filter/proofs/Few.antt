@@ -1,18 +1,10 @@
 -- Compression of a word, one set bit of the mask at a time.
-use Rattle.std.proofs.Common.{◌≡◌, ℕ, ◌+◌, ◌-◌, ◌*◌, ◌/◌, ◌%◌, ◌^◌, ◌<◌, ◌∙◌, sym, refl, ap, subst, arith, List, [], ◌∷◌, ◌++◌, length, get_or, Bool, true, false, cond, length-append}
-use Rattle.std.specs.Prelude.{bit_and, bit_or}
-use Rattle.std.specs.Int.{bit_at, trailing_zeros, w64}
-use Rattle.std.proofs.Math.Nat.{pow-suc}
+use Rattle.sel_filter.proofs.Common.{◌≡◌, ℕ, ◌+◌, ◌-◌, ◌*◌, ◌/◌, ◌%◌, ◌^◌, ◌<◌, ◌∙◌, sym, refl, ap, subst, arith, List, [], ◌∷◌, ◌++◌, length, get_or, Bool}
+use Rattle.sel_filter.proofs.Common.{true, false, cond, length-append, bit_and, bit_at, trailing_zeros, w64, pow-suc, bit_at-lt, shr_and_one}
+use Rattle.sel_filter.proofs.Common.{count_by-le-length, is_set, bits, word_of, compress, select, count_true, cond_of_bit, word_of_lt, length_bits}
+use Rattle.std.specs.Prelude.{bit_or}
 use Rattle.std.proofs.lemmas.Nat.{or_comm, or_shifted, shl_whole}
-use Rattle.std.proofs.lemmas.Nat.Bits.{bit_at-lt, shr_and_one}
-use Rattle.std.proofs.lemmas.List.Sums.{count_by-le-length}
-use Rattle.sel_bits.specs.Words.{is_set, bits, word_of}
-use Rattle.sel_filter.specs.Compress.{compress}
-use Rattle.sel_filter.specs.Select.{select}
-use Rattle.sel_bits.specs.Bits.{count_true}
-use Rattle.sel_bits.proofs.Lists.{cond_of_bit}
-use Rattle.sel_bits.proofs.Padded.{word_of_lt}
-use Rattle.sel_bits.proofs.Packs.{length_bits, get_bits}
+use Rattle.sel_bits.proofs.Packs.{get_bits}
 use Rattle.sel_filter.proofs.Marking.{IsMarking, lowest, lowest_within, mark_room, marking_next, marking_last}
 
 -- The state: the bits so far are the word `out`.

@@ -1,14 +1,10 @@
 -- The entries that a mask selects, one set bit at a time from the lowest.
-use Rattle.std.proofs.Common.{◌≡◌, ◌≢◌, ℕ, zero, suc, ◌+◌, ◌-◌, ◌*◌, ◌/◌, ◌%◌, ◌^◌, ◌<◌, ◌≤◌, ◌∙◌, sym, refl, ap, ⊎_elim, arith, List, [], ◌∷◌, length, get_or, true, false}
-use Rattle.std.specs.Prelude.{bit_and}
-use Rattle.std.specs.Int.{bit_at}
-use Rattle.std.proofs.lemmas.Bool.{cases_lt}
-use Rattle.std.proofs.lemmas.Nat.{pow_pos, pow_below, shr_split, mod_below}
-use Rattle.std.proofs.lemmas.Nat.Bits.{bit_at-suc, bit_at_and, bit_at_cat_low, bit_at_cat_high, bit_at_ones_above, bit_at-pow_same, bit_at-pow_other, same_from_bits_below, same_from_bits}
-use Rattle.sel_bits.specs.Words.{bits}
-use Rattle.sel_filter.specs.Select.{select}
-use Rattle.sel_bits.specs.Bits.{count_true}
-use Rattle.sel_bits.proofs.Shifts.{bit_at_mod}
+use Rattle.sel_filter.proofs.Common.{◌≡◌, ℕ, zero, suc, ◌+◌, ◌-◌, ◌*◌, ◌/◌, ◌%◌, ◌^◌, ◌<◌, ◌≤◌, ◌∙◌, sym, refl, ap, ⊎_elim, arith, List, [], ◌∷◌, length}
+use Rattle.sel_filter.proofs.Common.{get_or, true, false, bit_and, bit_at, cases_lt, pow_pos, bit_at-suc, bit_at_and, bit_at-pow_other, bits, select}
+use Rattle.sel_filter.proofs.Common.{count_true, bit_at_mod}
+use Rattle.std.proofs.Common.{◌≢◌}
+use Rattle.std.proofs.lemmas.Nat.{pow_below, shr_split, mod_below}
+use Rattle.std.proofs.lemmas.Nat.Bits.{bit_at_cat_low, bit_at_cat_high, bit_at_ones_above, bit_at-pow_same, same_from_bits_below, same_from_bits}
 use Rattle.sel_filter.proofs.Selects.{count_cons}
 use Rattle.sel_filter.proofs.WordLists.{bits_first}
 

@@ -1,27 +1,18 @@
 -- The table for four bits under a mask of four bits, checked entry by entry by computation.
-use Rattle.std.proofs.Common.{◌≡◌, ℕ, zero, suc, ◌+◌, ◌*◌, ◌/◌, ◌%◌, ◌<◌, ◌∙◌, sym, refl, ap, subst, ⊎_elim, arith, List, length, get_or, Bool, true, false, ◌&&◌, T, eqb→eq}
-use Rattle.std.specs.Prelude.{◌==◌, count_ones}
-use Rattle.std.proofs.lemmas.Bool.{cases_lt}
-use Rattle.sel_bits.specs.Words.{bits, word_of}
-use Rattle.sel_filter.specs.Select.{select}
-use Rattle.sel_filter.specs.declared.nibbles.TheConstants.{NIBBLES}
+use Rattle.sel_filter.proofs.Common.{◌≡◌, ℕ, zero, suc, ◌+◌, ◌*◌, ◌/◌, ◌%◌, ◌<◌, ◌∙◌, sym, refl, ap, subst, ⊎_elim, arith, List, length, get_or, Bool, true}
+use Rattle.sel_filter.proofs.Common.{◌==◌, count_ones, cases_lt, bits, word_of, select, NIBBLES}
+use Rattle.std.proofs.Common.{◌&&◌}
+use Rattle.std.proofs.lemmas.Bool.{eqb-true}
+use Rattle.sel_arrow.proofs.Lists.{and_first, and_second}
 
 abbrev holds_below : (ℕ → Bool) → ℕ → Bool
 holds_below p zero = true
 holds_below p (suc n) = p n && holds_below p n
 
-both : (a b : Bool) → (a && b) ≡ true → (a ≡ true) × (b ≡ true)
-both true b e = (refl, e)
-both false b e = cc
-
 holds_at : (p : ℕ → Bool) (n j : ℕ) → holds_below p n ≡ true → j < n → p j ≡ true
 holds_at p zero j all lt = absurd (omega arith)
 holds_at p (suc n) j all lt =
-    let parts = both (p n) (holds_below p n) all in
-    ⊎_elim (λ below. holds_at p n j parts.1 below) (λ top. let e : n ≡ j = omega arith in subst (λ k. p k ≡ true) e parts.0) (cases_lt j n)
-
-equal : (a b : ℕ) → (a == b) ≡ true → a ≡ b
-equal a b e = eqb→eq a b (subst T (sym e) tt)
+    ⊎_elim (λ below. holds_at p n j (and_second (p n) (holds_below p n) all) below) (λ top. let e : n ≡ j = omega arith in subst (λ k. p k ≡ true) e (and_first (p n) (holds_below p n) all)) (cases_lt j n)
 
 -- The kept bits of a table entry.
 abbrev pub kept_four : ℕ → ℕ → List Bool
@@ -39,7 +30,7 @@ pub entry_is : (v m : ℕ) → v < 16 → m < 16 → get_or NIBBLES (16 * m + v)
 entry_is v m lv lm =
     let low : (16 * m + v) % 16 ≡ v = omega arith in
     let high : (16 * m + v) / 16 ≡ m = omega arith in
-    equal _ _ (holds_at (λ j. get_or NIBBLES j 0 == word_of (kept_four (j % 16) (j / 16))) 256 (16 * m + v) all_entries (omega arith))
+    eqb-true _ _ (holds_at (λ j. get_or NIBBLES j 0 == word_of (kept_four (j % 16) (j / 16))) 256 (16 * m + v) all_entries (omega arith))
     ∙ (λ i. word_of (kept_four (low i) (high i)))
 
 pub count_is : (v m : ℕ) → v < 16 → m < 16 → count_ones m ≡ length (kept_four v m)
@@ -47,5 +38,5 @@ count_is v m lv lm =
     let low : (16 * m + v) % 16 ≡ v = omega arith in
     let high : (16 * m + v) / 16 ≡ m = omega arith in
     ap count_ones (sym high)
-    ∙ equal _ _ (holds_at (λ j. count_ones (j / 16) == length (kept_four (j % 16) (j / 16))) 256 (16 * m + v) all_counts (omega arith))
+    ∙ eqb-true _ _ (holds_at (λ j. count_ones (j / 16) == length (kept_four (j % 16) (j / 16))) 256 (16 * m + v) all_counts (omega arith))
     ∙ (λ i. length (kept_four (low i) (high i)))

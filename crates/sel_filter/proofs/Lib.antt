@@ -1,6 +1,7 @@
 pub mod BlockSelects
 pub mod ByFours
 pub mod Clears
+pub mod Common
 pub mod Dense
 pub mod Few
 pub mod Filtering

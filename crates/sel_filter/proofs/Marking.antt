@@ -1,17 +1,11 @@
 -- The invariant of the loop over the set bits of a word, over plain variables.
-use Rattle.std.proofs.Common.{◌≡◌, ℕ, ◌+◌, ◌-◌, ◌^◌, ◌<◌, ◌∙◌, sym, ap, ⊎_elim, arith, List, [], ◌∷◌, ◌++◌, length, get_or, drop, Bool, false, append_assoc, append-nil}
-use Rattle.std.specs.Prelude.{bit_and}
-use Rattle.std.specs.Int.{trailing_zeros, w64}
-use Rattle.std.proofs.lemmas.Bool.{cases_lt}
-use Rattle.std.proofs.lemmas.List.{get_or-drop, length-drop}
-use Rattle.std.proofs.lemmas.Nat.{and_le_l}
-use Rattle.std.proofs.lemmas.Nat.Bits.{bit_at_above, bit_at-trailing_zeros}
-use Rattle.sel_bits.specs.Words.{bits}
-use Rattle.sel_filter.specs.Select.{select}
-use Rattle.sel_bits.specs.Bits.{count_true}
+use Rattle.sel_filter.proofs.Common.{◌≡◌, ℕ, ◌+◌, ◌-◌, ◌^◌, ◌<◌, ◌∙◌, sym, ap, ⊎_elim, arith, List, [], ◌∷◌, ◌++◌, length, get_or, drop, Bool, false}
+use Rattle.sel_filter.proofs.Common.{append_assoc, bit_and, trailing_zeros, w64, cases_lt, length-drop, and_le_l, bit_at_above, bit_at-trailing_zeros, bits}
+use Rattle.sel_filter.proofs.Common.{select, count_true}
+use Rattle.std.proofs.lemmas.List.{get_or-drop}
 use Rattle.sel_filter.proofs.Firsts.{IsLowest, selects_first, without_lowest}
-use Rattle.sel_filter.proofs.WordLists.{bits_of_zero}
-use Rattle.sel_filter.proofs.Selects.{select_none, count_true_none}
+use Rattle.sel_filter.proofs.WordLists.{bits_of_zero, none_more}
+use Rattle.sel_filter.proofs.Selects.{count_true_none}
 
 -- The output and what the remaining marks select are the target.
 pub record IsMarking (xs target : List Bool) (reads : ℕ) (out : List Bool) (marks bits_read : ℕ) : Type 0 where
@@ -46,7 +40,7 @@ module _ (xs target : List Bool) (reads : ℕ) (out : List Bool) (marks bits_rea
 pub marking_last : (xs target : List Bool) (reads : ℕ) (out : List Bool) (marks bits_read : ℕ) → marks ≡ 0 → IsMarking xs target reads out marks bits_read → (out ≡ target) × (bits_read ≡ reads)
 marking_last xs target reads out marks bits_read none was =
     let empty = ap (bits (length xs)) none ∙ bits_of_zero (length xs) in (
-      sym (append-nil out) ∙ ap (λ l. out ++ l) (sym (ap (select xs) empty ∙ select_none xs (length xs))) ∙ was.gives,
+      none_more xs out (length xs) marks none ∙ was.gives,
       omega (arith, was.counts, ap count_true empty, count_true_none (length xs)),
     )
 

@@ -1,13 +1,8 @@
 -- The compressed word, by the source positions of its bits.
-use Rattle.std.proofs.Common.{◌≡◌, ℕ, zero, suc, ◌+◌, ◌-◌, ◌*◌, ◌/◌, ◌<◌, ◌∙◌, sym, ap, subst, arith, ◌∷◌, Bool, true, false, cond}
-use Rattle.std.specs.Prelude.{◌==◌}
-use Rattle.std.specs.Int.{bit_at}
-use Rattle.std.proofs.lemmas.Nat.Bits.{bit_at-lt, bit_at-suc, bit_at_lowest, bit_at-zero}
-use Rattle.sel_bits.specs.Words.{is_set, bits, word_of}
-use Rattle.sel_filter.specs.Compress.{compress}
-use Rattle.sel_filter.specs.Select.{select}
+use Rattle.sel_filter.proofs.Common.{◌≡◌, ℕ, zero, suc, ◌+◌, ◌-◌, ◌*◌, ◌/◌, ◌<◌, ◌∙◌, sym, ap, subst, arith, ◌∷◌, Bool, true, false, cond, ◌==◌, bit_at}
+use Rattle.sel_filter.proofs.Common.{bit_at-lt, bit_at-suc, bit_at_lowest, bit_at-zero, is_set, bits, word_of, compress, select, bits_suc, bits_zero}
+use Rattle.sel_filter.proofs.Common.{cond_of_bit}
 use Rattle.sel_filter.proofs.Clears.{clears, clears_zero, clears_suc, clears_le}
-use Rattle.sel_bits.proofs.Lists.{bits_suc, bits_zero, cond_of_bit}
 use Rattle.sel_filter.proofs.Spots.{spot_last}
 use Rattle.sel_filter.proofs.Rounds.{Standing}
 

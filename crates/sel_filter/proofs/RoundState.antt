@@ -1,13 +1,11 @@
 -- The invariant of the compress loop, over plain variables.
-use Rattle.std.proofs.Common.{◌≡◌, ℕ, suc, ◌+◌, ◌*◌, ◌%◌, ◌^◌, ◌<◌, ◌≤◌, refl, subst, arith}
-use Rattle.std.specs.Prelude.{bit_and}
-use Rattle.std.specs.Int.{bit_at, bit_not, w64}
+use Rattle.sel_filter.proofs.Common.{◌≡◌, ℕ, suc, ◌+◌, ◌*◌, ◌%◌, ◌^◌, ◌<◌, ◌≤◌, refl, subst, arith, bit_and, bit_at, w64, ones_below, compress}
+use Rattle.std.specs.Int.{bit_not}
 use Rattle.sel_bits.specs.Moving.{Moving}
-use Rattle.sel_bits.specs.Words.{ones_below}
-use Rattle.sel_filter.specs.Compress.{compress}
 use Rattle.sel_bits.proofs.Prefix.{shift_is}
 use Rattle.sel_bits.proofs.Shifts.{moved}
-use Rattle.sel_filter.proofs.Rounds.{Standing, CountsBlocks, MarksOdd, first_standing, next_standing, one_standing, first_counts, next_counts, parity_marks, one_block}
+use Rattle.sel_filter.proofs.Rounds.{Standing, CountsBlocks, MarksOdd, first_standing, next_standing, one_standing, first_counts, next_counts, parity_marks}
+use Rattle.sel_filter.proofs.Rounds.{one_block}
 use Rattle.sel_filter.proofs.Ranks.{compress_standing}
 
 -- ---- the invariant

@@ -1,17 +1,14 @@
 -- The rounds of the compress: before round i each kept bit is at its `spot`, and no other bit is
 -- set.
-use Rattle.std.proofs.Common.{◌≡◌, ℕ, zero, suc, ◌+◌, ◌-◌, ◌*◌, ◌/◌, ◌%◌, ◌^◌, ◌<◌, ◌≤◌, min, max, ◌∙◌, sym, ap, ⊎_elim, inl, inr, ◌⊎◌, arith}
-use Rattle.std.specs.Prelude.{bit_and}
-use Rattle.std.specs.Int.{bit_at, bit_not, w64}
-use Rattle.std.proofs.lemmas.Nat.{pow_pos, shr-shr}
-use Rattle.std.proofs.lemmas.Nat.Bits.{bit_at-lt, bit_at_and, bit_at_or, bit_at_not, bit_at_above, same_from_bits}
-use Rattle.std.proofs.lemmas.Bool.{cases_lt}
-use Rattle.std.proofs.Math.Nat.{div-one}
-use Rattle.sel_bits.specs.Words.{ones_below}
+use Rattle.sel_filter.proofs.Common.{◌≡◌, ℕ, zero, suc, ◌+◌, ◌-◌, ◌*◌, ◌/◌, ◌%◌, ◌^◌, ◌<◌, ◌≤◌, min, ◌∙◌, sym, ap, ⊎_elim, arith, bit_and, bit_at, w64, pow_pos}
+use Rattle.sel_filter.proofs.Common.{shr-shr, bit_at-lt, bit_at_and, bit_at_above, cases_lt, div-one, ones_below, bit_at_shr}
+use Rattle.std.proofs.Common.{max, inl, inr, ◌⊎◌}
+use Rattle.std.specs.Int.{bit_not}
+use Rattle.std.proofs.lemmas.Nat.Bits.{bit_at_or, bit_at_not, same_from_bits}
 use Rattle.sel_bits.proofs.Counts.{ones_zero, ones_suc}
 use Rattle.sel_filter.proofs.Clears.{clears, clears_zero, clears_le, clears_suc, clears_past}
 use Rattle.sel_filter.proofs.Spots.{spot, spot_same, spot_next, spot_block, spot_first}
-use Rattle.sel_bits.proofs.Shifts.{bit_at_shr, moved}
+use Rattle.sel_bits.proofs.Shifts.{moved}
 
 -- A set bit of a word after a move either was not moved, or was moved down.
 bit_at_moved : (word p i s : ℕ) → bit_at (moved word p i) s ≡ max (min (bit_at word s) (bit_at (bit_not w64 p) s)) (min (bit_at word (s + i)) (bit_at p (s + i)))

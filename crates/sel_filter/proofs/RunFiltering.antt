@@ -1,16 +1,13 @@
 -- The invariant of the filter that copies runs, over plain variables.
-use Rattle.std.proofs.Common.{◌≡◌, ℕ, ◌+◌, ◌-◌, ◌/◌, ◌^◌, ◌<◌, ◌≤◌, ◌∙◌, sym, ap, arith, List, ◌++◌, length, take, drop, false, append_assoc, length-append, subst}
-use Rattle.std.proofs.lemmas.List.{length-take, take-append-drop, take-append-le, take-take, take_all}
-use Rattle.std.proofs.Math.Seq.{take-add, take-append_seam}
-use Rattle.sel_bits.specs.Words.{bits, word_of}
-use Rattle.sel_filter.specs.Select.{select}
-use Rattle.sel_filter.specs.Runs.{starts_after}
-use Rattle.sel_bits.specs.Bits.{Bits}
+use Rattle.sel_filter.proofs.Common.{◌≡◌, ℕ, refl, ◌+◌, ◌-◌, ◌/◌, ◌^◌, ◌<◌, ◌≤◌, ◌∙◌, sym, ap, arith, List, ◌++◌, length, take, drop, false, append_assoc}
+use Rattle.sel_filter.proofs.Common.{length-append, subst, length-take, take_all, take-add, bits, word_of, select, starts_after, Bits, reached, after_word}
+use Rattle.sel_bits.specs.Reading.{WordReading, next_bits, next_count}
+use Rattle.std.proofs.lemmas.List.{take-append-le, take-take}
+use Rattle.std.proofs.Math.Seq.{take-append_seam}
 use Rattle.sel_bits.specs.Copying.{Copying, IsBeginning}
-use Rattle.sel_bits.specs.Reading.{WordReading, reached, next_bits, next_count, after_word}
 use Rattle.sel_filter.proofs.WordRuns.{starts_append, starts_cut, starts_padded, starts_half}
-use Rattle.sel_filter.proofs.Selects.{select_split}
-use Rattle.sel_filter.proofs.Filtering.{word_fits, word_selects, word_bits, select_more}
+use Rattle.sel_filter.proofs.Selects.{select_end, select_more, select_split}
+use Rattle.sel_filter.proofs.Filtering.{read_word, word_fits, word_selects, word_bits}
 
 -- ---- prefixes
 
@@ -24,11 +21,6 @@ pub begins_through : {A : Type 0} (xs more ys zs : List A) → ys ≡ xs ++ more
 begins_through xs more ys zs is begun =
     let le : length xs ≤ length ys = omega (arith, ap length is, length-append xs more) in
     sym (ap (take (length xs)) is ∙ take-append_seam xs more) ∙ ap (take (length xs)) begun ∙ take-take (length xs) (length ys) zs le
-
--- The front of a prefix is a prefix.
-pub begins_front : {A : Type 0} (xs more ys zs : List A) (n : ℕ) → take n ys ≡ xs ++ more → IsBeginning ys zs → IsBeginning xs zs
-begins_front xs more ys zs n is begun =
-    begins_through xs (more ++ drop n ys) ys zs (sym (take-append-drop n ys) ∙ ap (λ l. l ++ drop n ys) is ∙ append_assoc xs more (drop n ys)) begun
 
 pub record IsRunFiltered {A : Type 0} (source before : List A) (ms : Bits) (start : ℕ) (values : Copying A) (mask : WordReading) : Type 0 where
   pub values_source : values.source ≡ source
@@ -47,11 +39,7 @@ module _ {A : Type 0} (source before : List A) (ms : Bits) (start : ℕ) (values
   within = omega (arith, long_mask, was.here, is_count)
 
   word_is : word ≡ word_of (take count (drop start ms.bits))
-  word_is =
-      is_word
-      ∙ ap (λ k. word_of (take k (drop (reached mask) mask.source.bits))) (sym is_count)
-      ∙ ap (λ (s : Bits). word_of (take count (drop (reached mask) s.bits))) was.mask_source
-      ∙ ap (λ a. word_of (take count (drop a ms.bits))) (sym was.here)
+  word_is = read_word ms mask start count word was.mask_source was.here is_word is_count
 
   long_source : length values.source ≡ length source
   long_source = ap (λ (l : List A). length l) was.values_source
@@ -59,21 +47,18 @@ module _ {A : Type 0} (source before : List A) (ms : Bits) (start : ℕ) (values
   pub run_fits : word < 2 ^ (length values.source - start)
   run_fits = rw (long_source, word_is) (word_fits source ms.bits start count was.lengths within)
 
-  pub run_start : start ≤ length values.source
-  run_start = omega (arith, long_source, was.lengths, within)
-
   run_selects : select (drop start values.source) (bits (length values.source - start) word) ≡ select (take count (drop start source)) (take count (drop start ms.bits))
-  run_selects =
-      ap (λ (l : List A). select (drop start l) (bits (length l - start) word)) was.values_source
-      ∙ ap (λ w. select (drop start source) (bits (length source - start) w)) word_is
-      ∙ word_selects source ms.bits start count was.lengths within
+  run_selects = (λ i. select (drop start (was.values_source i)) (bits (length (was.values_source i) - start) (word_is i))) ∙ word_selects source ms.bits start count was.lengths within
 
   run_starts : starts_after false (bits (length values.source - start) word) ≡ starts_after false (take count (drop start ms.bits))
   run_starts =
-      ap (λ n. starts_after false (bits (n - start) word)) long_source
-      ∙ ap (λ w. starts_after false (bits (length source - start) w)) word_is
+      (λ i. starts_after false (bits (long_source i - start) (word_is i)))
       ∙ ap (starts_after false) (word_bits source ms.bits start count was.lengths within)
       ∙ starts_padded false (take count (drop start ms.bits)) _
+
+  -- The items after this word.
+  run_gives : (items : List A) → items ≡ values.items ++ select (drop start values.source) (bits (length values.source - start) word) → items ≡ before ++ select (take (start + count) source) (take (start + count) ms.bits)
+  run_gives items is = select_more before values.items items source ms.bits start count was.lengths was.gives (is ∙ ap (λ l. values.items ++ l) run_selects)
 
   -- The copies for this word number at most one more than the runs that begin in it.
   pub run_copies : values.copies + starts_after false (bits (length values.source - start) word) ≤ mask.words_read + 1 + starts_after false (take (start + count) ms.bits)
@@ -91,13 +76,9 @@ module _ {A : Type 0} (source before : List A) (ms : Bits) (start : ℕ) (values
   pub run_begun : (items : List A) → IsBeginning items (values.items ++ select (drop start values.source) (bits (length values.source - start) word)) → IsBeginning items (before ++ select source ms.bits)
   run_begun items is =
       let end = start + count in
-      let front : values.items ++ select (drop start values.source) (bits (length values.source - start) word) ≡ before ++ select (take end source) (take end ms.bits) =
-      (λ i. was.gives i ++ run_selects i) ∙ append_assoc before (select (take start source) (take start ms.bits)) (select (take count (drop start source)) (take count (drop start ms.bits)))
-      ∙ ap (λ l. before ++ l) (sym (select_more source ms.bits start count was.lengths within)) in
-      let all : (before ++ select (take end source) (take end ms.bits)) ++ select (drop end source) (drop end ms.bits) ≡ before ++ select source ms.bits =
-      append_assoc before (select (take end source) (take end ms.bits)) (select (drop end source) (drop end ms.bits))
-      ∙ ap (λ l. before ++ l) (select_split source ms.bits end was.lengths) in
-      subst (IsBeginning items) all (begins_more items (before ++ select (take end source) (take end ms.bits)) (select (drop end source) (drop end ms.bits)) (subst (IsBeginning items) front is))
+      let kept = select (take end source) (take end ms.bits) in
+      let all = append_assoc before kept (select (drop end source) (drop end ms.bits)) ∙ ap (λ l. before ++ l) (select_split source ms.bits end was.lengths) in
+      subst (IsBeginning items) all (begins_more items (before ++ kept) _ (subst (IsBeginning items) (run_gives _ refl) is))
 
   pub run_filtered : (next : Copying A) → next.source ≡ values.source → next.items ≡ values.items ++ select (drop start values.source) (bits (length values.source - start) word)
       → next.copies ≡ values.copies + starts_after false (bits (length values.source - start) word)
@@ -107,7 +88,7 @@ module _ {A : Type 0} (source before : List A) (ms : Bits) (start : ℕ) (values
     mask_source = was.mask_source;
     lengths = was.lengths;
     here = omega (arith, was.here, is_count);
-    gives = gave ∙ (λ i. was.gives i ++ run_selects i) ∙ append_assoc before (select (take start source) (take start ms.bits)) (select (take count (drop start source)) (take count (drop start ms.bits))) ∙ ap (λ l. before ++ l) (sym (select_more source ms.bits start count was.lengths within));
+    gives = run_gives next.items gave;
     counts = omega (arith, counted, run_copies);
   }
 
@@ -117,7 +98,7 @@ module _ {A : Type 0} (source before : List A) (ms : Bits) (start : ℕ) (values
   past = omega (arith, was.here, end, ap (λ (s : Bits). length s.bits) was.mask_source)
 
   pub run_all : values.items ≡ before ++ select source ms.bits
-  run_all = was.gives ∙ (λ i. before ++ select (take_all start source (omega (arith, past, was.lengths)) i) (take_all start ms.bits past i))
+  run_all = was.gives ∙ ap (λ l. before ++ l) (select_end source ms.bits start was.lengths past)
 
   pub run_counts : values.copies ≤ mask.words_read + starts_after false ms.bits
   run_counts = subst (λ l. values.copies ≤ mask.words_read + starts_after false l) (take_all start ms.bits past) was.counts

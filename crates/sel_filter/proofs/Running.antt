@@ -1,17 +1,14 @@
 -- The invariant of the loop over the runs of a word, over plain variables.
-use Rattle.std.proofs.Common.{◌≡◌, ℕ, ◌+◌, ◌-◌, ◌/◌, ◌^◌, ◌<◌, ◌≤◌, ◌∙◌, sym, ap, subst, ⊎_elim, arith, List, ◌++◌, length, take, drop, replicate, true, false, append_assoc, append-nil, zero-add}
-use Rattle.std.specs.Int.{bit_at, trailing_zeros, trailing_ones, w64}
-use Rattle.std.proofs.lemmas.Bool.{cases_lt}
-use Rattle.std.proofs.lemmas.Nat.{shr-shr, shr_below, shr_le}
+use Rattle.sel_filter.proofs.Common.{◌≡◌, ℕ, ◌+◌, ◌-◌, ◌/◌, ◌^◌, ◌<◌, ◌≤◌, ◌∙◌, sym, ap, subst, ⊎_elim, arith, List, ◌++◌, length, take, drop, replicate, true}
+use Rattle.sel_filter.proofs.Common.{false, append_assoc, bit_at, trailing_zeros, w64, cases_lt, shr-shr, bit_at_above, bit_at-trailing_zeros, length-drop}
+use Rattle.sel_filter.proofs.Common.{bits, select, starts_after, bit_at_shr}
+use Rattle.std.proofs.Common.{zero-add}
+use Rattle.std.specs.Int.{trailing_ones}
+use Rattle.std.proofs.lemmas.Nat.{shr_below, shr_le}
 use lib.Count.{trailing_of_zero}
-use Rattle.std.proofs.lemmas.Nat.Bits.{bit_at_above, bit_at-trailing_zeros, bit_at-trailing_ones, bit_at_ones}
-use Rattle.std.proofs.lemmas.List.{length-drop, drop-drop}
-use Rattle.sel_bits.specs.Words.{bits}
-use Rattle.sel_filter.specs.Select.{select}
-use Rattle.sel_filter.specs.Runs.{starts_after}
-use Rattle.sel_bits.proofs.Shifts.{bit_at_shr}
-use Rattle.sel_filter.proofs.Selects.{select_none}
-use Rattle.sel_filter.proofs.WordLists.{bits_of_zero}
+use Rattle.std.proofs.lemmas.Nat.Bits.{bit_at-trailing_ones, bit_at_ones}
+use Rattle.std.proofs.lemmas.List.{drop-drop}
+use Rattle.sel_filter.proofs.WordLists.{none_more}
 use Rattle.sel_filter.proofs.WordRuns.{bits_after, select_skip, select_run, starts_skip, starts_more, starts_false, starts_of_zero}
 
 -- The items and what the remaining bits select are the target.
@@ -90,9 +87,7 @@ module _ {A : Type 0} (source target items : List A) (at rest t r : ℕ) (run : 
   copies_left total copies counted = omega (arith, counted, starts_one)
 
 pub running_last : {A : Type 0} (source target items : List A) (at rest : ℕ) → rest ≡ 0 → IsRunning source target items at rest → items ≡ target
-running_last source target items at rest none was =
-    let e : bits (length source - at) rest ≡ replicate (length source - at) false = ap (bits (length source - at)) none ∙ bits_of_zero (length source - at) in
-    sym (append-nil items) ∙ ap (λ l. items ++ l) (sym (ap (select (drop at source)) e ∙ select_none (drop at source) (length source - at))) ∙ was.gives
+running_last source target items at rest none was = none_more (drop at source) items (length source - at) rest none ∙ was.gives
 
 pub counts_last : {A : Type 0} (source : List A) (total copies at rest : ℕ) → rest ≡ 0 → CountsRuns source total copies at rest → copies ≡ total
 counts_last source total copies at rest none counted =
@@ -124,3 +119,7 @@ lowest_run rest some fits =
 -- The code shifts out a run in two steps, since a run can have 64 bits.
 pub shifted_away : (x r : ℕ) → 0 < r → x / 2 ^ (r - 1) / 2 ^ 1 ≡ x / 2 ^ r
 shifted_away x r some = let e : r - 1 + 1 ≡ r = omega arith in shr-shr x (r - 1) 1 ∙ ap (λ j. x / 2 ^ j) e
+
+-- The run that the code reads.
+pub run_of : (rest r : ℕ) → 0 < rest → rest < 2 ^ 64 → r ≡ trailing_ones w64 (rest / 2 ^ trailing_zeros w64 rest) → IsRun rest (trailing_zeros w64 rest) r
+run_of rest r some fits is = subst (IsRun rest (trailing_zeros w64 rest)) (sym is) (lowest_run rest some fits)

@@ -1,12 +1,9 @@
 -- Values that the bits of bytes keep.
-use Rattle.std.proofs.Common.{◌≡◌, ℕ, zero, suc, ◌+◌, ◌-◌, ◌/◌, ◌%◌, ◌^◌, ◌<◌, ◌≤◌, min, List, [], ◌∷◌, length, take, drop, get_or, refl, ap, sym, ◌∙◌, arith}
-use Rattle.std.specs.Prelude.{◌==◌}
-use Rattle.std.specs.Int.{bit_at}
-use Rattle.std.proofs.lemmas.List.{same_lists, length-take, length-drop, get_or-take, get_or-drop}
-use Rattle.sel_bits.specs.Words.{is_set}
-use Rattle.sel_bits.specs.Bits.{bit_in, bits_from}
-use Rattle.sel_bits.proofs.BitLists.{length_bits_from, get_bits_from}
-use Rattle.sel_bits.proofs.Shifts.{bit_at_shr}
+use Rattle.sel_filter.proofs.Common.{◌≡◌, ℕ, zero, suc, ◌+◌, ◌-◌, ◌/◌, ◌%◌, ◌^◌, ◌<◌, ◌≤◌, min, List, [], ◌∷◌, length, take, drop, get_or, refl, ap, sym, ◌∙◌}
+use Rattle.sel_filter.proofs.Common.{arith, ◌==◌, bit_at, length-take, length-drop, is_set, bits_from, length_bits_from, bit_at_shr}
+use Rattle.std.proofs.lemmas.List.{same_lists, get_or-take, get_or-drop}
+use Rattle.sel_bits.specs.Bits.{bit_in}
+use Rattle.sel_bits.proofs.BitLists.{get_bits_from}
 use Rattle.sel_filter.specs.Scalar.{up_to_boundary}
 
 -- ---- the first byte

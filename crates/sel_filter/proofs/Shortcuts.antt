@@ -1,20 +1,12 @@
 -- Compression if the kept bits are all equal.
-use Rattle.std.proofs.Common.{◌≡◌, ℕ, zero, suc, ◌-◌, ◌/◌, ◌^◌, ◌<◌, ◌≤◌, ◌∙◌, sym, refl, ap, arith, List, [], ◌∷◌, replicate, Bool, true, false}
-use Rattle.std.specs.Prelude.{bit_and, count_ones}
-use Rattle.std.specs.Int.{bit_at}
-use Rattle.std.proofs.Math.Nat.{pow-suc}
-use Rattle.std.proofs.lemmas.Nat.{pow_pos}
-use Rattle.std.proofs.lemmas.Nat.Bits.{bit_at-lt, bit_at_and, bit_at-zero, ones_shr}
-use Rattle.std.proofs.lemmas.List.Sums.{count_by-le-length}
-use Rattle.sel_bits.specs.Words.{bits, word_of}
-use Rattle.sel_filter.specs.Compress.{compress}
-use Rattle.sel_filter.specs.Select.{select}
-use Rattle.sel_bits.specs.Bits.{count_true}
+use Rattle.sel_filter.proofs.Common.{◌≡◌, ℕ, zero, suc, ◌-◌, ◌/◌, ◌^◌, ◌<◌, ◌≤◌, ◌∙◌, sym, refl, ap, arith, List, [], ◌∷◌, replicate, Bool, true, false}
+use Rattle.sel_filter.proofs.Common.{bit_and, count_ones, bit_at, pow-suc, pow_pos, bit_at-lt, bit_at_and, bit_at-zero, count_by-le-length, bits, word_of}
+use Rattle.sel_filter.proofs.Common.{compress, select, count_true, length_bits}
+use Rattle.std.proofs.lemmas.Nat.Bits.{ones_shr}
 use Rattle.sel_filter.proofs.Rounds.{one_standing}
 use Rattle.sel_filter.proofs.Ranks.{compress_standing}
 use Rattle.sel_filter.proofs.Selects.{count_cons}
 use Rattle.sel_filter.proofs.WordLists.{ones_is}
-use Rattle.sel_bits.proofs.Packs.{length_bits}
 
 -- The compressed word depends only on the bits under the mask.
 compress_masked : (v m : ℕ) → compress v m ≡ compress (bit_and v m) m
@@ -57,3 +49,5 @@ compress_all v m n fits count all =
     ones_shr 64 (64 - n) (omega arith)
     ∙ ap (λ k. 2 ^ k - 1) (back ∙ count ∙ ones_is 64 m fits)
     ∙ sym (compress_masked v m ∙ ap (λ x. compress x m) all ∙ ap word_of (select_self (bits 64 m)) ∙ word_of_ones (count_true (bits 64 m)))
+
+pub ruleset shortcuts = (compress_none, compress_all)

@@ -1,9 +1,7 @@
 -- The positions of kept bits between the moves of the compress. After its moves by less than d, a
 -- bit has moved down by the number of clear mask bits below it, modulo d.
-use Rattle.std.proofs.Common.{◌≡◌, ℕ, suc, ◌+◌, ◌-◌, ◌*◌, ◌/◌, ◌%◌, ◌^◌, ◌<◌, ◌≤◌, ◌∙◌, ap, ⊎_elim, arith}
-use Rattle.std.specs.Int.{bit_at}
-use Rattle.std.proofs.lemmas.Nat.{div-mul-add, div-add-mod', mod_below, pow_pos, mul-le, le-div, mod-pow-add}
-use Rattle.std.proofs.lemmas.Bool.{cases_lt}
+use Rattle.sel_filter.proofs.Common.{◌≡◌, ℕ, suc, ◌+◌, ◌-◌, ◌*◌, ◌/◌, ◌%◌, ◌^◌, ◌<◌, ◌≤◌, ◌∙◌, ap, ⊎_elim, arith, bit_at, pow_pos, cases_lt}
+use Rattle.std.proofs.lemmas.Nat.{div-mul-add, div-add-mod', mod_below, mul-le, le-div, mod-pow-add}
 use Rattle.std.proofs.Math.Nat.{mod-one, mod-eq_of_lt}
 use Rattle.sel_filter.proofs.Clears.{clears, clears_le, clears_between, clears_past}
 

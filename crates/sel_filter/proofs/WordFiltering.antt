@@ -1,17 +1,13 @@
 -- The bits that a mask keeps, word by word at multiples of 64, over plain variables.
-use Rattle.std.proofs.Common.{◌≡◌, ℕ, ◌+◌, ◌-◌, ◌*◌, ◌/◌, ◌%◌, ◌<◌, ◌≤◌, min, ⊎_elim, ◌∙◌, sym, ap, refl, arith, List, [], ◌++◌, length, take, drop, Bool, append_assoc, append-nil}
-use Rattle.std.proofs.Math.Seq.{take-add}
-use Rattle.std.proofs.lemmas.Bool.{cases_lt}
-use Rattle.std.proofs.lemmas.List.{take_all, length-drop, length-take, nil_from_length}
-use Rattle.sel_bits.specs.Bits.{bits_from}
-use Rattle.sel_bits.specs.Words.{bits, word_of}
-use Rattle.sel_bits.proofs.BitLists.{bits_from_none, bits_from_part, length_bits_from}
+use Rattle.sel_filter.proofs.Common.{◌≡◌, ℕ, ◌+◌, ◌-◌, ◌*◌, ◌/◌, ◌%◌, ◌<◌, ◌≤◌, min, ⊎_elim, ◌∙◌, sym, ap, refl, arith, List, [], ◌++◌, length, take, drop}
+use Rattle.sel_filter.proofs.Common.{Bool, cases_lt, take_all, length-drop, bits_from, bits, word_of, length_bits_from, select, nil_from_length}
 use Rattle.sel_bits.proofs.Loads.{block_word, from_byte}
+use Rattle.sel_bits.proofs.BitLists.{bits_from_none, bits_from_part}
 use Rattle.sel_bits.proofs.Zeros.{bits_from_dropped}
 use Rattle.sel_bits.proofs.WordsOf.{length_part}
-use Rattle.sel_filter.specs.Select.{select}
-use Rattle.sel_filter.proofs.Selects.{select-append, select_split}
-use Rattle.sel_filter.proofs.WordSelects.{words_select, select_empty}
+use Rattle.sel_filter.proofs.Selects.{select_more, select_split}
+use Rattle.sel_filter.proofs.WordLists.{none_more}
+use Rattle.sel_filter.proofs.WordSelects.{words_select}
 
 module _ (xs ms : List Bool) (vb mb : List ℕ) (vs s n block width marks : ℕ) (xs-is : xs ≡ bits_from vb vs n) (ms-is : ms ≡ bits_from mb s n)
     (within : 64 * block + width ≤ n) (few : width ≤ 64) (marks-is : marks ≡ word_of (bits_from (drop (8 * block) mb) s width)) where
@@ -43,18 +39,14 @@ module _ (xs ms : List Bool) (vb mb : List ℕ) (vs s n block width marks : ℕ)
       → more ≡ kept ++ select (bits 64 word) (bits 64 marks) → more ≡ front ++ select (take (64 * block + width) xs) (take (64 * block + width) ms)
   word_more front kept more word word-is was is =
       let word_word : word ≡ word_of a = word-is ∙ block_word vb vs n block width within ∙ ap (λ l. word_of (take width (drop at l))) (sym xs-is) in
-      is
-      ∙ ap (λ l. kept ++ l) ((λ i. select (bits 64 (word_word i)) (bits 64 (marks_word i))) ∙ words_select a b width length_a length_b few)
-      ∙ ap (λ l. l ++ select a b) was
-      ∙ append_assoc front (select (take at xs) (take at ms)) (select a b)
-      ∙ ap (λ l. front ++ l) (sym (select-append (take at xs) (take at ms) a b (omega (arith, length-take at xs, length-take at ms, length_xs, length_ms))))
-      ∙ (λ i. front ++ select (sym (take-add at width xs) i) (sym (take-add at width ms) i))
+      select_more front kept more xs ms at width (length_xs ∙ sym length_ms) was
+      (is ∙ ap (λ l. kept ++ l) ((λ i. select (bits 64 (word_word i)) (bits 64 (marks_word i))) ∙ words_select a b width length_a length_b few))
 
   -- A word without a set bit.
   pub word_skipped : (front kept : List Bool) → marks ≡ 0 → kept ≡ front ++ select (take (64 * block) xs) (take (64 * block) ms) → kept ≡ front ++ select (take (64 * block + width) xs) (take (64 * block + width) ms)
   word_skipped front kept none was =
-      word_more front kept kept (word_of (bits_from (drop (8 * block) vb) vs width)) refl was
-      (sym (append-nil kept) ∙ ap (λ l. kept ++ l) (sym (select_empty (word_of (bits_from (drop (8 * block) vb) vs width)) marks none)))
+      let word = word_of (bits_from (drop (8 * block) vb) vs width) in
+      word_more front kept kept word refl was (none_more (bits 64 word) kept 64 marks none)
 
 -- The rows up to the next word.
 pub next_word : (xs ms front kept : List Bool) (block : ℕ) → kept ≡ front ++ select (take (64 * block + 64) xs) (take (64 * block + 64) ms) → kept ≡ front ++ select (take (64 * (block + 1)) xs) (take (64 * (block + 1)) ms)

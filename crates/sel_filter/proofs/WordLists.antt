@@ -1,16 +1,11 @@
 -- The bits of the word of a list.
-use Rattle.std.proofs.Common.{◌≡◌, ℕ, zero, suc, ◌+◌, ◌-◌, ◌*◌, ◌/◌, ◌^◌, ◌<◌, ◌≤◌, ◌∙◌, sym, refl, ap, arith, List, [], ◌∷◌, ◌++◌, length, replicate, Bool, true, false, cond}
-use Rattle.std.specs.Prelude.{count_ones, ◌==◌}
-use Rattle.std.specs.Int.{bit_at}
-use Rattle.std.proofs.Math.Nat.{pow-suc}
-use Rattle.std.proofs.lemmas.Nat.{pow_pos}
-use Rattle.std.proofs.lemmas.Nat.Bits.{bit_at-lt, bit_at_lowest}
+use Rattle.sel_filter.proofs.Common.{◌≡◌, ℕ, zero, suc, ◌+◌, ◌-◌, ◌*◌, ◌/◌, ◌^◌, ◌<◌, ◌≤◌, ◌∙◌, sym, ap, arith, List, [], ◌∷◌, ◌++◌, length, replicate, Bool}
+use Rattle.sel_filter.proofs.Common.{true, false, count_ones, ◌==◌, bit_at, pow-suc, bit_at-lt, bit_at_lowest, is_set, bits, word_of, count_true, bits_suc}
+use Rattle.sel_filter.proofs.Common.{bits_zero, bits_split, length_bits, word_of_lt, append-nil, cond_of_bit, select}
+use Rattle.std.proofs.Math.Nat.{div-eq_of_lt}
 use lib.Count.{ones_step}
-use Rattle.sel_bits.specs.Words.{is_set, bits, word_of}
-use Rattle.sel_bits.specs.Bits.{count_true}
-use Rattle.sel_bits.proofs.Lists.{bits_suc, bits_zero, cond_of_bit}
-use Rattle.sel_bits.proofs.Padded.{bit_at_word_of}
-use Rattle.sel_filter.proofs.Selects.{count_cons}
+use Rattle.sel_bits.proofs.Packed.{bits_word_of as listed}
+use Rattle.sel_filter.proofs.Selects.{count_cons, select_none, all_kept}
 
 pub bits_of_zero : (n : ℕ) → bits n 0 ≡ replicate n false
 bits_of_zero zero = bits_zero 0
@@ -22,21 +17,16 @@ bits_first n w b half lowest rest = bits_suc n w ∙ ap (λ x. (x == 1) ∷ bits
 
 -- The bits of the word of a list are the list, followed by false bits.
 pub bits_word_of : (l : List Bool) (n : ℕ) → length l ≤ n → bits n (word_of l) ≡ l ++ replicate (n - length l) false
-bits_word_of [] n le = let e : n - 0 ≡ n = omega arith in bits_of_zero n ∙ ap (λ k. replicate k false) (sym e)
-bits_word_of (b ∷ bs) zero le = absurd (omega arith)
-bits_word_of (b ∷ bs) (suc n) le =
-    let e : n - length bs ≡ suc n - length (b ∷ bs) = omega arith in
-    bits_first n (word_of (b ∷ bs)) (cond b 1 0) (word_of bs) (bit_at_word_of (b ∷ bs) 0) (half b)
-    ∙ ap (λ c. c ∷ bits n (word_of bs)) (test b)
-    ∙ ap (λ l. b ∷ l) (bits_word_of bs n (omega arith) ∙ ap (λ k. bs ++ replicate k false) e)
-  where
-    half : (b : Bool) → word_of (b ∷ bs) / 2 ≡ word_of bs
-    half true = omega arith
-    half false = omega arith
+bits_word_of l n le =
+    let e : n ≡ length l + (n - length l) = omega arith in
+    ap (λ k. bits k (word_of l)) e
+    ∙ bits_split (length l) (n - length l) (word_of l)
+    ∙ (λ i. listed l i ++ (ap (bits (n - length l)) (div-eq_of_lt (word_of_lt l)) ∙ bits_of_zero (n - length l)) i)
 
-    test : (b : Bool) → (cond b 1 0 == 1) ≡ b
-    test true = refl
-    test false = refl
+-- Without a set bit, nothing is selected.
+pub none_more : {A : Type 0} → (xs kept : List A) (n m : ℕ) → m ≡ 0 → kept ≡ kept ++ select xs (bits n m)
+none_more xs kept n m none =
+    sym (append-nil kept) ∙ ap (λ l. kept ++ l) (sym (ap (λ w. select xs (bits n w)) none ∙ ap (select xs) (bits_of_zero n) ∙ select_none xs n))
 
 -- The number of set bits of a word.
 pub ones_is : (n m : ℕ) → m < 2 ^ n → count_ones m ≡ count_true (bits n m)
@@ -53,13 +43,13 @@ ones_is (suc n) m fits =
       bit_at_lowest m,
     )
 
--- A word of ones.
-pub bits_of_ones : (n : ℕ) → bits n (2 ^ n - 1) ≡ replicate n true
-bits_of_ones zero = bits_zero 0
-bits_of_ones (suc n) =
-    let half : (2 ^ suc n - 1) / 2 ≡ 2 ^ n - 1 = omega (arith, pow-suc 2 n) in
-    let low : bit_at (2 ^ suc n - 1) 0 ≡ 1 = omega (arith, bit_at_lowest (2 ^ suc n - 1), pow-suc 2 n, pow_pos n) in
-    bits_suc n (2 ^ suc n - 1) ∙ ap (λ x. (x == 1) ∷ bits n ((2 ^ suc n - 1) / 2)) low ∙ ap (λ h. true ∷ bits n h) half ∙ ap (λ l. true ∷ l) (bits_of_ones n)
+-- The number of set bits of the word of a list.
+pub count_word : (l : List Bool) → count_ones (word_of l) ≡ count_true l
+count_word l = ones_is (length l) (word_of l) (word_of_lt l) ∙ ap count_true (listed l)
+
+-- Each element is selected if all bits are set.
+pub all_set : {A : Type 0} → (xs : List A) (n m : ℕ) → length xs ≡ n → m < 2 ^ n → count_ones m ≡ n → select xs (bits n m) ≡ xs
+all_set xs n m long fits all = all_kept xs (bits n m) (long ∙ sym (length_bits n m)) (sym (ones_is n m fits) ∙ all ∙ sym (length_bits n m))
 
 -- The word of concatenated lists of bits.
 pub word_of-append : (a b : List Bool) → word_of (a ++ b) ≡ word_of b * 2 ^ length a + word_of a

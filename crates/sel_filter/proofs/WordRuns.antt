@@ -1,14 +1,7 @@
 -- Runs of set bits in a word.
-use Rattle.std.proofs.Common.{◌≡◌, ℕ, zero, suc, ◌+◌, ◌-◌, ◌*◌, ◌/◌, ◌^◌, ◌<◌, ◌≤◌, ◌∙◌, sym, refl, ap, arith, List, [], ◌∷◌, ◌++◌, length, take, drop, replicate, Bool, true, false}
-use Rattle.std.specs.Prelude.{◌==◌}
-use Rattle.std.specs.Int.{bit_at}
-use Rattle.std.proofs.lemmas.Nat.Bits.{bit_at-suc}
-use Rattle.sel_bits.specs.Words.{bits}
-use Rattle.sel_filter.specs.Select.{select}
-use Rattle.sel_filter.specs.Runs.{starts_after}
-use Rattle.sel_bits.proofs.Lists.{bits_suc, bits_zero}
+use Rattle.sel_filter.proofs.Common.{◌≡◌, ℕ, zero, suc, ◌+◌, ◌-◌, ◌*◌, ◌/◌, ◌^◌, ◌<◌, ◌≤◌, ◌∙◌, sym, refl, ap, arith, List, [], ◌∷◌, ◌++◌, length, take, drop}
+use Rattle.sel_filter.proofs.Common.{replicate, Bool, true, false, ◌==◌, bit_at, bit_at-suc, bits, select, starts_after, bits_suc, bits_zero, bits_split}
 use Rattle.sel_filter.proofs.WordLists.{bits_of_zero}
-use Rattle.sel_bits.proofs.Packs.{bits_split}
 
 -- A word whose t lowest bits are all b.
 bits_equal : (b t w : ℕ) → ((i : ℕ) → i < t → bit_at w i ≡ b) → bits t w ≡ replicate t (b == 1)

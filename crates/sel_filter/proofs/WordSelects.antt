@@ -1,25 +1,13 @@
 -- The bits of a word that another word selects.
-use Rattle.std.proofs.Common.{◌≡◌, ◌≢◌, ℕ, zero, suc, ◌+◌, ◌-◌, ◌*◌, ◌/◌, ◌%◌, ◌^◌, ◌<◌, ◌≤◌, ◌∙◌, sym, refl, ap, subst, arith, List, [], ◌∷◌, ◌++◌, length, replicate, Bool, true, false, append-nil}
-use Rattle.std.specs.Prelude.{bit_and, ◌==◌, count_ones}
-use Rattle.std.specs.Int.{bit_at, trailing_zeros, w64}
-use Rattle.std.proofs.lemmas.Nat.{shr_high, pow_pos, one_shl}
-use Rattle.std.proofs.lemmas.Nat.Bits.{bit_at-pow_other, bit_at-zero, bit_at-trailing_zeros, shr_and_one}
-use Rattle.std.proofs.lemmas.List.{length-replicate}
-use Rattle.std.proofs.lemmas.List.Sums.{count_by-le-length}
-use Rattle.sel_bits.specs.Words.{is_set, bits, word_of}
-use Rattle.sel_filter.specs.Compress.{compress}
-use Rattle.sel_filter.specs.Select.{select}
-use Rattle.sel_bits.proofs.Lists.{bits_suc, bits_zero}
-use Rattle.sel_bits.proofs.Padded.{word_of_lt}
-use Rattle.sel_bits.proofs.Packs.{length_bits, bits_same, bits_split}
-use Rattle.sel_bits.proofs.Shifts.{bit_at_mod}
-use Rattle.sel_filter.proofs.WordLists.{bits_of_zero, bits_of_ones, bits_word_of, ones_is}
-use Rattle.sel_filter.proofs.Selects.{select-append, select_none, length-select}
-
--- False bits at the end of the mask select nothing.
-pub select_padded : (xs : List Bool) (ms : List Bool) (k : ℕ) → length xs ≡ length ms → select (xs ++ replicate k false) (ms ++ replicate k false) ≡ select xs ms
-select_padded xs ms k long =
-    select-append xs ms (replicate k false) (replicate k false) long ∙ ap (λ l. select xs ms ++ l) (select_none (replicate k false) k) ∙ append-nil (select xs ms)
+use Rattle.sel_filter.proofs.Common.{◌≡◌, ℕ, suc, ◌+◌, ◌-◌, ◌*◌, ◌/◌, ◌%◌, ◌^◌, ◌<◌, ◌≤◌, ◌∙◌, sym, ap, subst, arith, List, ◌∷◌, ◌++◌, length, replicate, Bool}
+use Rattle.sel_filter.proofs.Common.{true, false, append-nil, bit_and, ◌==◌, count_ones, bit_at, pow_pos, bit_at-pow_other, bit_at-zero, shr_and_one}
+use Rattle.sel_filter.proofs.Common.{count_by-le-length, is_set, bits, word_of, compress, select, bits_suc, bits_zero, word_of_lt, length_bits, bits_split}
+use Rattle.sel_filter.proofs.Common.{bit_at_mod, take_all}
+use Rattle.std.proofs.lemmas.Nat.{shr_high, one_shl}
+use Rattle.std.proofs.lemmas.List.{length-replicate, take-append-le}
+use Rattle.sel_bits.proofs.Packs.{bits_same}
+use Rattle.sel_filter.proofs.WordLists.{all_set, bits_of_zero, bits_word_of, count_word, ones_is, none_more}
+use Rattle.sel_filter.proofs.Selects.{select-append, select_front, select_none, length-select}
 
 module _ (v m : ℕ) (m_fits : m < 2 ^ 64) where
   long : length (select (bits 64 v) (bits 64 m)) ≡ count_ones m
@@ -39,16 +27,11 @@ module _ (v m : ℕ) (m_fits : m < 2 ^ 64) where
       let none : count_ones m - length s ≡ 0 = omega (arith, long) in
       bits_word_of s (count_ones m) (omega (arith, long)) ∙ ap (λ k. s ++ replicate k false) none ∙ append-nil s
 
-pub select_empty : (v m : ℕ) → m ≡ 0 → select (bits 64 v) (bits 64 m) ≡ []
-select_empty v m none = ap (λ x. select (bits 64 v) (bits 64 x)) none ∙ ap (select (bits 64 v)) (bits_of_zero 64) ∙ select_none (bits 64 v) 64
-
-select_all : (xs : List Bool) (n : ℕ) → length xs ≡ n → select xs (replicate n true) ≡ xs
-select_all [] n long = refl
-select_all (x ∷ xs) zero long = absurd (omega arith)
-select_all (x ∷ xs) (suc n) long = ap (λ l. x ∷ l) (select_all xs n (omega arith))
+full_count : count_ones 18446744073709551615 ≡ 64
+full_count = count_word (replicate 64 true)
 
 pub select_full : (v m : ℕ) → m ≡ 18446744073709551615 → select (bits 64 v) (bits 64 m) ≡ bits 64 v
-select_full v m full = ap (λ x. select (bits 64 v) (bits 64 x)) full ∙ ap (select (bits 64 v)) (bits_of_ones 64) ∙ select_all (bits 64 v) 64 (length_bits 64 v)
+select_full v m full = all_set (bits 64 v) 64 m (length_bits 64 v) (omega (arith, full)) (ap count_ones full ∙ full_count)
 
 -- A word with one set bit.
 single : (t r : ℕ) → t + suc r ≡ 64 → bits 64 (2 ^ t) ≡ replicate t false ++ true ∷ replicate r false
@@ -75,13 +58,11 @@ select_one word marks t lt is =
     ∙ select-append (bits t word) (replicate t false) (is_set x 0 ∷ bits r (x / 2)) (true ∷ replicate r false) (length_bits t word ∙ sym (length-replicate t false))
     ∙ (λ i. select_none (bits t word) t i ++ is_set x 0 ∷ select_none (bits r (x / 2)) r i))
 
-pub lowest_within : (marks : ℕ) → marks < 2 ^ 64 → marks ≢ 0 → trailing_zeros w64 marks < 64
-lowest_within marks fits some = (bit_at-trailing_zeros w64 marks (omega arith) fits).0
-
 -- The words of two lists.
 pub words_select : (a b : List Bool) (n : ℕ) → length a ≡ n → length b ≡ n → n ≤ 64 → select (bits 64 (word_of a)) (bits 64 (word_of b)) ≡ select a b
 words_select a b n la lb few =
-    (λ i. select (padded a la i) (padded b lb i)) ∙ select_padded a b (64 - n) (la ∙ sym lb)
-  where
-    padded : (l : List Bool) → length l ≡ n → bits 64 (word_of l) ≡ l ++ replicate (64 - n) false
-    padded l is = bits_word_of l 64 (omega (arith, is)) ∙ ap (λ k. l ++ replicate (64 - k) false) is
+    (λ i. select (bits_word_of a 64 (omega (arith, la)) i) (bits_word_of b 64 (omega (arith, lb)) i))
+    ∙ select_front (a ++ replicate (64 - length a) false) b (64 - length b)
+    ∙ ap (λ l. select l b) (take-append-le (length b) a (replicate (64 - length a) false) (omega (arith, la, lb)) ∙ take_all (length b) a (omega (arith, la, lb)))
+
+pub ruleset selected_bits = (few_ones, compress_fits, compress_bits, select_full, none_more)

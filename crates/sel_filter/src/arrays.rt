@@ -55,6 +55,7 @@ pub fn filter_arrays<T: Copy, const N: usize>(
 /// # Errors
 /// `OutOfMemory` if an allocation fails.
 #[inline(always)]
+#[tactic(auto, using(crate::proofs::Dense::kept_steps))]
 fn append_arrays<T: Copy, const N: usize>(
     block: &[[T; N]],
     mask: u64,
@@ -82,6 +83,7 @@ fn append_arrays<T: Copy, const N: usize>(
 /// # Requires
 /// `out` has spare capacity for them.
 #[inline(always)]
+#[tactic(auto, using(crate::proofs::Dense::kept_steps))]
 fn push_arrays<T: Copy, const N: usize>(block: &[[T; N]], mask: u64, out: &mut Vec<T>)
     requires block { length block.now ≤ 64 }
     requires fits { mask < 2 ^ length block.now }

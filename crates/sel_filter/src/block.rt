@@ -184,8 +184,8 @@ fn push_dense<T: Copy>(block: &[T], mask: u64, out: &mut Vec<T>)
     let alloc = *out.allocator();
     let mut kept = replace(out, Vec::new(alloc));
     let mut word = mask;
-    // Rounds of 16: in some builds rounds of 4 took 1.4 times as long, most likely by the place of the
-    // loop in the code (docs/BENCHMARKS.md).
+    // Rounds of 16: in some builds rounds of 4 took 1.4 times as long, most likely by the place of
+    // the loop in the code (docs/BENCHMARKS.md).
     for round in 0..4usize {
         let at = 16 * round;
         push_four(&block[at..at + 4], word, &mut kept);

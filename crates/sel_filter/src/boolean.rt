@@ -40,6 +40,7 @@ pub fn filter_boolean_kernel(alloc: Global, values: &Bitmap, mask: &Bitmap) -> P
 ///
 /// # Errors
 /// `OutOfMemory` if an allocation fails.
+#[tactic(auto, using(crate::proofs::Selects::selected))]
 pub fn filter_counted_bits(
     alloc: Global,
     values: &Bitmap,
@@ -213,6 +214,7 @@ pub fn filter_boolean_kernel_pext(
 
 /// Appends the bits of `word` where `marks` has a set bit, in order.
 #[inline(always)]
+#[tactic(auto, using(crate::proofs::WordSelects::selected_bits))]
 fn append_kept(kept: &mut BitPacker, word: u64, marks: u64) -> PolarsResult<()>
     ensures appended { OnOk result (kept.new ≡ kept.old ++ select (bits 64 word)
         (bits 64 marks)) }

@@ -15,6 +15,7 @@ const FEW_BITS: u32 = 4;
 ///
 /// # Requires
 /// `m_popcnt` is the number of set bits of `m`.
+#[tactic(auto, using(crate::proofs::Shortcuts::shortcuts))]
 pub fn pext64_polyfill(v: u64, m: u64, m_popcnt: u32) -> u64
     requires { m_popcnt ≡ count_ones m }
     ensures { result ≡ compress v m }

@@ -41,6 +41,7 @@ pub fn filter_values<T: Copy>(alloc: Global, values: &[T], mask: &Bitmap) -> Pol
 ///
 /// # Errors
 /// `OutOfMemory` if an allocation fails.
+#[tactic(auto, using(crate::proofs::Selects::selected))]
 pub fn filter_counted_values<T: Copy>(
     alloc: Global,
     values: &[T],

@@ -1,6 +1,5 @@
 -- The items so far follow the initial items.
-use Rattle.std.proofs.Common.{◌≡◌, ◌+◌, ◌++◌, take, vec_len}
-use Rattle.std.specs.Prelude.{vec_capacity}
+use Rattle.sel_filter.proofs.Common.{◌≡◌, ◌+◌, ◌++◌, take, vec_len, vec_capacity}
 use Rattle.sel_filter.proofs.arrays.push_array.Given as goal
 
 abbrev pub invariant-loop-i : goal.invariant-loop-i

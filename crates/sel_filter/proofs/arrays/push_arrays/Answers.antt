@@ -1,27 +1,10 @@
-use Rattle.std.proofs.Common.{◌≡◌, ◌+◌, ◌-◌, ◌*◌, ◌<◌, ◌∷◌, [], ◌++◌, ◌∙◌, ap, sym, length, refl, arith, rules, append-nil, append_assoc}
-use Rattle.std.specs.Prelude.{bit_and}
-use Rattle.std.specs.List.{flat_map}
+use Rattle.sel_filter.proofs.Common.{◌≡◌, ◌+◌, ◌-◌, ◌*◌, ◌∷◌, [], ◌++◌, ◌∙◌, ap, sym, length, refl, arith, append-nil, append_assoc, bit_and, flat_map}
+use Rattle.sel_filter.proofs.Common.{and_le_l, bits, select}
+use Rattle.std.proofs.Common.{rules}
 use Rattle.std.proofs.Math.Nat.{suc-mul}
-use Rattle.std.proofs.lemmas.Nat.{and_le_l}
-use Rattle.sel_bits.specs.Words.{bits}
-use Rattle.sel_filter.specs.Select.{select}
-use Rattle.sel_filter.proofs.Dense.{few_step, few_within, kept_count, none_more}
+use Rattle.sel_filter.proofs.Dense.{few_step}
+use Rattle.sel_filter.proofs.WordLists.{none_more}
 use Rattle.sel_filter.proofs.arrays.push_arrays.Goals as goal
-
-pub offset_bounds-block-rest : goal.offset_bounds-block-rest
-offset_bounds-block-rest g c = omega (arith, few_within c.args.block.now c.loop-rest.rest (omega arith) c.loop-rest.invariant.fits c.requires.block)
-
-pub bounds-block-rest : goal.bounds-block-rest
-bounds-block-rest g c = few_within c.args.block.now c.loop-rest.rest (omega arith) c.loop-rest.invariant.fits c.requires.block
-
-pub loop-rest-init : goal.loop-rest-init
-loop-rest-init g c =
-    let count = ap (λ k. k * g.row.N) (kept_count c.args.block.now c.args.mask c.requires.fits) in
-    rw c.replace-kept.ensures.value (record {
-      fits = c.requires.fits;
-      room = omega (arith, c.requires.room, count);
-      kept = refl;
-    })
 
 pub push_array-requires : goal.push_array-requires
 push_array-requires g c =
@@ -55,5 +38,5 @@ loop-rest-preserved g c =
 pub returns : goal.returns
 returns g c =
     let block = c.args.block.now in
-    let none = none_more block [] c.loop-rest.rest (omega arith) in
+    let none = none_more block [] (length block) c.loop-rest.rest (omega arith) in
     record { appended = sym (append-nil c.loop-rest.kept.items) ∙ ap (λ l. c.loop-rest.kept.items ++ flat_map (λ array. array) l) none ∙ c.loop-rest.invariant.kept }

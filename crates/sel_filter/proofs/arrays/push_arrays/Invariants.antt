@@ -1,9 +1,5 @@
 -- The items so far, and those of the arrays at the remaining bits, are the final items.
-use Rattle.std.proofs.Common.{◌≡◌, ◌+◌, ◌*◌, ◌<◌, ◌≤◌, ◌^◌, ◌++◌, length, vec_len}
-use Rattle.std.specs.Prelude.{vec_capacity}
-use Rattle.std.specs.List.{flat_map}
-use Rattle.sel_bits.specs.Words.{bits}
-use Rattle.sel_filter.specs.Select.{select}
+use Rattle.sel_filter.proofs.Common.{◌≡◌, ◌+◌, ◌*◌, ◌<◌, ◌≤◌, ◌^◌, ◌++◌, length, vec_len, vec_capacity, flat_map, bits, select}
 use Rattle.sel_filter.proofs.arrays.push_arrays.Given as goal
 
 abbrev pub invariant-loop-rest : goal.invariant-loop-rest

@@ -1,7 +1,5 @@
 -- The kept values of the blocks so far follow the initial items.
-use Rattle.std.proofs.Common.{◌≡◌, ◌*◌, ◌++◌, length, take}
-use Rattle.sel_bits.specs.Bits.{bits_from}
-use Rattle.sel_filter.specs.Select.{select}
+use Rattle.sel_filter.proofs.Common.{◌≡◌, ◌*◌, ◌++◌, length, take, bits_from, select}
 use Rattle.sel_filter.proofs.block.append_blocks.Given as goal
 
 abbrev pub invariant-loop-block : goal.invariant-loop-block

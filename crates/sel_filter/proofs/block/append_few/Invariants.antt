@@ -1,8 +1,5 @@
 -- The items so far and what the remaining bits select are the final items.
-use Rattle.std.proofs.Common.{◌≡◌, ◌+◌, ◌<◌, ◌≤◌, ◌^◌, ◌++◌, length, vec_len}
-use Rattle.std.specs.Prelude.{vec_capacity}
-use Rattle.sel_bits.specs.Words.{bits}
-use Rattle.sel_filter.specs.Select.{select}
+use Rattle.sel_filter.proofs.Common.{◌≡◌, ◌+◌, ◌<◌, ◌≤◌, ◌^◌, ◌++◌, length, vec_len, vec_capacity, bits, select}
 use Rattle.sel_filter.proofs.block.append_few.Given as goal
 
 abbrev pub invariant-loop-rest : goal.invariant-loop-rest

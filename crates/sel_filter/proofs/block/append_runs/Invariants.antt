@@ -1,8 +1,6 @@
 -- The items so far and what the remaining bits select are the final items.
-use Rattle.std.proofs.Common.{◌++◌}
+use Rattle.sel_filter.proofs.Common.{◌++◌, bits, select}
 use Rattle.sel_bits.specs.Copying.{IsBeginning}
-use Rattle.sel_bits.specs.Words.{bits}
-use Rattle.sel_filter.specs.Select.{select}
 use Rattle.sel_filter.proofs.Running.{IsRunning}
 use Rattle.sel_filter.proofs.block.append_runs.Given as goal
 

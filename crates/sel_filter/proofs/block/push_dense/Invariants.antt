@@ -1,6 +1,5 @@
 -- The kept values of the rounds so far follow the initial items.
-use Rattle.std.proofs.Common.{◌≡◌, ◌*◌, ◌/◌, ◌^◌}
-use Rattle.std.specs.Prelude.{vec_capacity}
+use Rattle.sel_filter.proofs.Common.{◌≡◌, ◌*◌, ◌/◌, ◌^◌, vec_capacity}
 use Rattle.sel_filter.proofs.Dense.{IsDense}
 use Rattle.sel_filter.proofs.block.push_dense.Given as goal
 

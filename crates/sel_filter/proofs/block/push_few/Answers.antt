@@ -1,14 +1,13 @@
-use Rattle.std.proofs.Common.{◌≡◌, ◌+◌, ◌-◌, ◌%◌, ◌<◌, ◌^◌, ◌++◌, ◌∙◌, ◌∷◌, [], length, length-append, take, ap, refl, sym, arith}
-use Rattle.std.specs.Prelude.{bit_and, count_ones, vec_capacity}
-use Rattle.sel_bits.specs.Words.{bits}
-use Rattle.sel_filter.specs.Select.{select}
-use Rattle.sel_filter.proofs.Dense.{few_begin, few_left, few_pair, few_room, kept_count}
+use Rattle.sel_filter.proofs.Common.{◌≡◌, ◌+◌, ◌-◌, ◌<◌, ◌^◌, ◌++◌, ◌∙◌, ◌∷◌, [], length, length-append, take, ap, refl, arith, count_ones, vec_capacity, bits}
+use Rattle.sel_filter.proofs.Common.{select}
+use Rattle.sel_filter.proofs.Dense.{few_begin, few_left, few_pair, kept_count}
+use Rattle.sel_filter.proofs.Selects.{few_kept}
 use Rattle.sel_filter.proofs.block.push_few.Goals as goal
 
 pub loop-rest-init : goal.loop-rest-init
 loop-rest-init g c = rw c.replace-kept.ensures.value (record {
   capacity = refl;
-  kept = few_begin c.args.block.now c.args.out.now.items c.args.mask (vec_capacity c.args.out.now) (omega (arith, c.requires.room, few_room c.args.block.now c.args.mask, c.requires.block));
+  kept = few_begin c.args.block.now c.args.out.now.items c.args.mask (vec_capacity c.args.out.now) (omega (arith, c.requires.room, few_kept c.args.block.now (bits (length c.args.block.now) c.args.mask), c.requires.block));
 })
 
 pub push_reserved-requires : goal.push_reserved-requires
@@ -19,7 +18,7 @@ push_reserved-requires-in-loop-rest g c =
     let block = c.args.block.now in
     let rest = c.loop-rest.rest in
     let fits : rest < 2 ^ length block = rw c.requires.block c.loop-rest.auto.rest-fits.fits in
-    omega (arith, (c.loop-rest.invariant.kept.some (omega arith)).1, c.loop-rest.invariant.capacity, c.push_reserved.ensures.len, c.push_reserved.ensures.capacity, few_left block rest c.index-block-rest.result (omega arith) fits (omega (arith, c.requires.block)))
+    omega (arith, (c.loop-rest.invariant.kept.some (omega arith)).1, c.loop-rest.invariant.capacity, c.push_reserved.ensures.len, c.push_reserved.ensures.capacity, few_left block rest (omega arith) fits (omega (arith, c.requires.block)))
 
 pub loop-rest-preserved : goal.loop-rest-preserved
 loop-rest-preserved g c =

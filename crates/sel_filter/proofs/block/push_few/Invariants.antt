@@ -1,8 +1,5 @@
 -- The items so far lack the values at the remaining bits.
-use Rattle.std.proofs.Common.{◌≡◌, ◌++◌, length}
-use Rattle.std.specs.Prelude.{vec_capacity}
-use Rattle.sel_bits.specs.Words.{bits}
-use Rattle.sel_filter.specs.Select.{select}
+use Rattle.sel_filter.proofs.Common.{◌≡◌, ◌++◌, length, vec_capacity, bits, select}
 use Rattle.sel_filter.proofs.Dense.{FewSoFar}
 use Rattle.sel_filter.proofs.block.push_few.Given as goal
 

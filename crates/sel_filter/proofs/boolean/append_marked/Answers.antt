@@ -1,6 +1,4 @@
-use Rattle.std.proofs.Common.{◌≡◌, ◌<◌, ◌+◌, get_or, false, ap, ◌∙◌, arith}
-use Rattle.std.specs.Int.{trailing_zeros, w64}
-use Rattle.sel_bits.specs.Bits.{Bits}
+use Rattle.sel_filter.proofs.Common.{◌≡◌, ◌<◌, ◌+◌, get_or, false, ap, ◌∙◌, arith, trailing_zeros, w64, Bits}
 use Rattle.sel_filter.proofs.Marking.{lowest, mark_place, mark_bit, mark_room, marking_next, marking_last}
 use Rattle.sel_filter.proofs.boolean.append_marked.Goals as goal
 

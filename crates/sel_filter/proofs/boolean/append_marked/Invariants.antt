@@ -1,8 +1,5 @@
 -- The bits so far and what the remaining marks select are the final bits.
-use Rattle.std.proofs.Common.{◌≡◌, ◌+◌, ◌-◌, ◌++◌, length, drop}
-use Rattle.sel_bits.specs.Words.{bits}
-use Rattle.sel_bits.specs.Bits.{count_true}
-use Rattle.sel_filter.specs.Select.{select}
+use Rattle.sel_filter.proofs.Common.{◌≡◌, ◌+◌, ◌-◌, ◌++◌, length, drop, bits, count_true, select}
 use Rattle.sel_filter.proofs.Marking.{IsMarking}
 use Rattle.sel_filter.proofs.boolean.append_marked.Given as goal
 

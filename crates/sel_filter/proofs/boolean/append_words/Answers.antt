@@ -1,9 +1,5 @@
-use Rattle.std.proofs.Common.{◌≡◌, ◌+◌, ◌*◌, ◌/◌, ◌%◌, refl, drop, arith}
-use Rattle.std.proofs.lemmas.List.{take_rest}
+use Rattle.sel_filter.proofs.Common.{◌≡◌, ◌+◌, ◌*◌, ◌/◌, ◌%◌, refl, drop, arith, take_rest, bits_from, word_of, length_bits_from}
 use Rattle.std.proofs.lemmas.Result.{on_ok_weaker}
-use Rattle.sel_bits.specs.Bits.{bits_from}
-use Rattle.sel_bits.specs.Words.{word_of}
-use Rattle.sel_bits.proofs.BitLists.{length_bits_from}
 use Rattle.sel_filter.proofs.WordFiltering.{word_skipped, word_more, next_word, words_all}
 use Rattle.sel_filter.proofs.boolean.append_words.Goals as goal
 

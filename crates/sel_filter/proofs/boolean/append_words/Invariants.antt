@@ -1,7 +1,5 @@
 -- The kept bits of the words so far follow the initial bits.
-use Rattle.std.proofs.Common.{◌≡◌, ◌*◌, ◌++◌, take}
-use Rattle.sel_bits.specs.Bits.{bits_from}
-use Rattle.sel_filter.specs.Select.{select}
+use Rattle.sel_filter.proofs.Common.{◌≡◌, ◌*◌, ◌++◌, take, bits_from, select}
 use Rattle.sel_filter.proofs.boolean.append_words.Given as goal
 
 abbrev pub invariant-loop-block : goal.invariant-loop-block

@@ -1,6 +1,4 @@
-use Rattle.std.proofs.Common.{◌∙◌, ap, arith}
-use Rattle.std.proofs.lemmas.Result.{IfOk-weaker}
-use Rattle.sel_bits.specs.Bits.{Bits}
+use Rattle.sel_filter.proofs.Common.{◌∙◌, ap, arith, IfOk-weaker, Bits}
 use Rattle.sel_filter.proofs.BlockSelects.{kept_is, more_kept, kept_more, kept_all}
 use Rattle.sel_filter.proofs.boolean.filter_boolean_kernel_pext.Goals as goal
 

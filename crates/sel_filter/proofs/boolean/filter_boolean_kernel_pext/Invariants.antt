@@ -1,5 +1,5 @@
 -- The kept bits are those of the blocks read so far.
-use Rattle.std.proofs.Common.{◌+◌, ◌-◌, ◌/◌, length}
+use Rattle.sel_filter.proofs.Common.{◌+◌, ◌-◌, ◌/◌, length}
 use Rattle.sel_filter.proofs.BlockSelects.{IsKept}
 use Rattle.sel_filter.proofs.boolean.filter_boolean_kernel_pext.Given as goal
 

@@ -1,5 +1,5 @@
 -- The kept bits are those under the mask bits read so far.
-use Rattle.std.proofs.Common.{◌+◌, ◌-◌, ◌/◌, length}
+use Rattle.sel_filter.proofs.Common.{◌+◌, ◌-◌, ◌/◌, length}
 use Rattle.sel_filter.proofs.Filtering.{IsFiltered}
 use Rattle.sel_filter.proofs.boolean.filter_boolean_kernel_sparse.Given as goal
 

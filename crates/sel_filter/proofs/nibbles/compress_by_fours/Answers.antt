@@ -1,5 +1,4 @@
-use Rattle.std.proofs.Common.{◌≡◌, ℕ, ◌+◌, ◌*◌, ◌%◌, subst, arith, get_or}
-use Rattle.sel_filter.specs.declared.nibbles.TheConstants.{NIBBLES}
+use Rattle.sel_filter.proofs.Common.{◌≡◌, ℕ, ◌+◌, ◌*◌, ◌%◌, subst, arith, get_or, NIBBLES}
 use Rattle.sel_filter.proofs.ByFours.{IsPacked, packed_first, packed_next, packed_last, place_few, few_bits}
 use Rattle.sel_filter.proofs.nibbles.compress_by_fours.Goals as goal
 

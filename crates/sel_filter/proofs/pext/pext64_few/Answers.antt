@@ -1,4 +1,4 @@
-use Rattle.std.proofs.Common.{◌≡◌, ◌<◌, arith}
+use Rattle.sel_filter.proofs.Common.{◌≡◌, ◌<◌, arith}
 use Rattle.sel_filter.proofs.Few.{few_first, place_below, few_next, few_last}
 use Rattle.sel_filter.proofs.pext.pext64_few.Goals as goal
 

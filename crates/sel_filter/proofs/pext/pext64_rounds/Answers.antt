@@ -1,4 +1,4 @@
-use Rattle.std.proofs.Common.{◌≡◌, ◌<◌, ◌^◌, subst, sym, arith}
+use Rattle.sel_filter.proofs.Common.{◌≡◌, ◌<◌, ◌^◌, subst, sym, arith}
 use Rattle.sel_bits.proofs.Prefix.{shift_fits}
 use Rattle.sel_filter.proofs.Rounds.{MarksOdd, parity_marks}
 use Rattle.sel_filter.proofs.RoundState.{state_first, state_next, state_last, last_marks}

@@ -1,9 +1,6 @@
 -- The items so far and what the remaining bits select are the final items; the remaining runs are
 -- the copies to come.
-use Rattle.std.proofs.Common.{◌≡◌, ◌+◌, ◌-◌, ◌++◌, length, drop, false}
-use Rattle.sel_bits.specs.Words.{bits}
-use Rattle.sel_filter.specs.Select.{select}
-use Rattle.sel_filter.specs.Runs.{starts_after}
+use Rattle.sel_filter.proofs.Common.{◌≡◌, ◌+◌, ◌-◌, ◌++◌, length, drop, false, bits, select, starts_after}
 use Rattle.sel_filter.proofs.Running.{CountsRuns, IsRunning}
 use Rattle.sel_filter.proofs.primitive.copy_runs.Given as goal
 

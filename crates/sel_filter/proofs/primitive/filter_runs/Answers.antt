@@ -1,4 +1,4 @@
-use Rattle.std.proofs.Common.{◌<◌, ◌^◌, length, ◌∙◌, arith}
+use Rattle.sel_filter.proofs.Common.{◌<◌, ◌^◌, length, ◌∙◌, arith}
 use Rattle.sel_filter.proofs.RunFiltering.{run_begun, run_fits, run_filtered, run_room}
 use Rattle.sel_filter.proofs.primitive.filter_runs.Goals as goal
 

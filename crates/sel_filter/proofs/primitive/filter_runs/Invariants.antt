@@ -1,4 +1,4 @@
-use Rattle.std.proofs.Common.{◌+◌, ◌-◌, ◌/◌, length}
+use Rattle.sel_filter.proofs.Common.{◌+◌, ◌-◌, ◌/◌, length}
 use Rattle.sel_filter.proofs.RunFiltering.{IsRunFiltered}
 use Rattle.sel_filter.proofs.primitive.filter_runs.Given as goal
 

@@ -1,7 +1,5 @@
-use Rattle.std.proofs.Common.{◌≡◌, ◌<◌, ◌-◌, ◌/◌, ◌^◌, ◌++◌, ◌∷◌, [], ◌∙◌, length, take, drop, get_or, ap, sym, arith}
-use Rattle.std.proofs.lemmas.List.{take_all, length-take, length-drop}
-use Rattle.sel_bits.specs.Bits.{bits_from}
-use Rattle.sel_filter.specs.Select.{select}
+use Rattle.sel_filter.proofs.Common.{◌≡◌, ◌<◌, ◌-◌, ◌/◌, ◌^◌, ◌++◌, ◌∷◌, [], ◌∙◌, length, take, drop, get_or, ap, sym, arith, take_all, length-take}
+use Rattle.sel_filter.proofs.Common.{length-drop, bits_from, select}
 use Rattle.sel_filter.specs.Scalar.{rows_to_boundary}
 use Rattle.sel_filter.proofs.Scalars.{first_bits, other_bits, boundary_some}
 use Rattle.sel_filter.proofs.scalar.scalar_filter_offset.Goals as goal
