@@ -1,45 +1,19 @@
 -- Lemmas for the recursion into children and fields.
-use Rattle.std.proofs.Common.{◌≡◌, inl, inr, All, Bor, ℕ, zero, suc, ◌+◌, ◌<◌, true, List, [], ◌∷◌, ◌++◌, length, map, refl, ap, sym, subst, ◌∙◌, arith, get_or}
-use Rattle.std.proofs.lemmas.List.{get_or-map}
-use Rattle.std.proofs.lemmas.List.FromFn.{map-range_with_len_more}
-use Rattle.sel_bits.specs.declared.faults.Limit.{Limit}
-use Rattle.sel_bits.specs.declared.faults.PolarsError.{PolarsError}
-use Rattle.sel_bits.specs.declared.faults.PolarsError.TheVariants.{OutOfMemory, SizeLimit, ComputeError}
-use Rattle.sel_arrow.specs.Rows.{rows, type_of, well_formed, IsWellFormed}
-use Rattle.sel_arrow.specs.Shape.{Shape, of_null, of_large_list, of_fixed_size_list, shapes_of, shape_list}
-use Rattle.sel_arrow.specs.Value.{Value}
-use Rattle.sel_arrow.specs.declared.column.Column.{Column}
-use Rattle.sel_arrow.specs.declared.column.Column.TheVariants.{LargeList', FixedSizeList'}
-use Rattle.sel_arrow.proofs.NestedRows.{has_lists, has_blocks}
-use Rattle.sel_gather.specs.Children.{child, field, is_listing, part_at}
-use Rattle.sel_gather.specs.Steps.{parts_of}
-use Rattle.sel_gather.specs.Need.{IsLimitOrMemory, exceeded_taken, exceeded_in_fields}
+use Rattle.sel_gather.proofs.Common.{◌≡◌, inl, inr, All, Bor, ℕ, zero, suc, ◌+◌, ◌<◌, true, List, [], ◌∷◌, ◌++◌, length, map, refl, ap, sym, subst, ◌∙◌, arith}
+use Rattle.sel_gather.proofs.Common.{get_or, get_or-map, map-range_with_len_more, Limit, PolarsError, OutOfMemory, SizeLimit, ComputeError, rows, type_of}
+use Rattle.sel_gather.proofs.Common.{well_formed, IsWellFormed, Shape, of_null, of_large_list, of_fixed_size_list, shapes_of, shape_list, Value, Column}
+use Rattle.sel_gather.proofs.Common.{LargeList', FixedSizeList', has_lists, has_blocks, child, field, is_listing, part_at, parts_of, IsLimitOrMemory}
+use Rattle.sel_gather.proofs.Common.{exceeded_taken, exceeded_in_fields}
 
 -- ---- children
 
 pub child_type : (c : Column) (s : Shape) → type_of c ≡ of_large_list s → type_of (child c) ≡ s
-child_type (LargeList' offsets p values validity) s is = ap below is
-  where
-    below : Shape → Shape
-    below (of_large_list t) = t
-    below t = t
-child_type c s is = absurd (subst IsLargeList (sym is) tt)
-  where
-    IsLargeList : Shape → Type 0
-    IsLargeList (of_large_list t) = Unit {0}
-    IsLargeList t = ⊥
+child_type (LargeList' offsets p values validity) s is = cc is
+child_type c s is = absurd (cc is)
 
 pub block_child_type : (c : Column) (s : Shape) (w : ℕ) → type_of c ≡ of_fixed_size_list s w → type_of (child c) ≡ s
-block_child_type (FixedSizeList' size len p values validity) s w is = ap below is
-  where
-    below : Shape → Shape
-    below (of_fixed_size_list t n) = t
-    below t = t
-block_child_type c s w is = absurd (subst IsBlockList (sym is) tt)
-  where
-    IsBlockList : Shape → Type 0
-    IsBlockList (of_fixed_size_list t n) = Unit {0}
-    IsBlockList t = ⊥
+block_child_type (FixedSizeList' size len p values validity) s w is = cc is
+block_child_type c s w is = absurd (cc is)
 
 pub child_formed : (c : Column) → is_listing (type_of c) ≡ true → well_formed c ≡ true → well_formed (child c) ≡ true
 child_formed (LargeList' offsets p values validity) is h = (has_lists offsets values validity h).child

@@ -1,13 +1,6 @@
 -- What a gather returns.
-use Rattle.std.proofs.Common.{◌≡◌, List, sym, subst}
-use Rattle.std.specs.Prelude.{Result, Err, IsErrAnd}
-use Rattle.std.proofs.lemmas.Result.{err_from_is_err_and}
-use Rattle.sel_bits.specs.declared.faults.PolarsError.{PolarsError}
-use Rattle.sel_arrow.specs.Shape.{Shape}
-use Rattle.sel_arrow.specs.Value.{Value}
-use Rattle.sel_arrow.specs.declared.column.Column.{Column}
-use Rattle.sel_gather.specs.Gathers.{Collects}
-use Rattle.sel_gather.specs.Need.{IsLimitOrMemory, exceeded_taken}
+use Rattle.sel_gather.proofs.Common.{◌≡◌, List, sym, subst, Result, Err, IsErrAnd, err_from_is_err_and, PolarsError, Shape, Value, Column, Collects}
+use Rattle.sel_gather.proofs.Common.{IsLimitOrMemory, exceeded_taken}
 
 -- An error of a callee is returned.
 pub refused : (result : Result Column PolarsError) (s : Shape) (cs : List Column) (vs : List Value) (fault : PolarsError) → IsErrAnd result (λ e. e ≡ fault) → IsLimitOrMemory (exceeded_taken s cs vs) fault → Collects result s cs vs

@@ -1,6 +1,6 @@
 -- The size of a type: the number of types in it, including itself.
-use Rattle.std.proofs.Common.{◌≡◌, ℕ, zero, suc, ◌+◌, ◌≤◌, ◌<◌, List, [], ◌∷◌, length, map, ap, arith, get_or}
-use Rattle.sel_arrow.specs.Shape.{Shape, Shapes, no_shapes, next_shape, of_large_list, of_fixed_size_list, of_struct, shapes_of}
+use Rattle.sel_gather.proofs.Common.{◌≡◌, ℕ, zero, suc, ◌+◌, ◌≤◌, ◌<◌, List, [], ◌∷◌, length, map, ap, arith, get_or, Shape, Shapes, no_shapes, next_shape}
+use Rattle.sel_gather.proofs.Common.{of_large_list, of_fixed_size_list, of_struct, shapes_of}
 
 abbrev mutual
   pub size_of : Shape → ℕ

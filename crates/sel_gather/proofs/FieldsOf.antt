@@ -1,10 +1,8 @@
 -- The fields of a struct column, by position.
-use Rattle.std.proofs.Common.{◌≡◌, ℕ, zero, suc, ◌≤◌, ◌<◌, List, [], ◌∷◌, length, Option, Vec, Global, refl, ap, sym, ◌∙◌, arith, get_or}
+use Rattle.sel_gather.proofs.Common.{get_or_default, get_or_past, ◌≡◌, ℕ, ◌≤◌, ◌<◌, List, ◌∷◌, length, Option, Vec, Global, refl, ap, sym, ◌∙◌, get_or, Bits}
+use Rattle.sel_gather.proofs.Common.{Column, Struct, Row_of-Column, end_of-Column, more_of-Column, items-the_row-Column, items_hidden-the_row-Column-0, Struct'}
+use Rattle.sel_gather.proofs.Common.{columns_in, fields_of, field}
 use mathlib.Core.Former.{Count}
-use Rattle.sel_bits.specs.Bits.{Bits}
-use Rattle.sel_arrow.specs.declared.column.Column.{Column, Struct, Row_of-Column, end_of-Column, more_of-Column, items-the_row-Column, items_hidden-the_row-Column-0}
-use Rattle.sel_arrow.specs.declared.column.Column.TheVariants.{Struct'}
-use Rattle.sel_gather.specs.Children.{columns_in, fields_of, field}
 
 abbrev row_of : Column → (n : Count) × Row_of-Column n
 row_of (Struct' len n fields validity) = (_, fields)
@@ -20,14 +18,7 @@ fields_of-Struct len fields validity =
     listed_columns row.0 row.1 ∙ items_hidden-the_row-Column-0 fields
 
 pub any_default : {X : Type 0} (xs : List X) (j : ℕ) (d e : X) → j < length xs → get_or xs j d ≡ get_or xs j e
-any_default [] j d e lt = absurd (omega (arith, lt))
-any_default (x ∷ xs) zero d e lt = refl
-any_default (x ∷ xs) (suc j) d e lt = any_default xs j d e (omega arith)
-
-past_end : {X : Type 0} (xs : List X) (j : ℕ) (d : X) → length xs ≤ j → get_or xs j d ≡ d
-past_end [] j d le = refl
-past_end (x ∷ xs) zero d le = absurd (omega (arith, le))
-past_end (x ∷ xs) (suc j) d le = past_end xs j d (omega arith)
+any_default xs j d e lt = get_or_default xs j d e lt
 
 pub field_found : (c : Column) (j len : ℕ) (fields : Vec Column Global) (validity : Option Bits) (x : Column) → c ≡ Struct len fields validity →
     j < length fields.items → x ≡ get_or fields.items j x → x ≡ field j c
@@ -37,4 +28,4 @@ field_found c j len fields validity x is lt same =
 pub field_missing : (c : Column) (j len : ℕ) (fields : Vec Column Global) (validity : Option Bits) → c ≡ Struct len fields validity →
     length fields.items ≤ j → c ≡ field j c
 field_missing c j len fields validity is le =
-    sym (past_end fields.items j c le) ∙ ap (λ l. get_or l j c) (sym (fields_of-Struct len fields validity)) ∙ ap (λ y. get_or (fields_of y) j c) (sym is)
+    sym (get_or_past fields.items j c le) ∙ ap (λ l. get_or l j c) (sym (fields_of-Struct len fields validity)) ∙ ap (λ y. get_or (fields_of y) j c) (sym is)

@@ -1,34 +1,23 @@
 -- Runs whose rows exist, their number of rows, and columns of one type.
-use Rattle.std.proofs.Common.{◌≡◌, All, Bor, subst, ℕ, ◌<◌, ◌≤◌, ◌+◌, List, [], ◌∷◌, map, length, get_or, take, refl, sym, ap, ◌∙◌, arith, length-append, Option, Some, Bool, true, false, ◌↔◌, IsTrue, nat_le}
-use Rattle.std.proofs.lemmas.List.FromFn.{length-map-range_with_len, get_or-map-range_with_len}
-use Rattle.std.proofs.lemmas.List.Elements.{All-append}
-use Rattle.std.proofs.lemmas.List.{take_all, length-map, get_or-map}
-use Rattle.std.proofs.lemmas.Bool.{leb-true, le-leb}
+use Rattle.sel_gather.proofs.Common.{All-map, range_with_len, get_or-range_with_len, length-range_with_len, ◌≡◌, All, Bor, subst, ℕ, ◌<◌, ◌≤◌, ◌+◌, List, []}
+use Rattle.sel_gather.proofs.Common.{◌∷◌, map, length, get_or, take, refl, sym, ap, ◌∙◌, arith, Option, Some, Bool, true, false, ◌↔◌, nat_le, All-append}
+use Rattle.sel_gather.proofs.Common.{take_all, length-map, get_or-map, leb-true, le-leb, slice_get, rows, type_of, Column, Run, PickFits, expand, unrolled}
+use Rattle.sel_gather.proofs.Common.{picks_of, unrolled_from, first_type}
+use Rattle.std.proofs.Common.{IsTrue}
 use Rattle.std.proofs.lemmas.Option.{get_or_from_slice_get}
-use Rattle.std.specs.List.{slice_get}
-use Rattle.sel_arrow.specs.Rows.{rows, type_of}
-use Rattle.sel_arrow.specs.declared.column.Column.{Column}
-use Rattle.sel_gather.specs.declared.runs.Run.{Run}
-use Rattle.sel_gather.specs.Picks.{PickFits}
-use Rattle.sel_gather.specs.Runs.{expand, unrolled, picks_of, unrolled_from}
-use Rattle.sel_gather.specs.Sources.{first_type}
-use Rattle.sel_gather.proofs.RunLists.{run_at, expand_more, length-unrolled, all_at, run_there}
+use Rattle.sel_gather.proofs.RunLists.{length_more, run_at, expand_more, all_at, run_there}
 
 -- The number of rows after one more run.
 pub counted_more : (rs : List Run) (i count : ℕ) → i < length rs → count ≡ length (expand (take i rs)) → count + (run_at rs i).len ≡ length (expand (take (i + 1) rs))
-counted_more rs i count inside is =
-    let e = ap length (expand_more rs i inside) ∙ length-append (expand (take i rs)) (unrolled (run_at rs i)) in
-    omega (arith, e, is, length-unrolled (run_at rs i))
+counted_more rs i count inside is = omega (arith, length_more rs i inside, is)
 
 -- A property of the row references so far and of those of the next run.
 pub all_more : (P : Option (ℕ × ℕ) → Type 0) (rs : List Run) (i : ℕ) → i < length rs → All P (expand (take i rs)) → All P (unrolled (run_at rs i)) → All P (expand (take (i + 1) rs))
 all_more P rs i inside so_far next = subst (All P) (sym (expand_more rs i inside)) (All-append P (expand (take i rs)) (unrolled (run_at rs i)) so_far next)
 
 pub rows_fit : {A : Type 0} (xss : List (List A)) (s a n : ℕ) → a + n ≤ length (get_or xss s []) → All (PickFits xss) (picks_of s a n)
-rows_fit xss s a n inside k d below =
-    let small : k < n = let long = length-map-range_with_len (λ i. let p : Option (ℕ × ℕ) = Some (s, i) in p) a n in omega (arith, below, long) in
-    let there : a + k < length (get_or xss s []) = omega (arith, small, inside) in
-    subst (PickFits xss) (sym (get_or-map-range_with_len (λ i. Some (s, i)) a n k (a + k) d small refl)) there
+rows_fit xss s a n inside = All-map (PickFits xss) (λ i. Some (s, i)) (range_with_len a n)
+    (λ k d h. let small : k < n = omega (arith, h, length-range_with_len a n) in omega (arith, inside, small, get_or-range_with_len a n k d small))
 
 -- A run within the rows of its source fits.
 inside_fits : {A : Type 0} (xss : List (List A)) (r : Run) (s : ℕ) → r.source ≡ Some s → r.start + r.len ≤ length (get_or xss s []) → All (PickFits xss) (unrolled r)

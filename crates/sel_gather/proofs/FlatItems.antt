@@ -1,23 +1,8 @@
 -- The items of lists, gathered from the children of the sources.
-use Rattle.std.proofs.Common.{◌≡◌, ◌∙◌, ◌*◌, All, Bor, ℕ, List, Option, ap, sym, subst, length, map, true}
-use Rattle.std.specs.Prelude.{Result}
-use Rattle.sel_bits.specs.declared.faults.PolarsError.{PolarsError}
-use Rattle.sel_arrow.specs.Rows.{type_of, IsWellFormed}
-use Rattle.sel_arrow.specs.Shape.{Shape, of_fixed_size_list}
-use Rattle.sel_arrow.specs.Value.{Null}
-use Rattle.sel_arrow.specs.declared.column.Column.{Column}
-use Rattle.sel_gather.specs.Children.{child, is_listing, joined_items}
-use Rattle.sel_gather.specs.Gathers.{CollectsSome}
-use Rattle.sel_gather.specs.ItemPicks.{items_at}
-use Rattle.sel_gather.specs.Picks.{pick, PickFits}
-use Rattle.sel_gather.specs.Sources.{columns_of}
-use Rattle.sel_gather.proofs.Below.{mapped_now}
-use Rattle.sel_gather.proofs.ItemPicks.{items_fit, items_long, items_picked}
-use Rattle.sel_gather.proofs.ItemRuns.{rows_of}
-use Rattle.sel_gather.proofs.Layouts.{picked_blocks}
-use Rattle.sel_gather.proofs.Rebuilt.{blocks_length}
-use Rattle.sel_gather.proofs.RunLists.{length-pick}
-use Rattle.sel_gather.proofs.Walks.{children_recurse}
+use Rattle.sel_gather.proofs.Common.{◌≡◌, ◌∙◌, ◌*◌, All, Bor, ℕ, List, Option, ap, sym, subst, length, map, true, Result, PolarsError, type_of, IsWellFormed}
+use Rattle.sel_gather.proofs.Common.{Shape, of_fixed_size_list, Null, Column, child, is_listing, joined_items, CollectsSome, items_at, pick, PickFits, columns_of}
+use Rattle.sel_gather.proofs.{Below.mapped_now, ItemPicks.items_fit, ItemPicks.items_long, ItemPicks.items_picked, ItemRuns.rows_of, Layouts.picked_blocks}
+use Rattle.sel_gather.proofs.{Rebuilt.blocks_length, RunLists.length-pick, Walks.children_recurse}
 
 module _ (s : Shape) (cs : List (Bor Column)) (lists : All (λ c. is_listing (type_of c.now) ≡ true) cs) (alike : All (λ c. type_of (child c.now) ≡ s) cs) (formed : All (λ c. IsWellFormed c.now) cs)
     (w : ℕ) (ps qs : List (Option (ℕ × ℕ))) (again : qs ≡ ps) (fits : All (PickFits (rows_of cs)) ps) where

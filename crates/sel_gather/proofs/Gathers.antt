@@ -1,17 +1,13 @@
 -- Gathering rows one row reference at a time.
-use Rattle.std.proofs.Common.{◌≡◌, ℕ, ◌+◌, ◌*◌, ◌%◌, ◌^◌, ◌≤◌, ◌<◌, All, Bool, true, false, List, [], ◌∷◌, ◌++◌, length, take, drop, map, replicate, get_or, Option, Some, None, zero, suc, refl, ap, sym, subst, ◌∙◌, arith, append_assoc}
+use Rattle.sel_gather.proofs.Common.{All-map, ◌≡◌, ℕ, ◌+◌, ◌*◌, ◌%◌, ◌^◌, ◌≤◌, ◌<◌, All, Bool, true, false, List, [], ◌∷◌, ◌++◌, length, take, drop, map}
+use Rattle.sel_gather.proofs.Common.{replicate, get_or, Option, Some, None, zero, suc, refl, ap, sym, subst, ◌∙◌, arith, append_assoc, take-add, length-map}
+use Rattle.sel_gather.proofs.Common.{get_or-map, take_more, map_push, map-append, get_or-take, get_or-drop, drop-map, drop-drop, length-drop, All-get_or}
+use Rattle.sel_gather.proofs.Common.{All-head, All-tail, All-drop, Bits, bits, word_of, valid_at, found, pick, bit_found, bits_found, IsPicked}
 use Rattle.std.specs.Int.{from_bool}
-use Rattle.std.proofs.Math.Seq.{take-add}
-use Rattle.std.proofs.lemmas.List.{length-map, get_or-map, take_more, map_push, map-append, get_or-take, get_or-drop, drop-map, drop-drop, length-take, length-drop}
-use Rattle.std.proofs.lemmas.List.Elements.{All-get_or, All-head, All-tail, All-drop}
-use Rattle.sel_bits.specs.Bits.{Bits}
-use Rattle.sel_bits.specs.Words.{bits, word_of}
+use Rattle.std.proofs.lemmas.List.{length-take}
 use Rattle.sel_bits.proofs.Combining.{packed_more}
 use Rattle.sel_bits.proofs.Packed.{word_of-next, word_of-few}
 use Rattle.sel_bits.proofs.Padded.{word_of_lt}
-use Rattle.sel_arrow.specs.Masked.{valid_at}
-use Rattle.sel_gather.specs.Picks.{found, pick}
-use Rattle.sel_gather.specs.Plans.{bit_found, bits_found, IsPicked}
 
 -- One more row reference.
 pub pick_next : {A : Type 0} (d : A) (xss : List (List A)) (ps : List (Option (ℕ × ℕ))) (k : ℕ) → k < length ps →
@@ -35,14 +31,7 @@ all_there vs (Some p ∷ ps) h picked =
     (λ i. sym here i ∷ rest i)
 
 pub all_none : {S : Type 0} (f : S → Option Bits) (ss : List S) → All (λ s. f s ≡ None) ss → All (λ v. v ≡ None) (map f ss)
-all_none f ss h k d inside =
-    let below : k < length ss = omega (arith, inside, length-map ss f) in
-    at ss k h below
-  where
-    at : (l : List _) (k : ℕ) → All (λ s. f s ≡ None) l → k < length l → get_or (map f l) k d ≡ None
-    at [] k h below = absurd (omega (arith, below))
-    at (s ∷ l) zero h below = All-head (λ x. f x ≡ None) s l h
-    at (s ∷ l) (suc k) h below = at l k (All-tail (λ x. f x ≡ None) s l h) (omega (arith, below))
+all_none f ss h = All-map (λ v. v ≡ None) f ss h
 
 -- ---- an iterator over row references
 
@@ -127,6 +116,10 @@ left_all P ps left at e all = subst (All P) (sym e) (All-drop P at ps all)
 
 pub left_length : (ps left : List (Option (ℕ × ℕ))) (at : ℕ) → left ≡ drop at ps → at ≤ length ps → at + length left ≡ length ps
 left_length ps left at e h = omega (arith, h, ap length e, length-drop at ps)
+
+pub map-replicate : {A B : Type 0} (f : A → B) (n : ℕ) (x : A) → map f (replicate n x) ≡ replicate n (f x)
+map-replicate f zero x = refl
+map-replicate f (suc n) x = ap (λ l. f x ∷ l) (map-replicate f n x)
 
 pub none_left : {A : Type 0} (xs : List A) → length xs ≡ 0 → xs ≡ []
 none_left [] h = refl

@@ -1,12 +1,7 @@
 -- Rows under a validity, to which parts of other rows are appended.
-use Rattle.std.proofs.Common.{◌≡◌, ℕ, zero, suc, ◌+◌, ◌≤◌, ◌<◌, get_or, Bool, true, false, List, [], ◌∷◌, ◌++◌, length, take, drop, map, replicate, Option, Some, None, refl, ap, sym, ◌∙◌, arith, length-append}
-use Rattle.std.proofs.lemmas.List.{map-append, get_or-map, length-map, length-replicate}
-use Rattle.sel_bits.specs.Bits.{Bits}
-use Rattle.sel_arrow.specs.Value.{Value, Null}
-use Rattle.sel_arrow.specs.Masked.{hidden, masked, Covers}
-use Rattle.sel_arrow.proofs.Rows.{length-part, part-mapped}
-use Rattle.sel_gather.specs.Picks.{pick}
-use Rattle.sel_gather.specs.Validity.{part_bits, bits_for}
+use Rattle.sel_gather.proofs.Common.{found, ◌≡◌, ℕ, zero, suc, ◌+◌, ◌≤◌, ◌<◌, get_or, Bool, true, false, List, [], ◌∷◌, ◌++◌, length, take, drop, map}
+use Rattle.sel_gather.proofs.Common.{replicate, Option, Some, None, refl, ap, sym, ◌∙◌, arith, length-append, map-append, get_or-map, length-map}
+use Rattle.sel_gather.proofs.Common.{length-replicate, Bits, Value, Null, hidden, masked, Covers, length-part, part-mapped, pick, part_bits, bits_for}
 
 pub hidden-append : (bs cs : List Bool) (vs ws : List Value) → length bs ≡ length vs → hidden (bs ++ cs) (vs ++ ws) ≡ hidden bs vs ++ hidden cs ws
 hidden-append [] cs [] ws h = refl
@@ -75,3 +70,10 @@ counted f xs bits out n same is long = same ∙ sym (length-map xs f) ∙ sym (l
 pub from_none : {A : Type 0} (f : A → Value) (xs : List A) (bits : List Bool) (xss yss : List (List Value)) (ps : List (Option (ℕ × ℕ))) (out : List Value) → xs ≡ [] → bits ≡ [] → xss ≡ yss →
     out ≡ hidden bits (map f xs) ++ pick Null xss ps → out ≡ pick Null yss ps
 from_none f xs bits xss yss ps out e g h is = is ∙ rw (e, g, h) refl
+
+-- There are as many of them as row references.
+pub made_rows : {A : Type 0} (f : A → Value) (old xs : List A) (none bits : List Bool) (xss : List (List Value)) (ps : List (Option (ℕ × ℕ))) (n : ℕ) → length bits ≡ length xs → old ≡ [] → none ≡ [] → length ps ≡ n →
+    hidden bits (map f xs) ≡ hidden none (map f old) ++ pick Null xss ps → (hidden bits (map f xs) ≡ pick Null xss ps) × (length bits ≡ n)
+made_rows f old xs none bits xss ps n same e g long is =
+    let total = from_none f old none xss xss ps (hidden bits (map f xs)) e g refl is in
+    (total, counted f xs bits (pick Null xss ps) n same total (length-map ps (found Null xss) ∙ long))

@@ -1,13 +1,7 @@
 -- Rows gathered as values and validities.
-use Rattle.std.proofs.Common.{◌≡◌, ℕ, ◌<◌, All, Bool, true, false, List, [], ◌∷◌, length, map, get_or, Option, Some, None, zero, suc, refl, ap, sym, ◌∙◌, arith}
-use Rattle.std.specs.Prelude.{if◌then◌else◌}
-use Rattle.std.proofs.lemmas.List.Elements.{All-head, All-tail}
-use Rattle.sel_bits.specs.Bits.{Bits}
-use Rattle.sel_arrow.specs.Masked.{hidden, masked, Covers, valid_at}
-use Rattle.sel_arrow.specs.Value.{Value, Null, Truth}
-use Rattle.sel_arrow.proofs.Rows.{length-mapped, null_mapped, valid_mapped}
-use Rattle.sel_gather.specs.Picks.{pick, PickFits}
-use Rattle.sel_gather.specs.Plans.{HasBit, bits_found}
+use Rattle.sel_gather.proofs.Common.{◌≡◌, ℕ, ◌<◌, All, Bool, true, false, List, [], ◌∷◌, length, map, get_or, Option, Some, None, zero, suc, refl, ap, sym, ◌∙◌}
+use Rattle.sel_gather.proofs.Common.{arith, if◌then◌else◌, All-head, All-tail, Bits, hidden, masked, Covers, valid_at, Value, Null, Truth, length-mapped}
+use Rattle.sel_gather.proofs.Common.{null_mapped, valid_mapped, pick, PickFits, HasBit, bits_found}
 
 module _ {S A : Type 0} (values : S → List A) (valid : S → Option Bits) (covers : (s : S) → Covers (valid s) (length (values s))) (f : A → Value) (d : A) where
   abbrev pub rows_in : S → List Value

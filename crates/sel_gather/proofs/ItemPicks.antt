@@ -1,93 +1,18 @@
 -- Row references to the items of lists.
-use Rattle.std.proofs.Common.{◌≡◌, ◌≢◌, All, Bor, ℤ, pos, ℕ, zero, suc, ◌+◌, ◌-◌, ◌*◌, ◌^◌, ◌≤◌, ◌<◌, Bool, true, false, List, [], ◌∷◌, ◌++◌, length, take, drop, map, replicate, Option, Some, None, refl, ap, sym, subst, ◌∙◌, arith, get_or}
-use Rattle.std.specs.Prelude.{if◌then◌else◌}
-use Rattle.std.specs.List.{slice_range}
-use Rattle.std.proofs.lemmas.List.{append-nil, get_or-map, length-map, map-append, get_or-replicate}
-use Rattle.std.proofs.lemmas.List.FromFn.{get_or-map-range_with_len, length-map-range_with_len}
-use Rattle.std.proofs.lemmas.List.Elements.{All-append, All-head, All-nil, All-tail}
-use Rattle.sel_arrow.specs.Masked.{Covers, valid_at}
-use Rattle.sel_arrow.specs.Nested.{list_of, blocks}
-use Rattle.sel_arrow.specs.Nulls.{IsValidityOf}
-use Rattle.sel_arrow.specs.Pieces.{pieces, rows_between, last_offset}
-use Rattle.sel_arrow.specs.Rows.{rows, type_of, well_formed, IsWellFormed}
-use Rattle.sel_arrow.specs.Shape.{Shape, of_null}
-use Rattle.sel_arrow.specs.Value.{Value, Null, is_valid, validities}
-use Rattle.sel_arrow.specs.declared.column.Column.{Column}
-use Rattle.sel_arrow.specs.declared.column.Column.TheVariants.{LargeList', FixedSizeList'}
-use Rattle.sel_arrow.proofs.ByteRows.{length-pieces, get_or-pieces}
-use Rattle.sel_arrow.proofs.NestedRows.{HasLists, HasBlocks, has_lists, has_blocks, length-rows, length-blocks}
-use Rattle.sel_arrow.proofs.Rows.{null_mapped, valid_mapped}
-use Rattle.sel_gather.specs.Children.{child, is_listing, items_in, joined_items}
-use Rattle.sel_gather.specs.Ends.{item_ends}
-use Rattle.sel_gather.specs.ItemPicks.{part_of, part_picks, item_picks, items_at, IsRow}
-use Rattle.sel_gather.specs.Picks.{found, pick, PickFits}
-use Rattle.sel_gather.specs.Plans.{IsNear, IsPicked}
-use Rattle.sel_gather.specs.Runs.{picks_of, unrolled}
-use Rattle.sel_gather.specs.declared.runs.Run.{Run}
-use Rattle.sel_gather.proofs.Below.{child_formed}
-use Rattle.sel_gather.proofs.Fits.{rows_fit}
+use Rattle.sel_gather.proofs.Common.{range_with_len, All-map, ◌≡◌, ◌≢◌, All, Bor, ℤ, pos, ℕ, ◌+◌, ◌^◌, ◌≤◌, ◌<◌, true, List, [], ◌∷◌, ◌++◌, length, take, drop}
+use Rattle.sel_gather.proofs.Common.{map, Option, Some, None, refl, ap, sym, subst, ◌∙◌, arith, get_or, append-nil, get_or-map, length-map, map-append}
+use Rattle.sel_gather.proofs.Common.{get_or-replicate, get_or-map-range_with_len, All-append, All-head, All-nil, All-tail, IsValidityOf, rows, type_of}
+use Rattle.sel_gather.proofs.Common.{IsWellFormed, Shape, of_null, Value, Null, is_valid, Column, child, is_listing, items_in, joined_items, item_ends, part_of}
+use Rattle.sel_gather.proofs.Common.{part_picks, item_picks, items_at, IsRow, found, pick, PickFits, IsNear, IsPicked, picks_of, unrolled, Run, All-get_or, unrolled_from}
 use Rattle.sel_gather.proofs.Gathers.{next_all, next_below, next_is, pick_next}
 use Rattle.sel_gather.proofs.ItemRuns.{rows_of, below_of, listed_values, null_items, nulls_fit}
-use Rattle.sel_gather.proofs.ListParts.{few_rows}
-use Rattle.sel_gather.proofs.SplitRuns.{told_valid}
 use Rattle.sel_gather.proofs.RunLists.{below_length, length-pick, length-unrolled, none_unrolled, pick_rows}
-use Rattle.sel_gather.proofs.Walks.{counts_behind, ends_behind, joined_first}
-
--- ---- the items of one list
-
-abbrev pub IsPart : Column → ℕ → Option (ℕ × ℕ) → Type 0
-IsPart c i None = get_or (rows c) i Null ≡ Null
-IsPart c i (Some part) = (get_or (rows c) i Null ≡ list_of (take part.1 (drop part.0 (rows (child c))))) × (part.0 + part.1 ≤ length (rows (child c)))
-
-block_inside : (i n size : ℕ) → i < n → i * size + size ≤ n * size
-block_inside i zero size h = absurd (omega arith)
-block_inside zero (suc n) size h = omega arith
-block_inside (suc i) (suc n) size h = let rest = block_inside i n size (omega arith) in omega (arith, rest)
-
-pub part_is : (c : Column) (i : ℕ) → is_listing (type_of c) ≡ true → well_formed c ≡ true → i < length (rows c) → IsPart c i (part_of c i)
-part_is (LargeList' offsets p values validity) i is formed h = cases (valid_at validity i) refl
-  where
-    has : HasLists offsets values validity
-    has = has_lists offsets values validity formed
-
-    below : i < rows_between offsets
-    below = omega (arith, h, length-rows (LargeList' offsets p values validity))
-
-    covered : Covers validity (length (pieces offsets (rows values)))
-    covered = λ v there. rw length-pieces (has.covered v there)
-
-    cases : (b : Bool) → valid_at validity i ≡ b →
-        IsPart (LargeList' offsets p values validity) i (if b then Some (get_or offsets i 0, get_or offsets (i + 1) 0 - get_or offsets i 0) else None)
-    cases true e =
-        let found = valid_mapped list_of (pieces offsets (rows values)) validity i [] e (rw length-pieces below) covered in
-        let ends : get_or offsets (i + 1) 0 ≤ last_offset offsets = has.rising.rising (i + 1) (length offsets - 1) (omega (arith, below)) (omega (arith, below)) in
-        let ordered : get_or offsets i 0 ≤ get_or offsets (i + 1) 0 = has.rising.rising i (i + 1) (omega arith) (omega (arith, below)) in
-        (found ∙ ap list_of (get_or-pieces offsets (rows values) i below), omega (arith, ends, ordered, has.ends, length-rows values))
-    cases false e = null_mapped list_of (pieces offsets (rows values)) validity i e (rw length-pieces below) covered
-part_is (FixedSizeList' size len p values validity) i is formed h = cases (valid_at validity i) refl
-  where
-    has : HasBlocks size len values validity
-    has = has_blocks size len values validity formed
-
-    below : i < len
-    below = omega (arith, h, length-rows (FixedSizeList' size len p values validity))
-
-    covered : Covers validity (length (blocks size len (rows values)))
-    covered = λ v there. rw length-blocks (has.covered v there)
-
-    cases : (b : Bool) → valid_at validity i ≡ b → IsPart (FixedSizeList' size len p values validity) i (if b then Some (i * size, size) else None)
-    cases true e =
-        let found = valid_mapped list_of (blocks size len (rows values)) validity i [] e (rw length-blocks below) covered in
-        let at = get_or-map-range_with_len (λ k. slice_range (rows values) (k * size) (k * size + size)) 0 len i i [] below (omega arith) in
-        let width : (i * size + size) - i * size ≡ size = omega arith in
-        let part : get_or (blocks size len (rows values)) i [] ≡ take size (drop (i * size) (rows values)) = at ∙ ap (λ n. take n (drop (i * size) (rows values))) width in
-        (found ∙ ap list_of part, omega (arith, has.fills, length-rows values, block_inside i len size below))
-    cases false e = null_mapped list_of (blocks size len (rows values)) validity i e (rw length-blocks below) covered
-part_is c i is formed h = absurd (cc is)
+use Rattle.sel_gather.proofs.Walks.{told_row, counts_behind, ends_behind, joined_first}
+use Rattle.sel_gather.proofs.{ListParts.few_below, ListParts.IsPart, ListParts.part_is, EachRow.source_all, PlanRuns.first_of, Fits.rows_fit}
 
 -- ---- the items of the list that a row reference refers to
 
-abbrev HasItems : List (Bor Column) → ℕ → Value → List (Option (ℕ × ℕ)) → Type 0
+abbrev pub HasItems : List (Bor Column) → ℕ → Value → List (Option (ℕ × ℕ)) → Type 0
 HasItems cs w row ps = (pick Null (below_of cs) ps ≡ items_in w row) × All (PickFits (below_of cs)) ps
 
 module _ (x : Bor Column) (cs : List (Bor Column)) (w : ℕ) (p : ℕ × ℕ) (listing : All (λ c. is_listing (type_of c.now) ≡ true) (x ∷ cs)) (formed : All (λ c. IsWellFormed c.now) (x ∷ cs)) (fits : PickFits (rows_of (x ∷ cs)) (Some p)) where
@@ -155,12 +80,33 @@ module _ (cs : List (Bor Column)) (listing : All (λ c. is_listing (type_of c.no
   pub list_long : (p : Option (ℕ × ℕ)) → PickFits (rows_of cs) p → length (item_picks cs w p) ≡ length (items_in w (found Null (rows_of cs) p))
   list_long p fits = sym (length-pick Null (below_of cs) (item_picks cs w p)) ∙ ap length (has_items cs w p listing formed fits).0
 
+-- The items of row i of a run.
+module _ (cs : List (Bor Column)) (listing : All (λ c. is_listing (type_of c.now) ≡ true) cs) (formed : All (λ c. IsWellFormed c.now) cs) (r : Run) (i : ℕ) (below : i < r.len) (fits : All (PickFits (rows_of cs)) (unrolled r)) where
+  inside : i < length (unrolled r)
+  inside = omega (arith, below, length-unrolled r)
+
+  pick_at : get_or (unrolled r) i None ≡ first_of r.source (r.start + i)
+  pick_at = by r.source
+    where
+      by : (o : Option ℕ) → get_or (unrolled_from o r.start r.len) i None ≡ first_of o (r.start + i)
+      by None = get_or-replicate r.len i None None below
+      by (Some s) = get_or-map-range_with_len (λ i. Some (s, i)) r.start r.len i (r.start + i) None below refl
+
+  row_pick_fits : PickFits (rows_of cs) (first_of r.source (r.start + i))
+  row_pick_fits = subst (PickFits (rows_of cs)) pick_at (All-get_or (PickFits (rows_of cs)) (unrolled r) i None inside fits)
+
+  pub row_inside : (s : ℕ) → r.source ≡ Some s → r.start + i < length (get_or (rows_of cs) s [])
+  row_inside s is = subst (λ o. PickFits (rows_of cs) (first_of o (r.start + i))) is row_pick_fits
+
+  pub row_items : (w : ℕ) (list : Run) → unrolled list ≡ item_picks cs w (first_of r.source (r.start + i)) → HasItems cs w (get_or (pick Null (rows_of cs) (unrolled r)) i Null) (unrolled list)
+  row_items w list is =
+      let row = get_or-map (found Null (rows_of cs)) (unrolled r) i None Null inside ∙ ap (found Null (rows_of cs)) pick_at in
+      rw (is, row) (has_items cs w (first_of r.source (r.start + i)) listing formed row_pick_fits)
+
 near_child : (cs : List (Bor Column)) (s i : ℕ) → All (λ c. is_listing (type_of c.now) ≡ true) cs → All (λ c. IsWellFormed c.now) cs → i < length (get_or (below_of cs) s []) → i < 2 ^ 32
-near_child [] s i listing formed h = absurd (omega (arith, h))
-near_child (c ∷ cs) zero i listing formed h =
-    omega (arith, h, length-rows (child c.now), few_rows (child c.now) (child_formed c.now (listing 0 c (omega arith)) (formed 0 c (omega arith))))
-near_child (c ∷ cs) (suc s) i listing formed h =
-    near_child cs s i (λ k d below. listing (suc k) d (omega (arith, below))) (λ k d below. formed (suc k) d (omega (arith, below))) h
+near_child cs s i listing formed h =
+    source_all (λ vs. (i : ℕ) → i < length vs → i < 2 ^ 32) (λ i h. absurd (omega (arith, h))) (λ (c : Bor Column). rows (child c.now)) cs
+    (λ k d below i h. omega (arith, h, few_below (get_or cs k d).now (listing k d below) (formed k d below))) s i h
 
 -- The positions of items are less than 2^32.
 pub items_near : (cs : List (Bor Column)) → All (λ c. is_listing (type_of c.now) ≡ true) cs → All (λ c. IsWellFormed c.now) cs → (qs : List (Option (ℕ × ℕ))) → All (PickFits (below_of cs)) qs → All IsNear qs
@@ -169,9 +115,7 @@ items_near cs listing formed qs fits k d h p is = near_child cs p.0 p.1 listing 
 -- ---- no item is null
 
 picked_rows : (s a n : ℕ) → All IsPicked (picks_of s a n)
-picked_rows s a n k d below =
-    let small : k < n = let long = length-map-range_with_len (λ i. let p : Option (ℕ × ℕ) = Some (s, i) in p) a n in omega (arith, below, long) in
-    subst IsPicked (sym (get_or-map-range_with_len (λ i. Some (s, i)) a n k (a + k) d small refl)) tt
+picked_rows s a n = All-map IsPicked (λ i. Some (s, i)) (range_with_len a n) (λ k d h. tt)
 
 part_picked : (s : ℕ) (o : Option (ℕ × ℕ)) → All IsPicked (part_picks 0 s o)
 part_picked s None = All-nil IsPicked
@@ -217,12 +161,7 @@ not_null : (s : Shape) → is_listing s ≡ true → s ≢ of_null
 not_null s is none = absurd (cc (is, none))
 
 valid_row : (s : Shape) (vs : List Value) (i : ℕ) → s ≢ of_null → IsValidityOf s None vs → i < length vs → get_or vs i Null ≡ Null → ⊥
-valid_row s vs i other tells h null =
-    let bits : validities vs ≡ replicate (length vs) true = told_valid s None vs other tells refl in
-    let bit : is_valid (get_or vs i Null) ≡ true =
-    sym (get_or-map is_valid vs i Null false h) ∙ ap (λ l. get_or l i false) bits ∙ get_or-replicate (length vs) i true false h in
-    let no : is_valid (get_or vs i Null) ≡ false = ap is_valid null in
-    absurd (cc (bit, no))
+valid_row s vs i other tells h null = absurd (cc (told_row s None vs i other tells h, ap is_valid null))
 
 list_shown : (cs : List (Bor Column)) (w : ℕ) (p : Option (ℕ × ℕ)) → All (λ c. is_listing (type_of c.now) ≡ true) cs → All (λ c. IsWellFormed c.now) cs → All (λ c. IsValidityOf (type_of c.now) None (rows c.now)) cs →
     PickFits (rows_of cs) p → IsPicked p → All IsPicked (item_picks cs w p)

@@ -1,20 +1,10 @@
 -- Runs of the child rows of lists.
-use Rattle.std.proofs.Common.{◌≡◌, All, Bor, ℤ, pos, ℕ, zero, suc, ◌+◌, ◌≤◌, ◌<◌, List, [], ◌∷◌, ◌++◌, length, take, drop, map, replicate, Option, Some, None, refl, ap, sym, subst, ◌∙◌, arith, get_or, length-append, append_assoc}
-use Rattle.std.proofs.lemmas.List.{length-map, get_or-map, take_more, take_all, take-append-drop, map-append, append-nil}
-use Rattle.std.proofs.lemmas.List.Concat.{flat_map-append}
-use Rattle.std.proofs.lemmas.List.Elements.{All-append, All-get_or}
-use Rattle.sel_arrow.specs.Nested.{list_of}
-use Rattle.sel_arrow.specs.Rows.{rows}
-use Rattle.sel_arrow.specs.Value.{Value, Null, values_of, listed}
-use Rattle.sel_arrow.specs.declared.column.Column.{Column}
-use Rattle.sel_gather.specs.Children.{child, items_in, joined_items}
-use Rattle.sel_gather.specs.Ends.{item_ends}
-use Rattle.sel_gather.specs.Picks.{found, pick, PickFits}
-use Rattle.sel_gather.specs.Runs.{expand, unrolled, picks_of}
-use Rattle.sel_gather.specs.declared.runs.Run.{Run}
-use Rattle.sel_gather.proofs.Fits.{rows_fit}
-use Rattle.sel_gather.proofs.JoinedRows.{null_row, run_row, run_length}
-use Rattle.sel_gather.proofs.RunLists.{run_there, pick_rows, map_nulls, pick_more, run_at, expand-append, length-pick}
+use Rattle.sel_gather.proofs.Common.{All-replicate, ◌≡◌, All, Bor, ℤ, pos, ℕ, ◌+◌, ◌≤◌, ◌<◌, List, [], ◌∷◌, ◌++◌, length, take, drop, map, replicate, Option}
+use Rattle.sel_gather.proofs.Common.{Some, None, refl, ap, sym, subst, ◌∙◌, arith, get_or, length-append, append_assoc, length-map, take_more, take_all}
+use Rattle.sel_gather.proofs.Common.{take-append-drop, map-append, append-nil, flat_map-append, All-append, rows, Value, Null, values_of, listed, Column, child}
+use Rattle.sel_gather.proofs.Common.{items_in, joined_items, item_ends, found, pick, PickFits, expand, unrolled, Run}
+use Rattle.sel_gather.proofs.RunLists.{pick_split, run_there, map_nulls, pick_more, run_at, length-pick}
+use Rattle.sel_gather.proofs.{EndsBy.ends_by-append, EndsBy.list_ends, JoinedRows.run_length}
 
 -- The rows of each source, and those of its child.
 abbrev pub rows_of : List (Bor Column) → List (List Value)
@@ -29,70 +19,18 @@ listed_values (v ∷ vs) = ap (λ l. v ∷ l) (listed_values vs)
 
 -- ---- the source of a run
 
--- A run with a row is not empty.
-not_empty : (r : Run) (i : ℕ) → i < r.len → r.len ≡ 0 → ⊥
-not_empty r i h e = absurd (omega (arith, h, e))
-
 pub source_there : (cs : List (Bor Column)) (r : Run) (s i : ℕ) → r.source ≡ Some s → All (PickFits (rows_of cs)) (unrolled r) → i < r.len → s < length cs
 source_there cs r s i is fits h =
-    let there = run_there (rows_of cs) r s is (not_empty r i h) fits in
+    let there = run_there (rows_of cs) r s is (λ e. absurd (omega (arith, h, e))) fits in
     omega (arith, there.0, length-map cs (λ c. rows c.now))
 
-source_is : {B : Type 0} (f : Bor Column → List B) (cs : List (Bor Column)) (s : ℕ) (c : Bor Column) → s < length cs → c ≡ get_or cs s c → get_or (map f cs) s [] ≡ f c
-source_is f cs s c h is = get_or-map f cs s c [] h ∙ ap f (sym is)
+-- ---- the child rows of a null row
 
--- Row i of a run is within its source.
-pub row_there : (cs : List (Bor Column)) (r : Run) (s i : ℕ) (c : Bor Column) → r.source ≡ Some s → All (PickFits (rows_of cs)) (unrolled r) → i < r.len → c ≡ get_or cs s c → r.start + i < length (rows c.now)
-row_there cs r s i c is fits h same =
-    let there = run_there (rows_of cs) r s is (not_empty r i h) fits in
-    let at = source_is (λ x. rows x.now) cs s c (source_there cs r s i is fits h) same in
-    omega (arith, there.1, ap length at, h)
-
--- Row i of a run is that row of its source.
-row_is : (cs : List (Bor Column)) (r : Run) (s i : ℕ) (c : Bor Column) → r.source ≡ Some s → All (PickFits (rows_of cs)) (unrolled r) → i < r.len → c ≡ get_or cs s c →
-    get_or (pick Null (rows_of cs) (unrolled r)) i Null ≡ get_or (rows c.now) (r.start + i) Null
-row_is cs r s i c is fits h same =
-    let there = run_there (rows_of cs) r s is (not_empty r i h) fits in
-    let at = source_is (λ x. rows x.now) cs s c (source_there cs r s i is fits h) same in
-    run_row Null (rows_of cs) r s i is there.1 h ∙ ap (λ l. get_or l (r.start + i) Null) at
-
--- A property of each source is a property of the source of a run.
-pub source_all : (P : Bor Column → Type 0) (cs : List (Bor Column)) (r : Run) (s i : ℕ) (c : Bor Column) → All P cs → r.source ≡ Some s → All (PickFits (rows_of cs)) (unrolled r) → i < r.len → c ≡ get_or cs s c → P c
-source_all P cs r s i c all is fits h same = subst P (sym same) (All-get_or P cs s c (source_there cs r s i is fits h) all)
-
--- ---- the child rows of a row
-
-pub row_items : (cs : List (Bor Column)) (r : Run) (s i w start len : ℕ) (c : Bor Column) → r.source ≡ Some s → All (PickFits (rows_of cs)) (unrolled r) → i < r.len → c ≡ get_or cs s c →
-    get_or (rows c.now) (r.start + i) Null ≡ list_of (take len (drop start (rows (child c.now)))) → start + len ≤ length (rows (child c.now)) →
-    pick Null (below_of cs) (picks_of s start len) ≡ items_in w (get_or (pick Null (rows_of cs) (unrolled r)) i Null)
-row_items cs r s i w start len c is fits h same row inside =
-    let at = source_is (λ x. rows (child x.now)) cs s c (source_there cs r s i is fits h) same in
-    let room : start + len ≤ length (get_or (below_of cs) s []) = omega (arith, inside, ap length at) in
-    let part = take len (drop start (rows (child c.now))) in
-    pick_rows Null (below_of cs) s start len room ∙ ap (λ l. take len (drop start l)) at ∙ sym (listed_values part)
-    ∙ ap (items_in w) (sym (row_is cs r s i c is fits h same ∙ row))
-
-pub items_fit : (cs : List (Bor Column)) (r : Run) (s i start len : ℕ) (c : Bor Column) → r.source ≡ Some s → All (PickFits (rows_of cs)) (unrolled r) → i < r.len → c ≡ get_or cs s c →
-    start + len ≤ length (rows (child c.now)) → All (PickFits (below_of cs)) (picks_of s start len)
-items_fit cs r s i start len c is fits h same inside =
-    let at = source_is (λ x. rows (child x.now)) cs s c (source_there cs r s i is fits h) same in
-    rows_fit (below_of cs) s start len (omega (arith, inside, ap length at))
-
--- Nulls, if the row is null.
 pub null_items : {A : Type 0} (d : A) (yss : List (List Value)) (w : ℕ) (row : Value) → row ≡ Null → pick Null yss (replicate w None) ≡ items_in w row
 null_items d yss w row is = map_nulls Null yss w ∙ ap (items_in w) (sym is)
 
 pub nulls_fit : (yss : List (List Value)) (w : ℕ) → All (PickFits yss) (replicate w None)
-nulls_fit yss zero k d h = absurd (omega (arith, h))
-nulls_fit yss (suc w) zero d h = tt
-nulls_fit yss (suc w) (suc k) d h = nulls_fit yss w k d (omega (arith, h))
-
-pub run_null : (cs : List (Bor Column)) (r : Run) (i : ℕ) → r.source ≡ None → get_or (pick Null (rows_of cs) (unrolled r)) i Null ≡ Null
-run_null cs r i is = null_row Null (rows_of cs) r i is
-
-pub row_null : (cs : List (Bor Column)) (r : Run) (s i : ℕ) (c : Bor Column) → r.source ≡ Some s → All (PickFits (rows_of cs)) (unrolled r) → i < r.len → c ≡ get_or cs s c →
-    get_or (rows c.now) (r.start + i) Null ≡ Null → get_or (pick Null (rows_of cs) (unrolled r)) i Null ≡ Null
-row_null cs r s i c is fits h same row = row_is cs r s i c is fits h same ∙ row
+nulls_fit yss w = All-replicate (PickFits yss) w None tt
 
 -- ---- the child rows of concatenated rows
 
@@ -107,10 +45,13 @@ pub joined_more : (w : ℕ) (rows : List Value) (i : ℕ) → i < length rows �
 joined_more w rows i h =
     ap (joined_items w) (take_more rows i Null h) ∙ joined-append w (take i rows) (get_or rows i Null ∷ []) ∙ ap (λ l. joined_items w (take i rows) ++ l) (joined-one w (get_or rows i Null))
 
+-- A prefix of the rows has at most as many child rows as all rows.
+pub joined_prefix : (w : ℕ) (a b : List Value) → length (joined_items w a) ≤ length (joined_items w (a ++ b))
+joined_prefix w a b = omega (arith, ap length (joined-append w a b), length-append (joined_items w a) (joined_items w b))
+
 pub joined_part : (w : ℕ) (rows : List Value) (i : ℕ) → length (joined_items w (take i rows)) ≤ length (joined_items w rows)
 joined_part w rows i =
-    let whole = ap (λ l. length (joined_items w l)) (sym (take-append-drop i rows)) ∙ ap length (joined-append w (take i rows) (drop i rows)) ∙ length-append (joined_items w (take i rows)) (joined_items w (drop i rows)) in
-    omega (arith, whole)
+    subst (λ l. length (joined_items w (take i rows)) ≤ length (joined_items w l)) (take-append-drop i rows) (joined_prefix w (take i rows) (drop i rows))
 
 -- One more run.
 pub joined_run : (w : ℕ) (xss : List (List Value)) (rs : List Run) (i : ℕ) → i < length rs →
@@ -119,11 +60,8 @@ joined_run w xss rs i h = ap (joined_items w) (pick_more Null xss rs i h) ∙ jo
 
 pub joined_runs : (w : ℕ) (xss : List (List Value)) (rs : List Run) (i : ℕ) → length (joined_items w (pick Null xss (expand (take i rs)))) ≤ length (joined_items w (pick Null xss (expand rs)))
 joined_runs w xss rs i =
-    let split = ap expand (sym (take-append-drop i rs)) ∙ expand-append (take i rs) (drop i rs) in
-    let picked = ap (pick Null xss) split ∙ map-append (found Null xss) (expand (take i rs)) (expand (drop i rs)) in
-    let whole = ap (λ l. length (joined_items w l)) picked ∙ ap length (joined-append w (pick Null xss (expand (take i rs))) (pick Null xss (expand (drop i rs))))
-    ∙ length-append (joined_items w (pick Null xss (expand (take i rs)))) (joined_items w (pick Null xss (expand (drop i rs)))) in
-    omega (arith, whole)
+    let before = pick Null xss (expand (take i rs)) in
+    subst (λ l. length (joined_items w before) ≤ length (joined_items w l)) (sym (pick_split Null xss rs i)) (joined_prefix w before (pick Null xss (expand (drop i rs))))
 
 -- A run of the child rows of a list has their number as its length.
 pub run_counts : (yss : List (List Value)) (r : Run) (items : List Value) → pick Null yss (unrolled r) ≡ items → r.len ≡ length items
@@ -195,13 +133,7 @@ all_runs f rs i h = ap (λ l. f (expand l)) (take_all i rs h)
 -- ---- the ends of lists
 
 pub ends-append : (start : ℕ) (a b : List Value) → item_ends start (a ++ b) ≡ item_ends start a ++ item_ends (start + length (joined_items 0 a)) b
-ends-append start [] b =
-    let same : start + 0 ≡ start = omega arith in
-    rw same refl
-ends-append start (row ∷ a) b =
-    let size = length-append (items_in 0 row) (joined_items 0 a) in
-    let same : start + length (joined_items 0 (row ∷ a)) ≡ (start + length (items_in 0 row)) + length (joined_items 0 a) = omega (arith, size) in
-    rw same (ap (λ l. (start + length (items_in 0 row)) ∷ l) (ends-append (start + length (items_in 0 row)) a b))
+ends-append start a b = rw (list_ends, list_ends, list_ends) (ends_by-append (items_in 0) start a b)
 
 -- The end of one more row.
 pub ends_more : (xss : List (List Value)) (r : Run) (i start end : ℕ) (old so_far new : List ℤ) (last : ℤ) → i < r.len →

@@ -1,11 +1,9 @@
 -- The rows of a run that bits keep, copied in blocks of equal bits.
-use Rattle.std.proofs.Common.{◌≡◌, ℕ, zero, suc, ◌+◌, ◌-◌, ◌≤◌, ◌<◌, Bool, true, false, not, List, [], ◌∷◌, ◌++◌, length, drop, map, replicate, Option, Some, None, refl, ap, sym, subst, ◌∙◌, arith, get_or, length-append, append_assoc}
-use Rattle.std.specs.Prelude.{if◌then◌else◌}
-use Rattle.std.proofs.lemmas.List.{length-drop, length-map, get_or-drop, map-append}
-use Rattle.sel_bits.specs.Bits.{leading_ones, leading_zeros}
+use Rattle.sel_gather.proofs.Common.{◌≡◌, ℕ, zero, suc, ◌+◌, ◌-◌, ◌≤◌, ◌<◌, Bool, true, false, List, [], ◌∷◌, ◌++◌, length, drop, map, replicate, Option, Some}
+use Rattle.sel_gather.proofs.Common.{None, refl, ap, sym, subst, ◌∙◌, arith, get_or, length-append, append_assoc, if◌then◌else◌, length-drop, length-map}
+use Rattle.sel_gather.proofs.Common.{get_or-drop, map-append, leading_ones, leading_zeros, kept_by, picks_of, unrolled_from}
+use Rattle.std.proofs.Common.{not}
 use Rattle.sel_bits.proofs.Zeros.{leading_le}
-use Rattle.sel_gather.specs.KeptPicks.{kept_by}
-use Rattle.sel_gather.specs.Runs.{picks_of, unrolled_from}
 use Rattle.sel_gather.proofs.RunLists.{unrolled_from-append, length-unrolled_from}
 
 -- ---- equal entries at the front of a list
@@ -57,7 +55,7 @@ module _ (bits : List Bool) where
       let rest = none_kept (Some s) (a + 1) n (λ i h. let next : a + 1 + i ≡ a + suc i = omega arith in ap (λ k. get_or bits k false) next ∙ low (suc i) (omega arith)) in
       ap (λ (b : Bool). (let p : Option (ℕ × ℕ) = if b then Some (s, a) else None in p) ∷ map (kept_by bits) (picks_of s (a + 1) n)) here ∙ ap (λ (l : List (Option (ℕ × ℕ))). None ∷ l) rest
 
-  all_kept : (o : Option ℕ) (a n : ℕ) → ((i : ℕ) → i < n → get_or bits (a + i) false ≡ true) → map (kept_by bits) (unrolled_from o a n) ≡ unrolled_from o a n
+  pub all_kept : (o : Option ℕ) (a n : ℕ) → ((i : ℕ) → i < n → get_or bits (a + i) false ≡ true) → map (kept_by bits) (unrolled_from o a n) ≡ unrolled_from o a n
   all_kept None a zero high = refl
   all_kept None a (suc n) high = ap (λ (l : List (Option (ℕ × ℕ))). None ∷ l) (all_kept None a n (λ i h. high i (omega arith)))
   all_kept (Some s) a zero high = refl

@@ -1,6 +1,9 @@
 pub mod Below
 pub mod Collected
+pub mod Common
 pub mod Depths
+pub mod EachRow
+pub mod EndsBy
 pub mod FieldsOf
 pub mod Fits
 pub mod FlatItems
@@ -9,12 +12,12 @@ pub mod Grown
 pub mod Hiding
 pub mod ItemPicks
 pub mod ItemRuns
+pub mod ItemSpans
 pub mod JoinedRows
 pub mod KeptBlocks
 pub mod Layouts
 pub mod ListParts
 pub mod NullItems
-pub mod NullPicks
 pub mod OneSource
 pub mod PlanRuns
 pub mod PlanTests

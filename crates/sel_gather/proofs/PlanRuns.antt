@@ -1,23 +1,9 @@
 -- The row references of runs, one by one and as an iterator, and the bits at them.
-use Rattle.std.proofs.Common.{◌≡◌, All, Bor, ℕ, zero, suc, ◌+◌, ◌-◌, ◌%◌, ◌^◌, ◌<◌, ◌≤◌, false, List, [], ◌∷◌, ◌++◌, length, take, replicate, get_or, Option, Some, None, refl, ap, sym, subst, ◌∙◌, arith}
-use Rattle.std.specs.Option.{ForSome}
-use Rattle.std.proofs.lemmas.List.{drop_more}
-use Rattle.std.proofs.lemmas.List.Elements.{All-get_or}
-use Rattle.std.proofs.lemmas.List.FromFn.{length-map-range_with_len, get_or-map-range_with_len}
-use Rattle.sel_bits.specs.Bits.{Bits}
-use Rattle.sel_arrow.specs.Masked.{valid_at}
-use Rattle.sel_arrow.specs.Rows.{IsWellFormed}
-use Rattle.sel_arrow.specs.declared.column.Column.{Column}
-use Rattle.sel_arrow.proofs.NestedRows.{length-rows}
-use Rattle.sel_gather.specs.Gathers.{MayGather}
-use Rattle.sel_gather.specs.Picks.{PickFits}
-use Rattle.sel_gather.specs.Plans.{HasBit, IsNear, bits_found}
-use Rattle.sel_gather.specs.Runs.{unrolled, unrolled_from, picks_of}
-use Rattle.sel_gather.specs.Validity.{part_bits}
-use Rattle.sel_gather.specs.declared.runs.Run.{Run}
-use Rattle.sel_gather.proofs.ItemRuns.{rows_of}
-use Rattle.sel_gather.proofs.ListParts.{few_rows}
-use Rattle.sel_gather.proofs.RunLists.{All-left}
+use Rattle.sel_gather.proofs.Common.{bit_found, rows, ◌≡◌, All, Bor, ℕ, zero, suc, ◌+◌, ◌-◌, ◌%◌, ◌^◌, ◌<◌, ◌≤◌, false, List, [], ◌∷◌, length, take, replicate}
+use Rattle.sel_gather.proofs.Common.{get_or, Option, Some, None, refl, ap, sym, subst, ◌∙◌, arith, ForSome, drop_more, All-get_or, length-map-range_with_len}
+use Rattle.sel_gather.proofs.Common.{get_or-map-range_with_len, Bits, valid_at, IsWellFormed, Column, length-rows, MayGather, PickFits, HasBit, IsNear}
+use Rattle.sel_gather.proofs.Common.{bits_found, unrolled, unrolled_from, picks_of, part_bits, Run}
+use Rattle.sel_gather.proofs.{Gathers.map-replicate, EachRow.source_all, ItemRuns.rows_of, ListParts.few_rows}
 
 first_pick : (s a b n : ℕ) → All IsNear (picks_of s a (suc n)) → b ≡ (a + 1) % 2 ^ 32 → picks_of s a (suc n) ≡ Some (s, a) ∷ picks_of s b n
 first_pick s a b zero near e = refl
@@ -31,17 +17,18 @@ first_of None a = None
 first_of (Some s) a = Some (s, a)
 
 -- The first row reference of a run, and those after it.
-pub next_pick : (o : Option ℕ) (a n : ℕ) (rest : List (Option (ℕ × ℕ))) → 0 < n → All IsNear (unrolled_from o a n ++ rest) → unrolled_from o a n ≡ first_of o a ∷ unrolled_from o ((a + 1) % 2 ^ 32) (n - 1)
-next_pick o a zero rest some near = absurd (omega (arith, some))
-next_pick None a (suc n) rest some near = let less : n ≡ suc n - 1 = omega arith in ap (λ m. None ∷ replicate m None) less
-next_pick (Some s) a (suc n) rest some near =
+pub next_pick : (o : Option ℕ) (a n : ℕ) → 0 < n → All IsNear (unrolled_from o a n) → unrolled_from o a n ≡ first_of o a ∷ unrolled_from o ((a + 1) % 2 ^ 32) (n - 1)
+next_pick o a zero some near = absurd (omega (arith, some))
+next_pick None a (suc n) some near = let less : n ≡ suc n - 1 = omega arith in ap (λ m. None ∷ replicate m None) less
+next_pick (Some s) a (suc n) some near =
     let less : n ≡ suc n - 1 = omega arith in
-    first_pick s a ((a + 1) % 2 ^ 32) n (All-left IsNear (picks_of s a (suc n)) rest near) refl ∙ ap (λ m. Some (s, a) ∷ picks_of s ((a + 1) % 2 ^ 32) m) less
+    first_pick s a ((a + 1) % 2 ^ 32) n near refl ∙ ap (λ m. Some (s, a) ∷ picks_of s ((a + 1) % 2 ^ 32) m) less
 
-near_at : (cs : List (Bor Column)) (s i : ℕ) → All (λ c. IsWellFormed c.now) cs → i < length (get_or (rows_of cs) s []) → i < 2 ^ 32
-near_at [] s i formed h = absurd (omega (arith, h))
-near_at (c ∷ cs) zero i formed h = omega (arith, h, length-rows c.now, few_rows c.now (formed 0 c (omega arith)))
-near_at (c ∷ cs) (suc s) i formed h = near_at cs s i (λ k d below. formed (suc k) d (omega (arith, below))) h
+-- The positions of rows are less than 2^32.
+pub near_at : (cs : List (Bor Column)) (s i : ℕ) → All (λ c. IsWellFormed c.now) cs → i < length (get_or (rows_of cs) s []) → i < 2 ^ 32
+near_at cs s i formed h =
+    source_all (λ vs. (i : ℕ) → i < length vs → i < 2 ^ 32) (λ i h. absurd (omega (arith, h))) (λ (c : Bor Column). rows c.now) cs
+    (λ k d below i h. omega (arith, h, length-rows (get_or cs k d).now, few_rows (get_or cs k d).now (formed k d below))) s i h
 
 -- Row references to rows of well-formed columns.
 pub near_may : (cs : List (Bor Column)) (ps : List (Option (ℕ × ℕ))) (n : ℕ) → MayGather cs ps n → All IsNear ps
@@ -69,11 +56,7 @@ bits_run vs s (Some b) is a (suc n) fits =
     ap (take (suc n)) (drop_more b.bits a false (omega (arith, inside))) ∙ (λ i. valid_at (sym is i) a ∷ next i)
 
 pub null_found : (vs : List (Option Bits)) (r : Run) → r.source ≡ None → replicate r.len false ≡ bits_found vs (unrolled r)
-null_found vs r is = rw is (each r.len)
-  where
-    each : (n : ℕ) → replicate n false ≡ bits_found vs (replicate n None)
-    each zero = refl
-    each (suc n) = ap (λ l. false ∷ l) (each n)
+null_found vs r is = rw is (sym (map-replicate (bit_found vs) r.len None))
 
 -- The bits of a run with a source.
 module _ (vs : List (Option Bits)) (r : Run) (s : ℕ) (is : r.source ≡ Some s) (some : 0 < r.len) (fits : All (HasBit vs) (unrolled r)) where

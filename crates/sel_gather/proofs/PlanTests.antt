@@ -1,6 +1,5 @@
 -- Tests of each row reference of a plan, over plain variables.
-use Rattle.std.proofs.Common.{◌≡◌, ℕ, suc, All, List, ◌∷◌, length, Option, ap, sym, subst, arith}
-use Rattle.std.proofs.lemmas.List.Elements.{All-cons, All-head, All-nil, All-tail}
+use Rattle.sel_gather.proofs.Common.{◌≡◌, ℕ, suc, All, List, ◌∷◌, length, Option, ap, sym, subst, arith, All-cons, All-head, All-nil, All-tail}
 use Rattle.sel_gather.proofs.Gathers.{none_left}
 
 -- The last `left` of the row references `ps` are `rest`, and those before them satisfy `P`.

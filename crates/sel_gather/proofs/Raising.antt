@@ -1,23 +1,14 @@
 -- Views into the data buffers of several columns, concatenated in order.
-use Rattle.std.proofs.Common.{◌≡◌, ℕ, zero, suc, ◌+◌, ◌≤◌, ◌<◌, get_or, Bool, true, false, ◌&&◌, List, [], ◌∷◌, ◌++◌, length, take, drop, map, replicate, Option, refl, ap, sym, ◌∙◌, arith, length-append, append_assoc, zero-add, subst}
-use Rattle.std.specs.Prelude.{leb, ltb, ◌==◌}
-use Rattle.std.specs.List.{flat_map, list_all, range_with_len, slice_range}
-use Rattle.std.proofs.lemmas.Bool.{ltb-true, lt-ltb, lt-leb}
+use Rattle.sel_gather.proofs.Common.{◌≡◌, ℕ, zero, suc, ◌+◌, ◌≤◌, ◌<◌, get_or, Bool, true, false, ◌&&◌, List, [], ◌∷◌, ◌++◌, length, take, drop, map, replicate}
+use Rattle.sel_gather.proofs.Common.{Option, refl, ap, sym, ◌∙◌, arith, length-append, append_assoc, zero-add, subst, leb, ltb, flat_map, list_all}
+use Rattle.sel_gather.proofs.Common.{range_with_len, slice_range, ltb-true, lt-ltb, lt-leb, append-nil, length-map, length-replicate, map-append, take_more}
+use Rattle.sel_gather.proofs.Common.{get_or-flat_map, get_or-map-range_with_len, length-map-range_with_len, map-range_with_len_more, Bits, hidden, masked}
+use Rattle.sel_gather.proofs.Common.{Covers, Bytes, is_inline, is_placed, view_value, word_at, both, and_first, and_second, all_part, raised, starts_of, part_bits}
+use Rattle.std.specs.Prelude.{◌==◌}
 use Rattle.std.proofs.lemmas.Grind.{flat_map-append}
-use Rattle.std.proofs.lemmas.List.{append-nil, length-map, length-replicate, map-append, take_more}
-use Rattle.std.proofs.lemmas.List.Concat.{get_or-flat_map}
 use Rattle.std.proofs.lemmas.List.Folds.{length-flat_map-take, list_all-append}
-use Rattle.std.proofs.lemmas.List.FromFn.{get_or-map-range_with_len, length-map-range_with_len, map-range_with_len_more}
-use Rattle.sel_bits.specs.Bits.{Bits}
-use Rattle.sel_arrow.specs.Masked.{hidden, masked, Covers}
-use Rattle.sel_arrow.specs.Value.{Bytes}
-use Rattle.sel_arrow.specs.Views.{is_inline, is_placed, view_value, word_at}
 use Rattle.sel_arrow.specs.declared.view.View.{View}
-use Rattle.sel_arrow.proofs.Lists.{both, and_first, and_second, all_part}
-use Rattle.sel_gather.specs.Raised.{raised, starts_of}
-use Rattle.sel_gather.specs.Validity.{part_bits}
-use Rattle.sel_gather.proofs.Grown.{grown_lengths, hidden-append, part_hidden}
-use Rattle.sel_gather.proofs.Windows.{window_more}
+use Rattle.sel_gather.proofs.{Grown.grown_lengths, Grown.hidden-append, Grown.part_hidden, Windows.window_more}
 
 -- ---- concatenated parts
 

@@ -1,27 +1,15 @@
 -- Columns with children that are built from their rows.
-use Rattle.std.proofs.Common.{◌≡◌, ℕ, zero, suc, ◌+◌, ◌-◌, ◌*◌, ◌≤◌, ◌<◌, true, false, Bool, List, [], ◌∷◌, ◌++◌, length, take, drop, map, Option, Some, None, refl, ap, sym, subst, ◌∙◌, arith, get_or, length-append, append_assoc}
-use Rattle.std.specs.Prelude.{if◌then◌else◌}
-use Rattle.std.specs.List.{slice_range, range_with_len}
-use Rattle.std.proofs.lemmas.List.{length-map, get_or-map, length-replicate, ext_get_or}
-use Rattle.std.proofs.lemmas.List.FromFn.{length-map-range_with_len, get_or-map-range_with_len}
-use Rattle.std.proofs.lemmas.Grind.{common_steps}
-use Rattle.sel_bits.specs.Limits.{max_rows}
-use Rattle.sel_bits.specs.Bits.{Bits}
-use Rattle.sel_bits.specs.Offsets.{IsRising}
-use Rattle.sel_arrow.specs.Masked.{hidden, Covers}
-use Rattle.sel_arrow.specs.Nested.{list_of, list_rows, blocks, block_rows, struct_at, struct_rows}
-use Rattle.sel_arrow.specs.Pieces.{pieces, pieces_after, rows_between, last_offset}
-use Rattle.sel_arrow.specs.Rows.{rows, row_count, well_formed}
-use Rattle.sel_arrow.specs.Value.{Value, Values, no_values, next_value, Null, Items, Tuple, values_of, listed, is_valid, validities}
-use Rattle.sel_arrow.specs.declared.column.Column.{Column}
-use Rattle.sel_arrow.proofs.ByteRows.{length-pieces}
-use Rattle.sel_arrow.proofs.NestedRows.{HasLists, HasBlocks, length-rows, length-blocks}
-use Rattle.sel_gather.specs.Children.{items_in, joined_items, part_at}
-use Rattle.sel_gather.specs.Steps.{parts_of}
-use Rattle.sel_gather.specs.Ends.{item_ends}
-use Rattle.sel_gather.specs.Picks.{pick}
-use Rattle.sel_gather.specs.Validity.{bits_for}
+use Rattle.sel_gather.proofs.Common.{fill_by_all, length-range_with_len, ◌≡◌, ℕ, zero, suc, ◌+◌, ◌-◌, ◌*◌, ◌≤◌, ◌<◌, true, false, Bool, List, [], ◌∷◌, ◌++◌}
+use Rattle.sel_gather.proofs.Common.{length, take, drop, map, Option, refl, ap, sym, subst, ◌∙◌, arith, get_or, length-append, if◌then◌else◌, slice_range}
+use Rattle.sel_gather.proofs.Common.{range_with_len, length-map, get_or-map, length-replicate, ext_get_or, length-map-range_with_len, get_or-map-range_with_len}
+use Rattle.sel_gather.proofs.Common.{common_steps, max_rows, Bits, IsRising, hidden, Covers, list_of, list_rows, blocks, block_rows, struct_at, struct_rows}
+use Rattle.sel_gather.proofs.Common.{pieces, pieces_after, rows_between, last_offset, rows, row_count, well_formed, Value, Values, no_values, next_value, Null}
+use Rattle.sel_gather.proofs.Common.{Items, Tuple, values_of, listed, is_valid, validities, Column, length-pieces, HasLists, HasBlocks, length-rows}
+use Rattle.sel_gather.proofs.Common.{length-blocks, items_in, joined_items, part_at, parts_of, item_ends, bits_for}
+use Rattle.std.proofs.lemmas.Simd.{map-map}
+use Rattle.sel_gather.proofs.EndsBy.{ends_by_between, ends_by_last, ends_by_rise, list_ends, pieces_by}
 use Rattle.sel_gather.proofs.Grown.{finished}
+pub use Rattle.sel_gather.proofs.EachRow.{picked_all}
 
 -- ---- rows of one layout
 
@@ -47,13 +35,6 @@ pub values_listed : (vs : Values) → values_of (listed vs) ≡ vs
 values_listed no_values = refl
 values_listed (next_value v vs) = ap (next_value v) (values_listed vs)
 
--- A property of null and of each row of each list is a property of the gathered rows.
-pub picked_all : (P : Value → Type 0) → P Null → (xss : List (List Value)) → ((i k : ℕ) → P (get_or (get_or xss i []) k Null)) → (ps : List (Option (ℕ × ℕ))) (k : ℕ) → P (get_or (pick Null xss ps) k Null)
-picked_all P none xss all [] k = none
-picked_all P none xss all (None ∷ ps) zero = none
-picked_all P none xss all (Some p ∷ ps) zero = all p.0 p.1
-picked_all P none xss all (p ∷ ps) (suc k) = picked_all P none xss all ps k
-
 -- Values that are rebuilt from the rows, under the validity of the rows, are the rows.
 hidden_again : {A : Type 0} (P : Value → Type 0) (f : A → Value) (h : Value → A) → ((v : Value) → P v → is_valid v ≡ true → f (h v) ≡ v) → ((v : Value) → is_valid v ≡ false → v ≡ Null) →
     (vs : List Value) → ((k : ℕ) → P (get_or vs k Null)) → hidden (validities vs) (map f (map h vs)) ≡ vs
@@ -76,49 +57,14 @@ only_null v = elim v as (λ w. is_valid w ≡ false → w ≡ Null) [
 
 -- ---- lists with offsets
 
-length-item_ends : (start : ℕ) (vs : List Value) → length (item_ends start vs) ≡ length vs
-length-item_ends start [] = refl
-length-item_ends start (v ∷ vs) = ap suc (length-item_ends (start + length (items_in 0 v)) vs)
-
-above_start : (start : ℕ) (vs : List Value) (k : ℕ) → k < length (start ∷ item_ends start vs) → start ≤ get_or (start ∷ item_ends start vs) k 0
-above_start start vs zero h = omega arith
-above_start start [] (suc k) h = absurd (omega arith)
-above_start start (v ∷ vs) (suc k) h =
-    let later = above_start (start + length (items_in 0 v)) vs k (omega arith) in
-    omega (arith, later)
-
-ends_climb : (start : ℕ) (vs : List Value) (j k : ℕ) → j ≤ k → k < length (start ∷ item_ends start vs) → get_or (start ∷ item_ends start vs) j 0 ≤ get_or (start ∷ item_ends start vs) k 0
-ends_climb start vs zero k le h = above_start start vs k h
-ends_climb start vs (suc j) zero le h = absurd (omega arith)
-ends_climb start [] (suc j) (suc k) le h = absurd (omega arith)
-ends_climb start (v ∷ vs) (suc j) (suc k) le h = ends_climb (start + length (items_in 0 v)) vs j k (omega arith) (omega arith)
-
 pub rising_ends : (vs : List Value) → IsRising (0 ∷ item_ends 0 vs)
-rising_ends vs = record { some = omega arith; rising = ends_climb 0 vs }
-
-last_end : (start : ℕ) (vs : List Value) → get_or (start ∷ item_ends start vs) (length vs) 0 ≡ start + length (joined_items 0 vs)
-last_end start [] = omega arith
-last_end start (v ∷ vs) = omega (arith, last_end (start + length (items_in 0 v)) vs, length-append (items_in 0 v) (joined_items 0 vs))
+rising_ends vs = rw list_ends (ends_by_rise (items_in 0) vs)
 
 pub ends_between : (vs : List Value) → rows_between (0 ∷ item_ends 0 vs) ≡ length vs
-ends_between vs = omega (arith, length-item_ends 0 vs)
+ends_between vs = ap (λ l. rows_between (0 ∷ l)) (list_ends 0 vs) ∙ ends_by_between (items_in 0) vs
 
 pub ends_last : (vs : List Value) → last_offset (0 ∷ item_ends 0 vs) ≡ length (joined_items 0 vs)
-ends_last vs = rw ends_between (omega (arith, last_end 0 vs))
-
--- The pieces after `before` are the child rows of the rows.
-pieces_of : (before : List Value) (vs : List Value) → pieces_after (length before) (item_ends (length before) vs) (before ++ joined_items 0 vs) ≡ map (items_in 0) vs
-pieces_of before [] = refl
-pieces_of before (v ∷ vs) =
-    let items = items_in 0 v in
-    let here : slice_range (before ++ (items ++ joined_items 0 vs)) (length before) (length before + length items) ≡ items = grind (arith, common_steps) in
-    let rest = pieces_of (before ++ items) vs in
-    let same : length (before ++ items) ≡ length before + length items = length-append before items in
-    let whole : (before ++ items) ++ joined_items 0 vs ≡ before ++ (items ++ joined_items 0 vs) = append_assoc before items (joined_items 0 vs) in
-    let shown : pieces_after (length before + length items) (item_ends (length before + length items) vs) (before ++ (items ++ joined_items 0 vs)) ≡ map (items_in 0) vs =
-    rw (← same, ← whole) rest
-    in
-    cc (here, shown)
+ends_last vs = rw list_ends (ends_by_last (items_in 0) vs)
 
 list_back : (v : Value) → IsListed v → is_valid v ≡ true → list_of (items_in 0 v) ≡ v
 list_back v = elim v as (λ w. IsListed w → is_valid w ≡ true → list_of (items_in 0 w) ≡ w) [
@@ -135,7 +81,7 @@ lists_rebuilt vs offsets child validity n all long ends below valid =
     let count = length-pieces (0 ∷ item_ends 0 vs) (joined_items 0 vs) ∙ ends_between vs ∙ long in
     ap (λ l. list_rows l child validity) ends ∙ ap (λ l. list_rows (0 ∷ item_ends 0 vs) l validity) below
     ∙ finished list_of parts validity (validities vs) n valid count
-    ∙ ap (λ ps. hidden (validities vs) (map list_of ps)) (pieces_of [] vs)
+    ∙ ap (λ ps. hidden (validities vs) (map list_of ps)) (ap (λ l. pieces_after 0 l (joined_items 0 vs)) (list_ends 0 vs) ∙ pieces_by (items_in 0) [] vs)
     ∙ hidden_again IsListed list_of (items_in 0) list_back only_null vs all
 
 -- The parts of the column fit together.
@@ -229,10 +175,7 @@ blocks_fit w vs values validity n all long few narrow below covered formed =
 
 -- The values of a list, by position.
 by_place : {A : Type 0} (xs : List A) (d : A) (n : ℕ) → length xs ≡ n → map (λ j. get_or xs j d) (range_with_len 0 n) ≡ xs
-by_place xs d n long =
-    let size = length-map-range_with_len (λ j. get_or xs j d) 0 n in
-    ext_get_or d (map (λ j. get_or xs j d) (range_with_len 0 n)) xs (size ∙ sym long)
-    (λ k h. get_or-map-range_with_len (λ j. get_or xs j d) 0 n k k d (omega (arith, h, size)) (omega arith))
+by_place xs d n long = sym (fill_by_all (λ j. get_or xs j d) xs n d long (λ k h. refl))
 
 abbrev parts_in : ℕ → Value → List Value
 parts_in m v = map (λ j. part_at j v) (range_with_len 0 m)
@@ -247,13 +190,9 @@ tuple_back m v = elim v as (λ x. IsTuple m x → is_valid x ≡ true → tuple_
   | _ ↦ λ h e. absurd h
 ]
 
-fused : {A B C : Type 0} (g : B → C) (h : A → B) (xs : List A) → map g (map h xs) ≡ map (λ x. g (h x)) xs
-fused g h [] = refl
-fused g h (x ∷ xs) = ap (λ l. g (h x) ∷ l) (fused g h xs)
-
 tuple_of_row : (m : ℕ) (vs : List Value) (k : ℕ) → k < length vs → struct_at (parts_of m vs) k ≡ tuple_of (parts_in m (get_or vs k Null))
 tuple_of_row m vs k h =
-    ap tuple_of (fused (λ field. get_or field k Null) (λ j. map (part_at j) vs) (range_with_len 0 m) ∙ each (range_with_len 0 m))
+    ap tuple_of (map-map (λ field. get_or field k Null) (λ j. map (part_at j) vs) (range_with_len 0 m) ∙ each (range_with_len 0 m))
   where
     each : (js : List ℕ) → map (λ j. get_or (map (part_at j) vs) k Null) js ≡ map (λ j. part_at j (get_or vs k Null)) js
     each [] = refl
@@ -277,9 +216,6 @@ pub tuples_rebuilt : (m : ℕ) (vs : List Value) (fields : List (List Value)) (v
     fields ≡ parts_of m vs → bits_for n validity ≡ validities vs → struct_rows n fields validity ≡ vs
 tuples_rebuilt m vs fields validity n all long below valid =
     ap (λ l. struct_rows n l validity) below
-    ∙ finished (struct_at (parts_of m vs)) (range_with_len 0 n) validity (validities vs) n valid (length-range n)
+    ∙ finished (struct_at (parts_of m vs)) (range_with_len 0 n) validity (validities vs) n valid (length-range_with_len 0 n)
     ∙ ap (hidden (validities vs)) (struct_of m n vs long)
     ∙ hidden_again (IsTuple m) tuple_of (parts_in m) (tuple_back m) only_null vs all
-  where
-    length-range : (n : ℕ) → length (range_with_len 0 n) ≡ n
-    length-range n = sym (length-map (range_with_len 0 n) (λ (i : ℕ). i)) ∙ length-map-range_with_len (λ (i : ℕ). i) 0 n

@@ -1,21 +1,9 @@
 -- Errors for view columns, and gathered strings.
-use Rattle.std.proofs.Common.{◌≡◌, ℕ, Bool, true, false, zero, suc, List, [], ◌∷◌, All, map, length, get_or, Option, Some, None, refl, arith, length-append}
-use Rattle.std.specs.List.{flat_map, list_all}
-use Rattle.std.specs.Prelude.{◌&&◌}
-use Rattle.sel_bits.specs.declared.faults.Limit.TheVariants.{Buffers as BufferLimit}
-use Rattle.sel_bits.specs.declared.faults.PolarsError.{PolarsError}
-use Rattle.sel_bits.specs.declared.faults.PolarsError.TheVariants.{OutOfMemory, SizeLimit}
-use Rattle.sel_arrow.specs.declared.column.Column.{Column}
-use Rattle.sel_arrow.proofs.Lists.{and_first, and_second}
-use Rattle.sel_gather.specs.Need.{IsLimitOrMemory, ExceedsBuffers, buffer_count, buffers_joined}
-use Rattle.sel_gather.specs.Picks.{found, pick}
-use Rattle.sel_gather.specs.Raised.{IsBufferLimitOrMemory}
+use Rattle.sel_gather.proofs.Common.{both, ◌≡◌, ℕ, true, zero, suc, List, [], ◌∷◌, All, map, length, get_or, Option, refl, arith, length-append, flat_map}
+use Rattle.sel_gather.proofs.Common.{list_all, BufferLimit, PolarsError, OutOfMemory, SizeLimit, Column, and_first, and_second, IsLimitOrMemory, ExceedsBuffers}
+use Rattle.sel_gather.proofs.Common.{buffer_count, buffers_joined, pick, IsBufferLimitOrMemory, Value, Null}
 use Rattle.sel_arrow.specs.Texts.{is_text}
-use Rattle.sel_arrow.specs.Value.{Value, Null}
-
-and-both : (a b : Bool) → a ≡ true → b ≡ true → (a && b) ≡ true
-and-both true b h k = k
-and-both false b h k = absurd (cc h)
+use Rattle.sel_gather.proofs.EachRow.{picked_all, sources_all}
 
 -- The number of concatenated buffers is the sum over the columns.
 pub joined_count : {S A R : Type 0} (part : S → List A) (column : R → Column) (ss : List S) (rs : List R) → map (λ s. length (part s)) ss ≡ map (λ r. buffer_count (column r)) rs →
@@ -40,16 +28,11 @@ text_at [] i h = refl
 text_at (x ∷ xs) zero h = and_first (is_text x) (list_all is_text xs) h
 text_at (x ∷ xs) (suc i) h = text_at xs i (and_second (is_text x) (list_all is_text xs) h)
 
-texts_at : {S : Type 0} (f : S → List Value) (ss : List S) (i : ℕ) → All (λ s. list_all is_text (f s) ≡ true) ss → list_all is_text (get_or (map f ss) i []) ≡ true
-texts_at f [] i h = refl
-texts_at f (s ∷ ss) zero h = h 0 s (omega arith)
-texts_at f (s ∷ ss) (suc i) h = texts_at f ss i (λ k d inside. h (suc k) d (omega arith))
-
-text_found : {S : Type 0} (f : S → List Value) (ss : List S) (p : Option (ℕ × ℕ)) → All (λ s. list_all is_text (f s) ≡ true) ss → is_text (found Null (map f ss) p) ≡ true
-text_found f ss None h = refl
-text_found f ss (Some p) h = text_at (get_or (map f ss) p.0 []) p.1 (texts_at f ss p.0 h)
+all_texts : (xs : List Value) → ((k : ℕ) → is_text (get_or xs k Null) ≡ true) → list_all is_text xs ≡ true
+all_texts [] all = refl
+all_texts (x ∷ xs) all = both (is_text x) (list_all is_text xs) (all 0) (all_texts xs (λ k. all (suc k)))
 
 -- Rows gathered from string columns are strings.
 pub texts_picked : {S : Type 0} (f : S → List Value) (ss : List S) (ps : List (Option (ℕ × ℕ))) → All (λ s. list_all is_text (f s) ≡ true) ss → list_all is_text (pick Null (map f ss) ps) ≡ true
-texts_picked f ss [] h = refl
-texts_picked f ss (p ∷ ps) h = and-both (is_text (found Null (map f ss) p)) (list_all is_text (pick Null (map f ss) ps)) (text_found f ss p h) (texts_picked f ss ps h)
+texts_picked f ss ps h =
+    all_texts (pick Null (map f ss) ps) (picked_all (λ v. is_text v ≡ true) refl (map f ss) (sources_all (λ v. is_text v ≡ true) refl f ss (λ i d below k. text_at (f (get_or ss i d)) k (h i d below))) ps)

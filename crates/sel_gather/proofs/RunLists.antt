@@ -1,13 +1,11 @@
 -- Runs, their row references, and the rows that these refer to.
-use Rattle.std.proofs.Common.{◌≡◌, ◌-◌, All, subst, ℕ, ◌<◌, ◌≤◌, ◌+◌, List, [], ◌∷◌, ◌++◌, map, length, replicate, get_or, take, drop, refl, sym, ap, ◌∙◌, arith, append_assoc, length-append, slice_set, Option, Some, None, is_none, false, suc, zero, zero-add}
-use Rattle.std.proofs.lemmas.List.{length-map, take-append-le, drop-append-le, take_all, drop_all, take_more, drop_more, take-append-drop, replicate-append-replicate, map-append, length-replicate, append-nil}
-use Rattle.std.proofs.lemmas.List.FromFn.{length-map-range_with_len, get_or-map-range_with_len}
-use Rattle.std.proofs.lemmas.List.Elements.{All-append, All-drop, All-get_or, All-head, All-map, All-nil, All-tail, All-take}
-use Rattle.std.specs.List.{range_with_len}
-use Rattle.sel_gather.specs.declared.runs.Run.{Run}
-use Rattle.sel_gather.specs.Picks.{found, pick, PickFits}
-use Rattle.sel_gather.specs.Plans.{IsPicked}
-use Rattle.sel_gather.specs.Runs.{expand, unrolled, unrolled_from, picks_of}
+use Rattle.sel_gather.proofs.Common.{◌≡◌, ◌-◌, All, subst, ℕ, ◌<◌, ◌≤◌, ◌+◌, List, [], ◌∷◌, ◌++◌, map, length, replicate, get_or, take, drop, refl, sym, ap}
+use Rattle.sel_gather.proofs.Common.{◌∙◌, arith, append_assoc, length-append, slice_set, Option, Some, None, is_none, false, suc, zero, zero-add, length-map}
+use Rattle.sel_gather.proofs.Common.{take-append-le, drop-append-le, take_all, drop_all, take_more, drop_more, take-append-drop, replicate-append-replicate}
+use Rattle.sel_gather.proofs.Common.{map-append, length-replicate, append-nil, length-map-range_with_len, get_or-map-range_with_len, All-append, All-drop}
+use Rattle.sel_gather.proofs.Common.{All-get_or, All-head, All-map, All-nil, All-tail, All-take, range_with_len, Run, found, pick, PickFits, IsPicked, expand}
+use Rattle.sel_gather.proofs.Common.{unrolled, unrolled_from, picks_of}
+use Rattle.sel_gather.proofs.Gathers.{map-replicate, none_left}
 
 -- ---- concatenated runs
 
@@ -24,10 +22,6 @@ expand-push a r = expand-append a (r ∷ []) ∙ ap (λ l. expand a ++ l) (expan
 pub length-unrolled_from : (s : Option ℕ) (a n : ℕ) → length (unrolled_from s a n) ≡ n
 length-unrolled_from None a n = length-replicate n None
 length-unrolled_from (Some s) a n = length-map-range_with_len (λ i. Some (s, i)) a n
-
-length_none : {A : Type 0} (xs : List A) → length xs ≡ 0 → xs ≡ []
-length_none [] e = refl
-length_none (x ∷ xs) e = absurd (omega (arith, e))
 
 pub length-unrolled : (r : Run) → length (unrolled r) ≡ r.len
 length-unrolled r = length-unrolled_from r.source r.start r.len
@@ -79,7 +73,7 @@ one_len (r ∷ rs) (suc i) run inside is =
 
 -- An empty run.
 pub none_unrolled : (r : Run) → r.len ≡ 0 → unrolled r ≡ []
-none_unrolled r e = length_none (unrolled r) (length-unrolled r ∙ e)
+none_unrolled r e = none_left (unrolled r) (length-unrolled r ∙ e)
 
 pub ruleset run_rules = (expand-append, expand-one, length-unrolled)
 
@@ -140,6 +134,10 @@ all_at P rs i inside all =
     let split : All P ((expand (take i rs) ++ unrolled (run_at rs i)) ++ expand (drop (i + 1) rs)) = subst (All P) (expand_split rs i inside) all in
     All-right P (expand (take i rs)) (unrolled (run_at rs i)) (All-left P (expand (take i rs) ++ unrolled (run_at rs i)) (expand (drop (i + 1) rs)) split)
 
+-- The rows of the runs before a position, followed by the others.
+pub pick_split : {A : Type 0} (d : A) (xss : List (List A)) (rs : List Run) (i : ℕ) → pick d xss (expand rs) ≡ pick d xss (expand (take i rs)) ++ pick d xss (expand (drop i rs))
+pick_split d xss rs i = ap (λ l. pick d xss (expand l)) (sym (take-append-drop i rs)) ∙ ap (pick d xss) (expand-append (take i rs) (drop i rs)) ∙ map-append (found d xss) (expand (take i rs)) (expand (drop i rs))
+
 -- The rows of the runs up to the next position.
 pub pick_more : {A : Type 0} (d : A) (xss : List (List A)) (rs : List Run) (i : ℕ) → i < length rs →
     pick d xss (expand (take (i + 1) rs)) ≡ pick d xss (expand (take i rs)) ++ pick d xss (unrolled (run_at rs i))
@@ -162,8 +160,7 @@ pub pick_run : {A : Type 0} (d : A) (xss : List (List A)) (r : Run) (s : ℕ) �
 pick_run d xss r s is inside = rw is (pick_rows d xss s r.start r.len inside)
 
 pub map_nulls : {A : Type 0} (d : A) (xss : List (List A)) (n : ℕ) → pick d xss (replicate n None) ≡ replicate n d
-map_nulls d xss zero = refl
-map_nulls d xss (suc n) = ap (λ l. d ∷ l) (map_nulls d xss n)
+map_nulls d xss n = map-replicate (found d xss) n None
 
 pub pick_nulls : {A : Type 0} (d : A) (xss : List (List A)) (r : Run) → r.source ≡ None → pick d xss (unrolled r) ≡ replicate r.len d
 pick_nulls d xss r is = rw is (map_nulls d xss r.len)

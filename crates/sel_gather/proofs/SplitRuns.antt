@@ -1,20 +1,9 @@
 -- Validity bits of gathered rows, and row references to null rows.
-use Rattle.std.proofs.Common.{◌≡◌, ◌≢◌, All, Bor, ℕ, zero, suc, ◌+◌, ◌≤◌, ◌<◌, Bool, true, false, List, [], ◌∷◌, length, map, replicate, Option, Some, None, refl, ap, sym, ◌∙◌, arith, get_or}
-use Rattle.std.specs.Prelude.{if◌then◌else◌}
-use Rattle.std.proofs.lemmas.List.{length-map, get_or-map}
-use Rattle.sel_bits.specs.Bits.{Bits}
-use Rattle.sel_arrow.specs.Nulls.{IsValidityOf}
-use Rattle.sel_arrow.specs.Rows.{rows}
-use Rattle.sel_arrow.specs.Shape.{Shape, of_null}
-use Rattle.sel_arrow.specs.Value.{Value, Null, is_valid, validities}
-use Rattle.sel_arrow.specs.declared.column.Column.{Column}
-use Rattle.sel_gather.specs.Cleared.{cleared}
-use Rattle.sel_gather.specs.KeptPicks.{kept_by}
-use Rattle.sel_gather.specs.Picks.{found, pick, PickFits}
-use Rattle.sel_gather.specs.Runs.{unrolled, picks_of}
-use Rattle.sel_gather.specs.declared.runs.Run.{Run}
-use Rattle.sel_gather.proofs.ItemRuns.{rows_of, source_there}
-use Rattle.sel_gather.proofs.RunLists.{run_there, pick_nulls}
+use Rattle.sel_gather.proofs.Common.{◌≡◌, ◌≢◌, All, Bor, ℕ, zero, suc, ◌+◌, ◌≤◌, ◌<◌, Bool, true, false, List, [], ◌∷◌, length, map, replicate, Option, Some}
+use Rattle.sel_gather.proofs.Common.{None, refl, ap, sym, ◌∙◌, arith, get_or, if◌then◌else◌, length-map, get_or-map, Bits, IsValidityOf, rows, Shape, of_null}
+use Rattle.sel_gather.proofs.Common.{Value, Null, is_valid, validities, Column, cleared, kept_by, found, pick, PickFits, unrolled, picks_of, Run, subst}
+use Rattle.sel_gather.proofs.Common.{All-get_or, get_or-replicate, type_of}
+use Rattle.sel_gather.proofs.{Gathers.map-replicate, KeptBlocks.all_kept, ItemRuns.rows_of, ItemRuns.source_there, RunLists.run_there, RunLists.pick_nulls}
 
 -- ---- the validity of the rows
 
@@ -37,11 +26,20 @@ told_valid of_null v vs other tells is = absurd (other refl)
 told_valid s None vs other tells is = tells
 told_valid s (Some x) vs other tells is = absurd cc
 
+pub bit_at : (vs : List Value) (k : ℕ) → get_or (validities vs) k false ≡ is_valid (get_or vs k Null)
+bit_at [] k = refl
+bit_at (v ∷ vs) zero = refl
+bit_at (v ∷ vs) (suc k) = bit_at vs k
+
 -- ---- the source of a run that is not empty
 
 module _ (cs : List (Bor Column)) (r : Run) (s : ℕ) (c : Bor Column) (is : r.source ≡ Some s) (fits : All (PickFits (rows_of cs)) (unrolled r)) (some : r.len ≡ 0 → ⊥) (same : c ≡ get_or cs s c) where
-  pub split_source : s < length cs
+  split_source : s < length cs
   split_source = source_there cs r s 0 is fits (omega (arith, some))
+
+  -- A property of all sources is a property of the source of the run.
+  pub split_all : (P : Bor Column → Type 0) → All P cs → P c
+  split_all P all = subst P (sym same) (All-get_or P cs s c split_source all)
 
   at_source : get_or (rows_of cs) s [] ≡ rows c.now
   at_source = get_or-map (λ x. rows x.now) cs s c [] split_source ∙ ap (λ (x : Bor Column). rows x.now) (sym same)
@@ -58,11 +56,6 @@ module _ (cs : List (Bor Column)) (r : Run) (s : ℕ) (c : Bor Column) (is : r.s
   kept_is bits tells k =
       let valid : get_or bits k false ≡ is_valid (get_or (rows c.now) k Null) = ap (λ l. get_or l k false) (sym tells) ∙ bit_at (rows c.now) k in
       ap (λ (b : Bool). let p : Option (ℕ × ℕ) = if b then Some (s, k) else None in p) (valid ∙ ap is_valid (sym (found_at k)))
-    where
-      bit_at : (vs : List Value) (k : ℕ) → get_or (map is_valid vs) k false ≡ is_valid (get_or vs k Null)
-      bit_at [] k = refl
-      bit_at (v ∷ vs) zero = refl
-      bit_at (v ∷ vs) (suc k) = bit_at vs k
 
   kept_picks : (bits : List Bool) → validities (rows c.now) ≡ bits → (a n : ℕ) → map (kept_by bits) (picks_of s a n) ≡ map (cleared (rows_of cs)) (picks_of s a n)
   kept_picks bits tells a zero = refl
@@ -71,43 +64,31 @@ module _ (cs : List (Bor Column)) (r : Run) (s : ℕ) (c : Bor Column) (is : r.s
       let rest = kept_picks bits tells (a + 1) n in
       ap (λ x. x ∷ map (kept_by bits) (picks_of s (a + 1) n)) here ∙ ap (λ l. cleared (rows_of cs) (Some (s, a)) ∷ l) rest
 
-  -- Row references under the validity bits are the cleared row references.
-  pub kept_run : (bits : List Bool) → validities (rows c.now) ≡ bits → map (kept_by bits) (unrolled r) ≡ map (cleared (rows_of cs)) (unrolled r)
-  kept_run bits tells = rw is (kept_picks bits tells r.start r.len)
+  kept_bits : (bits : List Bool) → validities (rows c.now) ≡ bits → map (kept_by bits) (unrolled r) ≡ map (cleared (rows_of cs)) (unrolled r)
+  kept_bits bits tells = rw is (kept_picks bits tells r.start r.len)
 
-  valid_at : (k : ℕ) → k < length (rows c.now) → validities (rows c.now) ≡ replicate (length (rows c.now)) true → is_valid (get_or (rows c.now) k Null) ≡ true
-  valid_at k h all = each (rows c.now) k h all
-    where
-      each : (vs : List Value) (k : ℕ) → k < length vs → validities vs ≡ replicate (length vs) true → is_valid (get_or vs k Null) ≡ true
-      each [] k h all = absurd (omega (arith, h))
-      each (v ∷ vs) zero h all = cc
-      each (v ∷ vs) (suc k) h all =
-          let rest : validities vs ≡ replicate (length vs) true = cc in
-          each vs k (omega arith) rest
+  module _ (known : All (λ x. type_of x.now ≢ of_null) cs) (v : Option Bits) (tells : IsValidityOf (type_of c.now) v (rows c.now)) where
+    other : type_of c.now ≢ of_null
+    other = split_all (λ x. type_of x.now ≢ of_null) known
 
-  whole_picks : validities (rows c.now) ≡ replicate (length (rows c.now)) true → (a n : ℕ) → a + n ≤ length (rows c.now) → picks_of s a n ≡ map (cleared (rows_of cs)) (picks_of s a n)
-  whole_picks all a zero h = refl
-  whole_picks all a (suc n) h =
-      let valid = ap is_valid (found_at a) ∙ valid_at a (omega arith) all in
-      let here : Some (s, a) ≡ cleared (rows_of cs) (Some (s, a)) = ap (λ (b : Bool). let p : Option (ℕ × ℕ) = if b then Some (s, a) else None in p) (sym valid) in
-      ap (λ x. x ∷ picks_of s (a + 1) n) here ∙ ap (λ l. cleared (rows_of cs) (Some (s, a)) ∷ l) (whole_picks all (a + 1) n (omega arith))
+    pub bits_long : (b : Bits) → v ≡ Some b → length b.bits ≡ length (rows c.now)
+    bits_long b there = told_length (type_of c.now) v (rows c.now) other tells b there
 
-  -- Row references to valid rows are unchanged.
-  pub whole_run : validities (rows c.now) ≡ replicate (length (rows c.now)) true → unrolled r ≡ map (cleared (rows_of cs)) (unrolled r)
-  whole_run all = rw is (whole_picks all r.start r.len split_inside)
+    -- Row references under the validity bits are the cleared row references.
+    pub kept_run : (b : Bits) → v ≡ Some b → map (kept_by b.bits) (unrolled r) ≡ map (cleared (rows_of cs)) (unrolled r)
+    kept_run b there = kept_bits b.bits (told_bits (type_of c.now) v (rows c.now) other tells b there)
+
+    -- Row references to valid rows are unchanged.
+    pub whole_run : v ≡ None → unrolled r ≡ map (cleared (rows_of cs)) (unrolled r)
+    whole_run none =
+        let count = length (rows c.now) in
+        sym (all_kept (replicate count true) r.source r.start r.len (λ i h. get_or-replicate count (r.start + i) true false (omega (arith, split_inside, h))))
+        ∙ kept_bits (replicate count true) (told_valid (type_of c.now) v (rows c.now) other tells none)
 
 -- ---- runs of nulls, and empty runs
 
 pub null_bits : (xss : List (List Value)) (r : Run) → r.source ≡ None → replicate r.len false ≡ validities (pick Null xss (unrolled r))
-null_bits xss r is = each r.len ∙ ap validities (sym (pick_nulls Null xss r is))
-  where
-    each : (n : ℕ) → replicate n false ≡ validities (replicate n Null)
-    each zero = refl
-    each (suc n) = ap (λ l. false ∷ l) (each n)
+null_bits xss r is = sym (map-replicate is_valid r.len Null) ∙ ap validities (sym (pick_nulls Null xss r is))
 
 pub null_picks : (xss : List (List Value)) (r : Run) → r.source ≡ None → unrolled r ≡ map (cleared xss) (unrolled r)
-null_picks xss r is = rw is (each r.len)
-  where
-    each : (n : ℕ) → replicate n (let none : Option (ℕ × ℕ) = None in none) ≡ map (cleared xss) (replicate n None)
-    each zero = refl
-    each (suc n) = ap (λ (l : List (Option (ℕ × ℕ))). None ∷ l) (each n)
+null_picks xss r is = rw is (sym (map-replicate (cleared xss) r.len None))

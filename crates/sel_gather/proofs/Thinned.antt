@@ -1,31 +1,14 @@
 -- Rows of a column, some of them dropped and some replaced by null. They exceed no limit, since the
 -- column does not.
-use Rattle.std.proofs.Common.{◌≡◌, ◌⊎◌, inl, inr, ℕ, zero, suc, ◌+◌, ◌-◌, ◌*◌, ◌≤◌, ◌<◌, pos, Bool, true, false, ◌&&◌, ◌==◌, List, [], ◌∷◌, ◌++◌, length, take, drop, map, replicate, Option, Some, None, refl, ap, sym, subst, ◌∙◌, arith, get_or, length-take}
-use Rattle.std.specs.List.{range_with_len, slice_range}
-use Rattle.std.proofs.lemmas.Int.{ints}
-use Rattle.std.proofs.lemmas.List.{drop-drop, get_or-map, length-drop, length-map}
-use Rattle.std.proofs.lemmas.List.FromFn.{fill_by_all}
-use Rattle.sel_bits.specs.Limits.{max_rows}
-use Rattle.sel_bits.specs.Bits.{Bits}
-use Rattle.sel_bits.specs.Offsets.{IsRising}
-use Rattle.sel_bits.specs.declared.faults.Limit.{Limit}
-use Rattle.sel_bits.specs.declared.faults.Limit.TheVariants.{Rows as RowLimit, Bytes as ByteLimit, Buffers as BufferLimit, ViewBytes}
-use Rattle.sel_bits.specs.declared.faults.PolarsError.{PolarsError}
-use Rattle.sel_bits.specs.declared.faults.PolarsError.TheVariants.{OutOfMemory, SizeLimit, ComputeError}
-use Rattle.sel_arrow.specs.Masked.{hidden, masked}
-use Rattle.sel_arrow.specs.Nested.{list_of, list_rows, blocks, block_rows, struct_at}
-use Rattle.sel_arrow.specs.Pieces.{pieces_after, byte_rows, last_offset}
-use Rattle.sel_arrow.specs.Rows.{rows, rows_of_each, row_count, type_of, types_of_each, well_formed, all_well_formed}
-use Rattle.sel_arrow.specs.Value.{Value, Null, Bytes}
-use Rattle.sel_arrow.specs.declared.column.Column.{Column, Row_of-Column, end_of-Column, more_of-Column}
-use Rattle.sel_arrow.specs.declared.column.Column.TheVariants.{LargeBinary, LargeList', FixedSizeList', Struct'}
-use Rattle.sel_arrow.proofs.Lists.{and_first, and_second}
-use Rattle.sel_arrow.proofs.NestedRows.{has_lists, has_blocks, struct_covered, length-rows}
-use Rattle.sel_gather.specs.Children.{columns_in, joined_items, part_at}
-use Rattle.sel_gather.specs.Need.{bytes_needed, IsLimitOrMemory, ExceedsBytes, ExceedsRows, exceeded_limits, exceeded_in_parts}
-use Rattle.sel_gather.proofs.ItemRuns.{listed_values}
-use Rattle.sel_gather.proofs.ListParts.{few_rows}
-use Rattle.sel_gather.proofs.TupleRows.{rows_in, formed_in}
+use Rattle.sel_gather.proofs.Common.{◌≡◌, ◌⊎◌, inl, inr, ℕ, zero, suc, ◌+◌, ◌-◌, ◌*◌, ◌≤◌, ◌<◌, pos, Bool, true, false, ◌&&◌, ◌==◌, List, [], ◌∷◌, ◌++◌, length}
+use Rattle.sel_gather.proofs.Common.{take, drop, map, replicate, Option, Some, None, refl, ap, sym, subst, ◌∙◌, arith, get_or, length-take, range_with_len}
+use Rattle.sel_gather.proofs.Common.{slice_range, ints, drop-drop, get_or-map, length-drop, length-map, fill_by_all, max_rows, Bits, IsRising, Limit, RowLimit}
+use Rattle.sel_gather.proofs.Common.{ByteLimit, PolarsError, OutOfMemory, SizeLimit, ComputeError, hidden, masked, list_of, list_rows, blocks, block_rows}
+use Rattle.sel_gather.proofs.Common.{struct_at, pieces_after, byte_rows, last_offset, rows, rows_of_each, row_count, type_of, types_of_each, well_formed}
+use Rattle.sel_gather.proofs.Common.{all_well_formed, Value, Null, Bytes, Column, Row_of-Column, end_of-Column, more_of-Column, LargeBinary, LargeList'}
+use Rattle.sel_gather.proofs.Common.{FixedSizeList', Struct', and_first, and_second, has_lists, has_blocks, struct_covered, length-rows, columns_in}
+use Rattle.sel_gather.proofs.Common.{joined_items, part_at, bytes_needed, IsLimitOrMemory, ExceedsBytes, ExceedsRows, exceeded_limits, exceeded_in_parts}
+use Rattle.sel_gather.proofs.{TupleRows.part_found, TupleRows.rows_in, TupleRows.formed_in, ItemRuns.listed_values, ListParts.few_rows}
 
 -- ---- a mark for each row
 
@@ -51,15 +34,13 @@ drawn_few : (ms : List Mark) (vs : List Value) → length (draw ms vs) ≤ lengt
 drawn_few [] vs = omega arith
 drawn_few (m ∷ ms) [] = omega arith
 drawn_few (skip ∷ ms) (v ∷ vs) = let rest = drawn_few ms vs in omega (arith, rest)
-drawn_few (keep ∷ ms) (v ∷ vs) = let rest = drawn_few ms vs in omega (arith, rest)
-drawn_few (hide ∷ ms) (v ∷ vs) = let rest = drawn_few ms vs in omega (arith, rest)
+drawn_few (m ∷ ms) (v ∷ vs) = let rest = drawn_few ms vs in omega (arith, rest)
 
 drawn_needed : (ms : List Mark) (vs : List Value) → bytes_needed (draw ms vs) ≤ bytes_needed vs
 drawn_needed [] vs = omega arith
 drawn_needed (m ∷ ms) [] = omega arith
 drawn_needed (skip ∷ ms) (v ∷ vs) = let rest = drawn_needed ms vs in omega (arith, rest)
-drawn_needed (keep ∷ ms) (v ∷ vs) = let rest = drawn_needed ms vs in omega (arith, rest)
-drawn_needed (hide ∷ ms) (v ∷ vs) = let rest = drawn_needed ms vs in omega (arith, rest)
+drawn_needed (m ∷ ms) (v ∷ vs) = let rest = drawn_needed ms vs in omega (arith, rest)
 
 draw-map : (f : Value → Value) → f Null ≡ Null → (ms : List Mark) (vs : List Value) → map f (draw ms vs) ≡ draw ms (map f vs)
 draw-map f null [] vs = refl
@@ -90,8 +71,7 @@ draw-hidden (true ∷ bs) (skip ∷ ms) (v ∷ vs) = draw-hidden bs ms vs
 draw-hidden (true ∷ bs) (keep ∷ ms) (v ∷ vs) = ap (λ l. v ∷ l) (draw-hidden bs ms vs)
 draw-hidden (true ∷ bs) (hide ∷ ms) (v ∷ vs) = ap (λ l. Null ∷ l) (draw-hidden bs ms vs)
 draw-hidden (false ∷ bs) (skip ∷ ms) (v ∷ vs) = draw-hidden bs ms vs
-draw-hidden (false ∷ bs) (keep ∷ ms) (v ∷ vs) = ap (λ l. Null ∷ l) (draw-hidden bs ms vs)
-draw-hidden (false ∷ bs) (hide ∷ ms) (v ∷ vs) = ap (λ l. Null ∷ l) (draw-hidden bs ms vs)
+draw-hidden (false ∷ bs) (m ∷ ms) (v ∷ vs) = ap (λ l. Null ∷ l) (draw-hidden bs ms vs)
 
 abbrev under : Option Bits → List Mark → List Mark
 under None ms = ms
@@ -144,18 +124,15 @@ items_drawn : (a : ℕ) (offsets : List ℕ) (below : List Value) (ms : List Mar
 items_drawn a [] below [] climbs = refl
 items_drawn a [] below (m ∷ ms) climbs = refl
 items_drawn a (b ∷ offsets) below [] climbs = refl
-items_drawn a (b ∷ offsets) below (skip ∷ ms) climbs =
-    items_drawn b offsets below ms (λ k h. climbs (suc k) (omega (arith, h)))
-    ∙ ap (draw (item_marks b offsets ms)) (further a b below (climbs 0 (omega arith))) ∙ sym (skipped (b - a) (item_marks b offsets ms) (drop a below))
-items_drawn a (b ∷ offsets) below (hide ∷ ms) climbs =
-    items_drawn b offsets below ms (λ k h. climbs (suc k) (omega (arith, h)))
-    ∙ ap (draw (item_marks b offsets ms)) (further a b below (climbs 0 (omega arith))) ∙ sym (skipped (b - a) (item_marks b offsets ms) (drop a below))
 items_drawn a (b ∷ offsets) below (keep ∷ ms) climbs =
     let piece = slice_range below a b in
     let rest = items_drawn b offsets below ms (λ k h. climbs (suc k) (omega (arith, h))) in
     ap (λ l. l ++ joined_items 0 (draw ms (map list_of (pieces_after b offsets below)))) (listed_values piece)
     ∙ ap (λ l. piece ++ l) (rest ∙ ap (draw (item_marks b offsets ms)) (further a b below (climbs 0 (omega arith))))
     ∙ sym (kept (b - a) (item_marks b offsets ms) (drop a below))
+items_drawn a (b ∷ offsets) below (m ∷ ms) climbs =
+    items_drawn b offsets below ms (λ k h. climbs (suc k) (omega (arith, h)))
+    ∙ ap (draw (item_marks b offsets ms)) (further a b below (climbs 0 (omega arith))) ∙ sym (skipped (b - a) (item_marks b offsets ms) (drop a below))
 
 abbrev list_marks : List ℕ → Option Bits → List Mark → List Mark
 list_marks [] validity ms = []
@@ -212,9 +189,6 @@ blocks_drawn w n below validity ms fills =
 
 -- ---- struct rows
 
-part_found : (fs : List (List Value)) (j k : ℕ) → j < length fs → part_at j (struct_at fs k) ≡ get_or (get_or fs j []) k Null
-part_found fs j k h = ap (λ l. get_or l j Null) (listed_values (map (λ f. get_or f k Null) fs)) ∙ get_or-map (λ f. get_or f k Null) fs j [] Null h
-
 parts_found : (fs : List (List Value)) (j k n : ℕ) → j < length fs → map (part_at j) (map (struct_at fs) (range_with_len k n)) ≡ map (λ i. get_or (get_or fs j []) i Null) (range_with_len k n)
 parts_found fs j k zero h = refl
 parts_found fs j k (suc n) h =
@@ -257,16 +231,12 @@ bytes_drawn (a ∷ offsets) bytes validity ms rises =
 -- ---- limits
 
 few_bytes : (vs : List Value) (limit : Limit) → bytes_needed vs ≤ 9223372036854775807 → ExceedsBytes (pos 9223372036854775807) vs limit → ⊥
-few_bytes vs RowLimit few h = h
 few_bytes vs ByteLimit few h = absurd (omega (arith, ints, few, h))
-few_bytes vs BufferLimit few h = h
-few_bytes vs ViewBytes few h = h
+few_bytes vs _ few h = h
 
 few_items : (n : ℕ) (limit : Limit) → n ≤ max_rows → ExceedsRows n limit → ⊥
 few_items n RowLimit few h = absurd (omega (arith, few, h))
-few_items n ByteLimit few h = h
-few_items n BufferLimit few h = h
-few_items n ViewBytes few h = h
+few_items n _ few h = h
 
 -- The remaining rows of a child exceed no limit.
 below_fits : (c : Column) (ms : List Mark) (items : List Value) (limit : Limit) → well_formed c ≡ true → items ≡ draw ms (rows c) → (exceeded_limits (type_of c) (draw ms (rows c)) limit → ⊥) →

@@ -1,33 +1,12 @@
 -- The values of struct rows are rows of the fields.
-use Rattle.std.proofs.Common.{◌≡◌, All, Bor, ℕ, zero, suc, ◌<◌, Bool, true, false, ◌&&◌, ◌==◌, List, [], ◌∷◌, length, map, Option, Some, None, refl, ap, sym, subst, ◌∙◌, arith, get_or}
-use Rattle.std.specs.Prelude.{if◌then◌else◌}
-use Rattle.std.specs.List.{range_with_len}
+use Rattle.sel_gather.proofs.Common.{All-map, ◌≡◌, All, Bor, ℕ, zero, suc, ◌<◌, Bool, true, false, ◌&&◌, ◌==◌, List, [], ◌∷◌, length, map, Option, Some, None}
+use Rattle.sel_gather.proofs.Common.{refl, ap, sym, ◌∙◌, arith, get_or, if◌then◌else◌, range_with_len, length-map, get_or-map, length-map-range_with_len}
+use Rattle.sel_gather.proofs.Common.{get_or-map-range_with_len, Bits, hidden, masked, struct_at, rows, rows_of_each, row_count, type_of, types_of_each}
+use Rattle.sel_gather.proofs.Common.{well_formed, all_well_formed, IsField, IsWellFormed, Shape, Shapes, of_struct, shape_list, Value, Null, is_valid, Column}
+use Rattle.sel_gather.proofs.Common.{Row_of-Column, end_of-Column, more_of-Column, Struct', and_first, and_second, length-rows, struct_covered, columns_in}
+use Rattle.sel_gather.proofs.Common.{field, part_at, cleared, found, pick, PickFits}
 use Rattle.std.proofs.lemmas.Bool.Decides.{nat_tests}
-use Rattle.std.proofs.lemmas.List.{length-map, get_or-map}
-use Rattle.std.proofs.lemmas.List.FromFn.{length-map-range_with_len, get_or-map-range_with_len}
-use Rattle.sel_bits.specs.Bits.{Bits}
-use Rattle.sel_arrow.specs.Masked.{hidden, masked}
-use Rattle.sel_arrow.specs.Nested.{struct_at}
-use Rattle.sel_arrow.specs.Rows.{rows, rows_of_each, row_count, type_of, types_of_each, well_formed, all_well_formed, IsField, IsWellFormed}
-use Rattle.sel_arrow.specs.Shape.{Shape, Shapes, no_shapes, of_struct, shape_list}
-use Rattle.sel_arrow.specs.Value.{Value, Null, is_valid}
-use Rattle.sel_arrow.specs.declared.column.Column.{Column, Row_of-Column, end_of-Column, more_of-Column}
-use Rattle.sel_arrow.specs.declared.column.Column.TheVariants.{Struct'}
-use Rattle.sel_arrow.proofs.Lists.{and_first, and_second}
-use Rattle.sel_arrow.proofs.NestedRows.{length-rows, struct_covered}
-use Rattle.sel_gather.specs.Children.{columns_in, field, part_at}
-use Rattle.sel_gather.specs.Cleared.{cleared}
-use Rattle.sel_gather.specs.Picks.{found, pick, PickFits}
-use Rattle.sel_gather.proofs.ItemRuns.{rows_of, listed_values}
-use Rattle.sel_gather.proofs.Rebuilt.{only_null}
-
-abbrev IsStructType : Shape → Type 0
-IsStructType (of_struct ss) = Unit {0}
-IsStructType s = ⊥
-
-abbrev fields_in : Shape → Shapes
-fields_in (of_struct ss) = ss
-fields_in s = no_shapes
+use Rattle.sel_gather.proofs.{ItemRuns.rows_of, ItemRuns.listed_values, Rebuilt.only_null}
 
 -- ---- the fields, by position
 
@@ -54,17 +33,17 @@ formed_in n (more_of-Column x rest) len (suc j) c all h = formed_in _ rest len j
 
 pub field_type : (c : Column) (ss : Shapes) (j : ℕ) (d : Shape) → type_of c ≡ of_struct ss → j < length (shape_list ss) → type_of (field j c) ≡ get_or (shape_list ss) j d
 field_type (Struct' len n fields validity) ss j d is h =
-    let same : types_of_each fields ≡ ss = ap fields_in is in
+    let same : types_of_each fields ≡ ss = cc is in
     let inside : j < length (columns_in fields) = omega (arith, h, count_in _ fields, ap (λ l. length (shape_list l)) same) in
     type_in _ fields j (Struct' len n fields validity) d inside ∙ ap (λ l. get_or (shape_list l) j d) same
-field_type c ss j d is h = absurd (subst IsStructType (sym is) tt)
+field_type c ss j d is h = absurd (cc is)
 
 pub field_formed : (c : Column) (ss : Shapes) (j : ℕ) → type_of c ≡ of_struct ss → well_formed c ≡ true → j < length (shape_list ss) → IsField (row_count c) (field j c)
 field_formed (Struct' len n fields validity) ss j is formed h =
-    let same : types_of_each fields ≡ ss = ap fields_in is in
+    let same : types_of_each fields ≡ ss = cc is in
     let inside : j < length (columns_in fields) = omega (arith, h, count_in _ fields, ap (λ l. length (shape_list l)) same) in
     formed_in _ fields len j (Struct' len n fields validity) (struct_covered len validity (all_well_formed len fields) formed).2 inside
-field_formed c ss j is formed h = absurd (subst IsStructType (sym is) tt)
+field_formed c ss j is formed h = absurd (cc is)
 
 -- ---- rows that are valid
 
@@ -84,24 +63,24 @@ shown_inside [] k e = absurd (cc e)
 shown_inside (v ∷ vs) zero e = omega arith
 shown_inside (v ∷ vs) (suc k) e = let rest = shown_inside vs k e in omega (arith, rest)
 
+pub part_found : (fs : List (List Value)) (j k : ℕ) → j < length fs → part_at j (struct_at fs k) ≡ get_or (get_or fs j []) k Null
+part_found fs j k h = ap (λ l. get_or l j Null) (listed_values (map (λ f. get_or f k Null) fs)) ∙ get_or-map (λ f. get_or f k Null) fs j [] Null h
+
 -- Value j of a valid struct row is the row of field j.
 pub field_row : (c : Column) (ss : Shapes) (j k : ℕ) → type_of c ≡ of_struct ss → j < length (shape_list ss) → is_valid (get_or (rows c) k Null) ≡ true → get_or (rows (field j c)) k Null ≡ part_at j (get_or (rows c) k Null)
 field_row (Struct' len n fields validity) ss j k is h valid =
     let c = Struct' len n fields validity in
     let fs = rows_of_each fields in
     let vs = map (struct_at fs) (range_with_len 0 len) in
-    let same : types_of_each fields ≡ ss = ap fields_in is in
+    let same : types_of_each fields ≡ ss = cc is in
     let inside : j < length (columns_in fields) = omega (arith, h, count_in _ fields, ap (λ l. length (shape_list l)) same) in
     let shown = shown_masked validity vs k valid in
     let below : k < len = omega (arith, shown_inside vs k (ap is_valid (sym shown) ∙ valid), length-map-range_with_len (struct_at fs) 0 len) in
     let row = shown ∙ get_or-map-range_with_len (struct_at fs) 0 len k k Null below (omega arith) in
     let field_is : get_or fs j [] ≡ rows (field j c) = ap (λ l. get_or l j []) (rows_in _ fields) ∙ get_or-map rows (columns_in fields) j c [] inside in
     let many : j < length fs = omega (arith, inside, ap length (rows_in _ fields), length-map (columns_in fields) rows) in
-    let part : part_at j (struct_at fs k) ≡ get_or (get_or fs j []) k Null =
-    ap (λ l. get_or l j Null) (listed_values (map (λ f. get_or f k Null) fs)) ∙ get_or-map (λ f. get_or f k Null) fs j [] Null many
-    in
-    sym (ap (part_at j) row ∙ part ∙ ap (λ l. get_or l k Null) field_is)
-field_row c ss j k is h valid = absurd (subst IsStructType (sym is) tt)
+    sym (ap (part_at j) row ∙ part_found fs j k many ∙ ap (λ l. get_or l k Null) field_is)
+field_row c ss j k is h valid = absurd (cc is)
 
 -- ---- row references to rows of the fields
 
@@ -153,6 +132,4 @@ module _ (ss : Shapes) (j : ℕ) (h : j < length (shape_list ss)) where
       one (is_valid v)
 
   pub parts_fit : (cs : List (Bor Column)) → All (λ c. type_of c.now ≡ of_struct ss) cs → All (λ c. IsWellFormed c.now) cs → (ps : List (Option (ℕ × ℕ))) → All (PickFits (rows_of cs)) ps → All (PickFits (field_rows j cs)) (map (cleared (rows_of cs)) ps)
-  parts_fit cs types formed [] fits k d below = absurd (omega (arith, below))
-  parts_fit cs types formed (p ∷ ps) fits zero d below = fit_one cs types formed p (fits 0 p (omega arith))
-  parts_fit cs types formed (p ∷ ps) fits (suc k) d below = parts_fit cs types formed ps (λ i e more. fits (suc i) e (omega (arith, more))) k d (omega (arith, below))
+  parts_fit cs types formed ps fits = All-map (PickFits (field_rows j cs)) (cleared (rows_of cs)) ps (λ k d h. fit_one cs types formed (get_or ps k d) (fits k d h))

@@ -1,31 +1,14 @@
 -- Binary rows without nulls: their bytes are contiguous.
-use Rattle.std.proofs.Common.{◌≡◌, All, ℕ, zero, suc, ◌+◌, ◌-◌, ◌≤◌, ◌<◌, pos, Bool, true, false, List, [], ◌∷◌, ◌++◌, length, take, drop, map, replicate, Option, Some, None, refl, ap, sym, subst, ◌∙◌, arith, get_or, true≢false}
-use Rattle.std.specs.Prelude.{if◌then◌else◌, is_some}
-use Rattle.std.specs.List.{slice_range}
-use Rattle.std.proofs.Math.Seq.{take-add}
-use Rattle.std.proofs.lemmas.List.{take_more, take_all, append-nil, drop-drop, get_or-take, get_or-drop, get_or-replicate, length-map}
-use Rattle.std.proofs.lemmas.List.Concat.{flat_map-append}
-use Rattle.sel_bits.specs.Bits.{Bits}
-use Rattle.sel_bits.specs.Offsets.{IsRising}
+use Rattle.sel_gather.proofs.Common.{All-map, ◌≡◌, All, ℕ, zero, suc, ◌+◌, ◌-◌, ◌≤◌, ◌<◌, pos, Bool, true, false, List, [], ◌∷◌, ◌++◌, length, take, drop, map}
+use Rattle.sel_gather.proofs.Common.{replicate, Option, Some, None, refl, ap, sym, subst, ◌∙◌, arith, get_or, true≢false, if◌then◌else◌, is_some, slice_range}
+use Rattle.sel_gather.proofs.Common.{take-add, take_more, take_all, append-nil, drop-drop, get_or-take, get_or-drop, get_or-replicate, length-map}
+use Rattle.sel_gather.proofs.Common.{flat_map-append, Bits, IsRising, binary_rows, Covers, valid_at, byte_rows, last_offset, rows_between, Value, Null, Bytes}
+use Rattle.sel_gather.proofs.Common.{is_valid, validities, length-byte_rows, null_bytes, valid_bytes, length-part, cleared, IsLive, ends_from, bytes_of}
+use Rattle.sel_gather.proofs.Common.{joined_bytes, byte_count, bytes_needed, found, pick, PickFits, picks_of, unrolled, unrolled_from, Run}
 use Rattle.sel_bits.specs.declared.native.NativeType.{Ghosts}
-use Rattle.sel_arrow.specs.Columns.{binary_rows}
 use Rattle.sel_arrow.specs.declared.binary.BinaryArray.{BinaryArray}
-use Rattle.sel_arrow.specs.Masked.{Covers, valid_at}
-use Rattle.sel_arrow.specs.Pieces.{byte_rows, last_offset, rows_between}
-use Rattle.sel_arrow.specs.Value.{Value, Null, Bytes, is_valid, validities}
-use Rattle.sel_arrow.proofs.ByteRows.{length-byte_rows, null_bytes, valid_bytes}
-use Rattle.sel_arrow.proofs.Rows.{length-part}
-use Rattle.sel_gather.specs.Cleared.{cleared, IsLive}
-use Rattle.sel_gather.specs.JoinedBytes.{ends_from}
-use Rattle.sel_gather.specs.GrownBytes.{bytes_of, joined_bytes}
-use Rattle.sel_gather.specs.Need.{byte_count, bytes_needed}
-use Rattle.sel_gather.specs.Picks.{found, pick, PickFits}
-use Rattle.sel_gather.specs.Runs.{picks_of, unrolled, unrolled_from}
-use Rattle.sel_gather.specs.declared.runs.Run.{Run}
-use Rattle.sel_gather.proofs.Grown.{source_rows}
-use Rattle.sel_gather.proofs.RunLists.{run_there, pick_run}
-use Rattle.sel_gather.proofs.SplitRuns.{null_bits}
 use Rattle.sel_gather.proofs.JoinedRows.{ends-append, length-joined, needed-append, needed_part}
+use Rattle.sel_gather.proofs.{SplitRuns.bit_at, SplitRuns.null_bits, Gathers.map-replicate, Grown.source_rows, RunLists.run_there, RunLists.pick_run}
 
 -- ---- contiguous parts of a list
 
@@ -64,7 +47,7 @@ live_part column start len inside live = record {
   live = live;
 }
 
-module _ (offsets bytes : List ℕ) (validity : Option Bits) (start len : ℕ) (given : LivePart offsets bytes validity start len) where
+module _ {offsets bytes : List ℕ} {validity : Option Bits} {start len : ℕ} (given : LivePart offsets bytes validity start len) where
   abbrev part : List Value
   part = take len (drop start (byte_rows offsets bytes validity))
 
@@ -81,12 +64,7 @@ module _ (offsets bytes : List ℕ) (validity : Option Bits) (start len : ℕ) (
   place i h = get_or-take len (drop start (byte_rows offsets bytes validity)) i Null h ∙ get_or-drop start (byte_rows offsets bytes validity) i Null
 
   there : (i : ℕ) → i < len → is_valid (get_or part i Null) ≡ true
-  there i h = read part i ∙ ap (λ l. get_or l i false) given.live ∙ get_or-replicate len i true false h
-    where
-      read : (vs : List Value) (i : ℕ) → is_valid (get_or vs i Null) ≡ get_or (validities vs) i false
-      read [] i = refl
-      read (v ∷ vs) zero = refl
-      read (v ∷ vs) (suc i) = read vs i
+  there i h = sym (bit_at part i) ∙ ap (λ l. get_or l i false) given.live ∙ get_or-replicate len i true false h
 
   row : (i : ℕ) → i < len → get_or part i Null ≡ Bytes (slice_range bytes (at i) (at (i + 1)))
   row i h = place i h ∙ by (valid_at validity (start + i)) refl
@@ -167,8 +145,7 @@ nulls_ends before (suc n) =
     rw same (ap (λ l. before ∷ l) (nulls_ends before n))
 
 pub same_ends : (n before : ℕ) → map pos (replicate n before) ≡ replicate n (pos before)
-same_ends zero before = refl
-same_ends (suc n) before = ap (λ l. pos before ∷ l) (same_ends n before)
+same_ends n before = map-replicate pos n before
 
 module _ (xss : List (List Value)) where
   pub live_rows : (s a n : ℕ) → All (IsLive xss) (picks_of s a n) → validities (pick Null xss (picks_of s a n)) ≡ replicate n true
@@ -212,9 +189,7 @@ module _ (xss : List (List Value)) where
       by false e = tt
 
   pub cleared_live : (ps : List (Option (ℕ × ℕ))) → All (IsLive xss) (map (cleared xss) ps)
-  cleared_live [] k d h = absurd (omega (arith, h))
-  cleared_live (p ∷ ps) zero d h = live_one p
-  cleared_live (p ∷ ps) (suc k) d h = cleared_live ps k d (omega (arith, h))
+  cleared_live ps = All-map (IsLive xss) (cleared xss) ps (λ k d h. live_one (get_or ps k d))
 
   fit_one : (p : Option (ℕ × ℕ)) → PickFits xss p → PickFits xss (cleared xss p)
   fit_one None fits = tt
@@ -225,9 +200,7 @@ module _ (xss : List (List Value)) where
       by false = tt
 
   pub cleared_fits : (ps : List (Option (ℕ × ℕ))) → All (PickFits xss) ps → All (PickFits xss) (map (cleared xss) ps)
-  cleared_fits [] fits k d h = absurd (omega (arith, h))
-  cleared_fits (p ∷ ps) fits zero d h = fit_one p (fits 0 p (omega arith))
-  cleared_fits (p ∷ ps) fits (suc k) d h = cleared_fits ps (λ i e more. fits (suc i) e (omega (arith, more))) k d (omega (arith, h))
+  cleared_fits ps fits = All-map (PickFits xss) (cleared xss) ps (λ k d h. fit_one (get_or ps k d) (fits k d h))
 
 -- ---- the source of a run that is not empty
 

@@ -1,35 +1,14 @@
 -- Gathered lists that are read once.
-use Rattle.std.proofs.Common.{◌≡◌, ◌≢◌, All, Bor, ℤ, pos, ℕ, zero, suc, ◌+◌, ◌≤◌, ◌<◌, true, false, List, [], ◌∷◌, ◌++◌, length, take, drop, map, get_or, Option, Some, None, refl, ap, sym, subst, ◌∙◌, arith, length-append}
-use Rattle.std.specs.Option.{ForSome}
-use Rattle.std.specs.Prelude.{Result}
-use Rattle.std.proofs.Math.Seq.{take-add}
-use Rattle.std.proofs.lemmas.List.{get_or-map, map-append, take-append-drop, take-append-le, drop-append-le, take_all, drop_all, length-drop, get_or-replicate}
-use Rattle.sel_bits.specs.Bits.{Bits}
-use Rattle.sel_bits.specs.Limits.{max_rows}
-use Rattle.sel_bits.specs.declared.faults.Limit.{Limit}
-use Rattle.sel_bits.specs.declared.faults.Limit.TheVariants.{Rows as RowLimit, Bytes as ByteLimit, Buffers as BufferLimit, ViewBytes}
-use Rattle.sel_bits.specs.declared.faults.PolarsError.{PolarsError}
-use Rattle.sel_arrow.specs.Masked.{valid_at}
-use Rattle.sel_arrow.specs.Nulls.{IsValidityOf}
-use Rattle.sel_arrow.specs.Rows.{rows, type_of, IsWellFormed}
-use Rattle.sel_arrow.specs.Shape.{Shape, of_null, of_fixed_size_list, of_large_list}
-use Rattle.sel_arrow.specs.Value.{Value, Null, is_valid, validities}
-use Rattle.sel_arrow.specs.declared.column.Column.{Column}
-use Rattle.sel_gather.specs.Children.{child, is_listing, joined_items}
-use Rattle.sel_gather.specs.Ends.{item_ends}
-use Rattle.sel_gather.specs.Gathers.{Collects, MayGather}
-use Rattle.sel_gather.specs.Need.{ExceedsRows}
-use Rattle.sel_gather.specs.Picks.{found, pick, PickFits}
-use Rattle.sel_gather.specs.Plans.{HasBit, bits_found}
-use Rattle.sel_gather.specs.Steps.{AreValidities}
-use Rattle.sel_gather.specs.Runs.{unrolled}
-use Rattle.sel_gather.specs.Sources.{columns_of}
-use Rattle.sel_gather.specs.declared.runs.Run.{Run}
-use Rattle.sel_gather.proofs.Below.{Recurses, block_child_type, child_type, items_recurse, mapped_now}
-use Rattle.sel_gather.proofs.Gathers.{left_behind}
-use Rattle.sel_gather.proofs.ItemRuns.{rows_of, below_of, joined-append, ends-append}
-use Rattle.sel_gather.proofs.RunLists.{All-left, length-unrolled}
-use Rattle.sel_gather.proofs.SplitRuns.{told_bits, told_length, told_valid}
+use Rattle.sel_gather.proofs.Common.{take-map, ◌≡◌, ◌≢◌, All, Bor, ℤ, pos, ℕ, zero, suc, ◌+◌, ◌≤◌, ◌<◌, true, false, List, [], ◌∷◌, ◌++◌, length, take, drop}
+use Rattle.sel_gather.proofs.Common.{map, get_or, Option, Some, None, refl, ap, sym, subst, ◌∙◌, arith, length-append, ForSome, Result, take-add, get_or-map}
+use Rattle.sel_gather.proofs.Common.{map-append, take-append-le, drop-append-le, take_all, drop_all, length-drop, get_or-replicate, Bits, max_rows, Limit}
+use Rattle.sel_gather.proofs.Common.{RowLimit, PolarsError, valid_at, IsValidityOf, rows, type_of, IsWellFormed, Shape, of_null, of_fixed_size_list}
+use Rattle.sel_gather.proofs.Common.{of_large_list, Value, Null, is_valid, validities, Column, child, is_listing, joined_items, item_ends, Collects, MayGather}
+use Rattle.sel_gather.proofs.Common.{ExceedsRows, found, pick, PickFits, HasBit, bits_found, AreValidities, unrolled, columns_of, Run}
+use Rattle.sel_gather.proofs.ItemRuns.{joined_part, rows_of, below_of, joined-append, ends-append}
+use Rattle.sel_gather.proofs.Below.{Recurses, child_type, items_recurse, mapped_now}
+use Rattle.sel_gather.proofs.{Gathers.left_behind, RunLists.All-left, RunLists.length-unrolled, SplitRuns.told_bits, SplitRuns.told_length}
+use Rattle.sel_gather.proofs.{SplitRuns.told_valid}
 
 -- ---- the row references of the next run
 
@@ -85,31 +64,30 @@ ends_behind now before more end old new is e f g =
 
 -- A prefix of the lists has at most as many child rows as all lists.
 pub joined_first : (w : ℕ) (xss : List (List Value)) (ps : List (Option (ℕ × ℕ))) (k : ℕ) → length (joined_items w (pick Null xss (take k ps))) ≤ length (joined_items w (pick Null xss ps))
-joined_first w xss ps k =
-    let split = ap (pick Null xss) (sym (take-append-drop k ps)) ∙ map-append (found Null xss) (take k ps) (drop k ps) in
-    let whole = ap length (items_behind w (pick Null xss ps) (pick Null xss (take k ps)) (pick Null xss (drop k ps)) split) ∙ length-append (joined_items w (pick Null xss (take k ps))) (joined_items w (pick Null xss (drop k ps))) in
-    omega (arith, whole)
+joined_first w xss ps k = rw (← take-map) (joined_part w (pick Null xss ps) k)
 
 pub past_more : (m n : ℕ) → m ≤ n → (limit : Limit) → ExceedsRows m limit → ExceedsRows n limit
 past_more m n le RowLimit h = omega (arith, le, h)
-past_more m n le ByteLimit h = h
-past_more m n le BufferLimit h = h
-past_more m n le ViewBytes h = h
+past_more m n le _ h = h
 
 -- ---- the validities of the sources
 
-told_row : (s : Shape) (v : Option Bits) (vs : List Value) (i : ℕ) → s ≢ of_null → IsValidityOf s v vs → i < length vs → valid_at v i ≡ is_valid (get_or vs i Null)
+pub told_row : (s : Shape) (v : Option Bits) (vs : List Value) (i : ℕ) → s ≢ of_null → IsValidityOf s v vs → i < length vs → valid_at v i ≡ is_valid (get_or vs i Null)
 told_row s None vs i other tells h =
     sym (get_or-replicate (length vs) i true false h) ∙ ap (λ l. get_or l i false) (sym (told_valid s None vs other tells refl)) ∙ get_or-map is_valid vs i Null false h
 told_row s (Some b) vs i other tells h =
     ap (λ l. get_or l i false) (sym (told_bits s (Some b) vs other tells b refl)) ∙ get_or-map is_valid vs i Null false h
 
-told_found : (vs : List (Option Bits)) (cs : List (Bor Column)) (s i : ℕ) → AreValidities vs (columns_of cs) → All (λ c. type_of c.now ≢ of_null) cs → i < length (get_or (rows_of cs) s []) →
-    valid_at (get_or vs s None) i ≡ is_valid (get_or (get_or (rows_of cs) s []) i Null)
-told_found vs [] s i told known h = absurd (omega (arith, h))
-told_found [] (c ∷ cs) s i told known h = absurd told
-told_found (v ∷ vs) (c ∷ cs) zero i told known h = told_row (type_of c.now) v (rows c.now) i (known 0 c (omega arith)) told.0 h
-told_found (v ∷ vs) (c ∷ cs) (suc s) i told known h = told_found vs cs s i told.1 (λ k d below. known (suc k) d (omega (arith, below))) h
+told_at : (vs : List (Option Bits)) (cs : List (Bor Column)) (s i : ℕ) → AreValidities vs (columns_of cs) → All (λ c. type_of c.now ≢ of_null) cs → i < length (get_or (rows_of cs) s []) →
+    (valid_at (get_or vs s None) i ≡ is_valid (get_or (get_or (rows_of cs) s []) i Null)) × (s < length vs) × ForSome (get_or vs s None) (λ b. i < length b.bits)
+told_at vs [] s i told known h = absurd (omega (arith, h))
+told_at [] (c ∷ cs) s i told known h = absurd told
+told_at (v ∷ vs) (c ∷ cs) zero i told known h =
+    let other = known 0 c (omega arith) in
+    (told_row (type_of c.now) v (rows c.now) i other told.0 h, omega arith, λ b is. omega (arith, h, told_length (type_of c.now) v (rows c.now) other told.0 b is))
+told_at (v ∷ vs) (c ∷ cs) (suc s) i told known h =
+    let rest = told_at vs cs s i told.1 (λ k d below. known (suc k) d (omega (arith, below))) h in
+    (rest.0, omega (arith, rest.1), rest.2)
 
 -- The gathered validity bits are the validity of the gathered rows.
 pub told_picked : (vs : List (Option Bits)) (cs : List (Bor Column)) (ps : List (Option (ℕ × ℕ))) → AreValidities vs (columns_of cs) → All (λ c. type_of c.now ≢ of_null) cs → All (PickFits (rows_of cs)) ps →
@@ -117,25 +95,17 @@ pub told_picked : (vs : List (Option Bits)) (cs : List (Bor Column)) (ps : List 
 told_picked vs cs [] told known fits = refl
 told_picked vs cs (None ∷ ps) told known fits = ap (λ l. false ∷ l) (told_picked vs cs ps told known (λ k d h. fits (suc k) d (omega (arith, h))))
 told_picked vs cs (Some p ∷ ps) told known fits =
-    let here = told_found vs cs p.0 p.1 told known (fits 0 None (omega arith)) in
+    let here = (told_at vs cs p.0 p.1 told known (fits 0 None (omega arith))).0 in
     let rest = told_picked vs cs ps told known (λ k d h. fits (suc k) d (omega (arith, h))) in
     (λ i. here i ∷ rest i)
 
-told_bit : (vs : List (Option Bits)) (cs : List (Bor Column)) (s i : ℕ) → AreValidities vs (columns_of cs) → All (λ c. type_of c.now ≢ of_null) cs → i < length (get_or (rows_of cs) s []) →
-    (s < length vs) × ForSome (get_or vs s None) (λ b. i < length b.bits)
-told_bit vs [] s i told known h = absurd (omega (arith, h))
-told_bit [] (c ∷ cs) s i told known h = absurd told
-told_bit (v ∷ vs) (c ∷ cs) zero i told known h = (omega arith, λ b is. omega (arith, h, told_length (type_of c.now) v (rows c.now) (known 0 c (omega arith)) told.0 b is))
-told_bit (v ∷ vs) (c ∷ cs) (suc s) i told known h =
-    let rest = told_bit vs cs s i told.1 (λ k d below. known (suc k) d (omega (arith, below))) h in
-    (omega (arith, rest.0), rest.1)
-
 -- Row references that fit the rows refer to bits of these validities.
 pub told_fits : (vs : List (Option Bits)) (cs : List (Bor Column)) (ps : List (Option (ℕ × ℕ))) → AreValidities vs (columns_of cs) → All (λ c. type_of c.now ≢ of_null) cs → All (PickFits (rows_of cs)) ps → All (HasBit vs) ps
-told_fits vs cs [] told known fits k d h = absurd (omega (arith, h))
-told_fits vs cs (None ∷ ps) told known fits zero d h = tt
-told_fits vs cs (Some p ∷ ps) told known fits zero d h = told_bit vs cs p.0 p.1 told known (fits 0 d (omega arith))
-told_fits vs cs (p ∷ ps) told known fits (suc k) d h = told_fits vs cs ps told known (λ j e below. fits (suc j) e (omega (arith, below))) k d (omega (arith, h))
+told_fits vs cs ps told known fits k d h = by (get_or ps k d) (fits k d h)
+  where
+    by : (p : Option (ℕ × ℕ)) → PickFits (rows_of cs) p → HasBit vs p
+    by None there = tt
+    by (Some p) there = let at = told_at vs cs p.0 p.1 told known there in (at.1, at.2)
 
 -- One more validity.
 pub told_more : (vs new : List (Option Bits)) (cs : List Column) (v : Option Bits) (c : Column) → AreValidities vs cs → IsValidityOf (type_of c) v (rows c) → new ≡ vs ++ v ∷ [] → AreValidities new (cs ++ c ∷ [])
@@ -165,12 +135,6 @@ lists_known s cs alike k d h none = let bad : of_large_list s ≡ of_null = sym 
 
 pub blocks_known : (s : Shape) (w : ℕ) (cs : List (Bor Column)) → All (λ c. type_of c.now ≡ of_fixed_size_list s w) cs → All (λ c. type_of c.now ≢ of_null) cs
 blocks_known s w cs alike k d h none = let bad : of_fixed_size_list s w ≡ of_null = sym (alike k d h) ∙ none in absurd cc
-
-pub blocks_child : (s : Shape) (w : ℕ) (cs : List (Bor Column)) → All (λ c. type_of c.now ≡ of_fixed_size_list s w) cs → All (λ c. type_of (child c.now) ≡ s) cs
-blocks_child s w cs alike = λ k d h. block_child_type (get_or cs k d).now s w (alike k d h)
-
-pub blocks_listing : (s : Shape) (w : ℕ) (cs : List (Bor Column)) → All (λ c. type_of c.now ≡ of_fixed_size_list s w) cs → All (λ c. is_listing (type_of c.now) ≡ true) cs
-blocks_listing s w cs alike = λ k d h. ap is_listing (alike k d h)
 
 pub lists_child : (s : Shape) (cs : List (Bor Column)) → All (λ c. type_of c.now ≡ of_large_list s) cs → All (λ c. type_of (child c.now) ≡ s) cs
 lists_child s cs alike = λ k d h. child_type (get_or cs k d).now s (alike k d h)

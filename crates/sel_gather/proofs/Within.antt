@@ -1,28 +1,16 @@
 -- If a column is returned, no limit is exceeded.
-use Rattle.std.proofs.Common.{◌≡◌, ◌⊎◌, inl, inr, ℕ, suc, ◌+◌, ◌≤◌, ◌<◌, true, List, [], ◌∷◌, length, map, sym, subst, arith, get_or}
-use Rattle.std.proofs.lemmas.Bool.{cases_lt}
-use Rattle.sel_bits.specs.Limits.{max_buffers, max_rows}
-use Rattle.sel_bits.specs.declared.faults.Limit.{Limit}
-use Rattle.sel_bits.specs.declared.faults.Limit.TheVariants.{Rows as RowLimit, Bytes as ByteLimit, Buffers as BufferLimit, ViewBytes}
-use Rattle.sel_arrow.specs.Rows.{rows, type_of, well_formed}
-use Rattle.sel_arrow.specs.Shape.{Shape, of_null, shapes_of}
-use Rattle.sel_arrow.specs.Value.{Value}
-use Rattle.sel_arrow.specs.declared.column.Column.{Column}
-use Rattle.sel_gather.specs.Children.{field, part_at}
-use Rattle.sel_gather.specs.Need.{ExceedsRows, ExceedsBuffers, ExceedsNone, exceeded_limits, exceeded_taken, exceeded_in_fields}
+use Rattle.sel_gather.proofs.Common.{◌≡◌, ◌⊎◌, inl, inr, ℕ, suc, ◌+◌, ◌≤◌, ◌<◌, true, List, [], ◌∷◌, length, map, sym, subst, arith, get_or, cases_lt}
+use Rattle.sel_gather.proofs.Common.{max_buffers, max_rows, Limit, RowLimit, BufferLimit, rows, type_of, well_formed, Shape, of_null, shapes_of, Value, Column}
+use Rattle.sel_gather.proofs.Common.{field, part_at, ExceedsRows, ExceedsBuffers, ExceedsNone, exceeded_limits, exceeded_taken, exceeded_in_fields}
 use Rattle.sel_gather.proofs.Thinned.{whole_fits}
 
 pub few_rows_pass : (n : ℕ) → n ≤ max_rows → ExceedsNone (ExceedsRows n)
 few_rows_pass n few RowLimit h = absurd (omega (arith, few, h))
-few_rows_pass n few ByteLimit h = h
-few_rows_pass n few BufferLimit h = h
-few_rows_pass n few ViewBytes h = h
+few_rows_pass n few _ h = h
 
 pub few_buffers_pass : (n : ℕ) → n ≤ max_buffers → ExceedsNone (ExceedsBuffers n)
-few_buffers_pass n few RowLimit h = h
-few_buffers_pass n few ByteLimit h = h
 few_buffers_pass n few BufferLimit h = absurd (omega (arith, few, h))
-few_buffers_pass n few ViewBytes h = h
+few_buffers_pass n few _ h = h
 
 pub passes_neither : (P Q : Limit → Type 0) → ExceedsNone P → ExceedsNone Q → ExceedsNone (λ limit. P limit ⊎ Q limit)
 passes_neither P Q p q limit (inl h) = p limit h

@@ -23,6 +23,14 @@ pub record MayGather (sources : List (Bor Column)) (picks : List (Option (ℕ ×
   pub len : length picks ≡ count
   pub few : count ≤ max_rows
 
+-- The sources are well-formed columns of this type, and each reference is null or refers to a row of
+-- a source.
+pub record MayGatherAs (sources : List (Bor Column)) (shape : Shape) (picks : List (Option (ℕ × ℕ)))
+    : Type 0 where
+  pub alike : All (λ c. type_of c.now ≡ shape) sources
+  pub formed : All (λ c. IsWellFormed c.now) sources
+  pub fits : All (PickFits (rows_of sources)) picks
+
 -- A column of this type with these rows, which exceed no limit; or an error: out of memory, or a
 -- limit that they exceed.
 pub record Selects (result : Result ArrayRef PolarsError) (shape : Shape) (values : List Value)

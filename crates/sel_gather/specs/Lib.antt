@@ -13,5 +13,6 @@ pub mod Raised
 pub mod RunRows
 pub mod Runs
 pub mod Sources
+pub mod Spans
 pub mod Steps
 pub mod Validity

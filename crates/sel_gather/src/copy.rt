@@ -17,11 +17,12 @@ use crate::binary::collect_binary;
 use crate::boolean::gather_boolean;
 use crate::list_walk::walk_lists;
 use crate::lists::{child_of, child_runs, children_of, count_items};
+use crate::match_number_types;
 use crate::nested::{blocks_over, lists_over, struct_over};
 use crate::null::collect_null;
 use crate::primitive::gather_primitive;
 use crate::run_refs::RunRefs;
-use crate::runs::Run;
+use crate::runs::{NO_ROWS, Run};
 use crate::structs::{fields_at, split_runs};
 use crate::typed_arrays::{binaries_of, texts_of, views_of};
 use crate::view::collect_views;
@@ -74,27 +75,18 @@ fn collect_like<'a>(
         (picked sources.now runs.now) }
 {
     let plan = &RunRefs {
-        first: Run {
-            source: Some(0),
-            start: 0,
-            len: 0,
-        },
+        first: NO_ROWS,
         rest: runs,
         left: len,
     };
-    match first {
+    macro_rules! gather {
+        ($number:ty) => {
+            gather_primitive::<RunRefs, $number>(alloc, sources, plan)
+        };
+    }
+    match_number_types! { first, gather,
         Column::Null(_) => Ok(collect_null(sources, runs, len)),
         Column::Boolean(_) => gather_boolean(alloc, sources, plan),
-        Column::Int8(_) => gather_primitive::<RunRefs, i8>(alloc, sources, plan),
-        Column::Int16(_) => gather_primitive::<RunRefs, i16>(alloc, sources, plan),
-        Column::Int32(_) => gather_primitive::<RunRefs, i32>(alloc, sources, plan),
-        Column::Int64(_) => gather_primitive::<RunRefs, i64>(alloc, sources, plan),
-        Column::Int128(_) => gather_primitive::<RunRefs, i128>(alloc, sources, plan),
-        Column::UInt8(_) => gather_primitive::<RunRefs, u8>(alloc, sources, plan),
-        Column::UInt16(_) => gather_primitive::<RunRefs, u16>(alloc, sources, plan),
-        Column::UInt32(_) => gather_primitive::<RunRefs, u32>(alloc, sources, plan),
-        Column::UInt64(_) => gather_primitive::<RunRefs, u64>(alloc, sources, plan),
-        Column::UInt128(_) => gather_primitive::<RunRefs, u128>(alloc, sources, plan),
         Column::LargeBinary(_) => collect_large_binary(alloc, sources, runs, len),
         Column::BinaryView(_) => collect_binview(alloc, sources, runs, len),
         Column::Utf8View(_) => collect_utf8view(alloc, sources, runs, len),
@@ -122,11 +114,7 @@ fn collect_lists<'a>(
         (picked sources.now runs.now) }
 {
     let plan = RunRefs {
-        first: Run {
-            source: Some(0),
-            start: 0,
-            len: 0,
-        },
+        first: NO_ROWS,
         rest: runs,
         left: len,
     };
@@ -190,11 +178,7 @@ fn collect_blocks<'a>(
     }
     let values = collect_items(alloc, child, sources, runs, size as u32, need as usize)?;
     let plan = RunRefs {
-        first: Run {
-            source: Some(0),
-            start: 0,
-            len: 0,
-        },
+        first: NO_ROWS,
         rest: runs,
         left: len,
     };

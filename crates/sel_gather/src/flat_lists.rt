@@ -1,26 +1,29 @@
 //! Lists of integers or booleans, gathered without a list of the runs of their items.
 
-ghost use Rattle.std.specs.Prelude.{◌≡◌, ◌≤◌, ◌*◌, ◌∷◌, All, length, map, pos, true, IfOk, IfErr, IfSome};
-ghost use Rattle.sel_bits.specs.Faults.{IsOutOfMemory};
+ghost use Rattle.std.specs.Prelude.{◌≡◌, ◌≤◌, ◌*◌, ◌∷◌, All, length, map, pos, true, IfOk, IfErr};
 ghost use Rattle.sel_bits.specs.Limits.{max_rows};
-ghost use Rattle.sel_arrow.specs.Rows.{rows, type_of, IsWellFormed};
+ghost use Rattle.sel_arrow.specs.Rows.{type_of, IsWellFormed};
 ghost use Rattle.sel_arrow.specs.Shape.{of_fixed_size_list, of_large_list};
 ghost use Rattle.sel_arrow.specs.Value.{Null};
 ghost use Rattle.sel_gather.specs.Children.{child, is_listing, joined_items};
 ghost use Rattle.sel_gather.specs.Ends.{item_ends};
-ghost use Rattle.sel_gather.specs.Gathers.{CollectsSome};
+ghost use Rattle.sel_gather.specs.Gathers.{MayGatherAs, CollectsSome};
 ghost use Rattle.sel_gather.specs.Need.{ExceedsRows, IsLimitOrMemory};
 ghost use Rattle.sel_gather.specs.Picks.{pick, PickFits};
 ghost use Rattle.sel_gather.specs.Sources.{columns_of, rows_of};
+ghost use Rattle.sel_gather.specs.Spans.{AreStarts};
 
 use crate::boolean::gather_boolean;
 use crate::item_refs::ItemRefs;
 use crate::lists::{child_of, children_of, run_of_list};
+use crate::match_number_types;
 use crate::nested::{blocks_over, lists_over};
 use crate::primitive::gather_primitive;
 use crate::row_refs::Plan;
-use crate::runs::Run;
+use crate::runs::NO_ROWS;
+use crate::spans::{SpanRefs, list_spans};
 use sel_arrow::column::Column;
+use sel_arrow::match_numbers;
 use sel_bits::faults::{Limit, PolarsError, PolarsResult};
 use std::alloc::Global;
 
@@ -38,9 +41,7 @@ pub(crate) fn gather_flat_lists<'a, P: Plan>(
     plan: &P,
 ) -> PolarsResult<Option<Column>>
     requires child { IsWellFormed child.now }
-    requires alike { All (λ c. type_of c.now ≡ of_large_list (type_of child.now)) sources.now }
-    requires formed { All (λ c. IsWellFormed c.now) sources.now }
-    requires fits { All (PickFits (rows_of sources.now)) (P.picks plan.now) }
+    requires may { MayGatherAs sources.now (of_large_list (type_of child.now)) (P.picks plan.now) }
     ensures { CollectsSome result (of_large_list (type_of child.now))
         (columns_of sources.now) (pick Null (rows_of sources.now) (P.picks plan.now)) }
 {
@@ -53,6 +54,74 @@ pub(crate) fn gather_flat_lists<'a, P: Plan>(
     };
     let column = lists_over(alloc, values, ends, sources, plan)?;
     Ok(Some(column))
+}
+
+/// Returns the lists at the row references of a plan, if there is one source and their items are
+/// integers or booleans. Returns none otherwise.
+///
+/// Each list is read once, in the order of the row references, which may be random: its start is
+/// kept, and its length follows from the offsets of the result.
+///
+/// # Errors
+/// `OutOfMemory`; `SizeLimit(Limit::Rows)` if there would be more than 2^32 - 1 items.
+pub(crate) fn gather_spanned_lists<'a, P: Plan>(
+    alloc: Global,
+    child: &Column,
+    sources: &'a [&'a Column],
+    plan: &P,
+) -> PolarsResult<Option<Column>>
+    requires child { IsWellFormed child.now }
+    requires may { MayGatherAs sources.now (of_large_list (type_of child.now)) (P.picks plan.now) }
+    ensures { CollectsSome result (of_large_list (type_of child.now))
+        (columns_of sources.now) (pick Null (rows_of sources.now) (P.picks plan.now)) }
+{
+    if sources.len() != 1 || !is_flat(child) {
+        return Ok(None);
+    }
+    let (ends, starts, need) = list_spans(alloc, sources, plan)?;
+    let Some(values) = gather_spans(alloc, child, sources, plan, &ends, &starts, need)? else {
+        return Ok(None);
+    };
+    drop(starts);
+    let column = lists_over(alloc, values, ends, sources, plan)?;
+    Ok(Some(column))
+}
+
+// Returns the `need` items of the lists at the row references of a plan, which begin at `starts` in
+// the child of the only source and end at `ends` in the result; none if `gather_flat` does not
+// gather their type. Errors: `OutOfMemory`.
+fn gather_spans<'a, P: Plan>(
+    alloc: Global,
+    first: &Column,
+    sources: &'a [&'a Column],
+    _plan: &P,
+    ends: &[i64],
+    starts: &[u32],
+    need: usize,
+) -> PolarsResult<Option<Column>>
+    requires one { length sources.now ≡ 1 }
+    requires lists { All (λ c. is_listing (type_of c.now) ≡ true) sources.now }
+    requires alike { All (λ c. type_of (child c.now) ≡ type_of first.now) sources.now }
+    requires formed { All (λ c. IsWellFormed c.now) sources.now }
+    requires fits { All (PickFits (rows_of sources.now)) (P.picks _plan.now) }
+    requires ends { ends.now ≡
+        map pos (0 ∷ item_ends 0 (pick Null (rows_of sources.now) (P.picks _plan.now))) }
+    requires starts { AreStarts sources.now (P.picks _plan.now) starts.now }
+    requires need { need ≡
+        length (joined_items 0 (pick Null (rows_of sources.now) (P.picks _plan.now))) }
+    requires few { need ≤ max_rows }
+    ensures { CollectsSome result (type_of first.now) (map child (columns_of sources.now))
+        (joined_items 0 (pick Null (rows_of sources.now) (P.picks _plan.now))) }
+{
+    let items = &SpanRefs {
+        first: NO_ROWS,
+        starts,
+        ends: &ends[1..],
+        at: 0,
+        left: need,
+    };
+    let children = [child_of(sources[0])];
+    gather_flat(alloc, first, &children, items)
 }
 
 /// Returns the fixed-size lists at the row references of a plan, if their items are integers or
@@ -69,10 +138,8 @@ pub(crate) fn gather_flat_blocks<'a, P: Plan>(
 ) -> PolarsResult<Option<Column>>
     requires narrow { size ≤ max_rows }
     requires child { IsWellFormed child.now }
-    requires alike { All (λ c. type_of c.now ≡
-        of_fixed_size_list (type_of child.now) size) sources.now }
-    requires formed { All (λ c. IsWellFormed c.now) sources.now }
-    requires fits { All (PickFits (rows_of sources.now)) (P.picks plan.now) }
+    requires may { MayGatherAs sources.now (of_fixed_size_list (type_of child.now) size)
+        (P.picks plan.now) }
     ensures { CollectsSome result (of_fixed_size_list (type_of child.now) size)
         (columns_of sources.now) (pick Null (rows_of sources.now) (P.picks plan.now)) }
 {
@@ -92,18 +159,8 @@ pub(crate) fn gather_flat_blocks<'a, P: Plan>(
 
 // Returns whether `gather_flat` gathers columns of this type. No contract depends on the result.
 fn is_flat(column: &Column) -> bool {
-    match column {
-        Column::Boolean(_)
-        | Column::Int8(_)
-        | Column::Int16(_)
-        | Column::Int32(_)
-        | Column::Int64(_)
-        | Column::Int128(_)
-        | Column::UInt8(_)
-        | Column::UInt16(_)
-        | Column::UInt32(_)
-        | Column::UInt64(_)
-        | Column::UInt128(_) => true,
+    match_numbers! { column, _numbers => true,
+        Column::Boolean(_) => true,
         _ => false,
     }
 }
@@ -164,11 +221,7 @@ fn gather_items<'a, P: Plan>(
         (joined_items width (pick Null (rows_of sources.now) (P.picks plan.now))) }
 {
     let items = &ItemRefs {
-        first: Run {
-            source: Some(0),
-            start: 0,
-            len: 0,
-        },
+        first: NO_ROWS,
         lists: plan.again(),
         sources,
         width,
@@ -195,18 +248,13 @@ fn gather_flat<'a, P: Plan>(
     ensures { CollectsSome result (type_of first.now)
         (columns_of sources.now) (pick Null (rows_of sources.now) (P.picks plan.now)) }
 {
-    let column = match first {
+    macro_rules! gather {
+        ($number:ty) => {
+            gather_primitive::<P, $number>(alloc, sources, plan)?
+        };
+    }
+    let column = match_number_types! { first, gather,
         Column::Boolean(_) => gather_boolean(alloc, sources, plan)?,
-        Column::Int8(_) => gather_primitive::<P, i8>(alloc, sources, plan)?,
-        Column::Int16(_) => gather_primitive::<P, i16>(alloc, sources, plan)?,
-        Column::Int32(_) => gather_primitive::<P, i32>(alloc, sources, plan)?,
-        Column::Int64(_) => gather_primitive::<P, i64>(alloc, sources, plan)?,
-        Column::Int128(_) => gather_primitive::<P, i128>(alloc, sources, plan)?,
-        Column::UInt8(_) => gather_primitive::<P, u8>(alloc, sources, plan)?,
-        Column::UInt16(_) => gather_primitive::<P, u16>(alloc, sources, plan)?,
-        Column::UInt32(_) => gather_primitive::<P, u32>(alloc, sources, plan)?,
-        Column::UInt64(_) => gather_primitive::<P, u64>(alloc, sources, plan)?,
-        Column::UInt128(_) => gather_primitive::<P, u128>(alloc, sources, plan)?,
         _ => return Ok(None),
     };
     Ok(Some(column))

@@ -9,14 +9,15 @@ ghost use Rattle.sel_bits.specs.Limits.{max_rows};
 ghost use Rattle.sel_arrow.specs.Rows.{type_of, IsWellFormed};
 ghost use Rattle.sel_arrow.specs.Shape.{of_fixed_size_list, of_large_list};
 ghost use Rattle.sel_arrow.specs.Value.{Null};
-ghost use Rattle.sel_gather.specs.Gathers.{Collects, GathersFrom, MayGather};
+ghost use Rattle.sel_gather.specs.Gathers.{MayGatherAs, Collects, GathersFrom, MayGather};
 ghost use Rattle.sel_gather.specs.Picks.{pick, PickFits};
 ghost use Rattle.sel_gather.specs.Sources.{columns_of, first_type, rows_of};
 
 use crate::boolean::gather_boolean;
 use crate::copy::{collect_children, collect_runs};
-use crate::flat_lists::{gather_flat_blocks, gather_flat_lists};
+use crate::flat_lists::{gather_flat_blocks, gather_flat_lists, gather_spanned_lists};
 use crate::list_walk::walk_lists;
+use crate::match_number_types;
 use crate::nested::lists_over;
 use crate::primitive::gather_primitive;
 use crate::row_refs::{Listed, Plan, runs_of_plan};
@@ -123,9 +124,7 @@ fn gather_rising<'a, P: Plan>(
     requires kind { first_type (columns_of sources.now) ≡ type_of first.now }
     requires first { IsWellFormed first.now }
     requires some { 0 < length sources.now }
-    requires alike { All (λ c. type_of c.now ≡ type_of first.now) sources.now }
-    requires formed { All (λ c. IsWellFormed c.now) sources.now }
-    requires fits { All (PickFits (rows_of sources.now)) (P.picks plan.now) }
+    requires may { MayGatherAs sources.now (type_of first.now) (P.picks plan.now) }
     ensures { Collects result (type_of first.now)
         (columns_of sources.now) (pick Null (rows_of sources.now) (P.picks plan.now)) }
 {
@@ -143,9 +142,7 @@ fn gather_rising_lists<'a, P: Plan>(
     plan: &P,
 ) -> PolarsResult<Column>
     requires child { IsWellFormed child.now }
-    requires alike { All (λ c. type_of c.now ≡ of_large_list (type_of child.now)) sources.now }
-    requires formed { All (λ c. IsWellFormed c.now) sources.now }
-    requires fits { All (PickFits (rows_of sources.now)) (P.picks plan.now) }
+    requires may { MayGatherAs sources.now (of_large_list (type_of child.now)) (P.picks plan.now) }
     ensures { Collects result (of_large_list (type_of child.now))
         (columns_of sources.now) (pick Null (rows_of sources.now) (P.picks plan.now)) }
 {
@@ -165,24 +162,17 @@ fn gather_like<'a, P: Plan>(
     requires kind { first_type (columns_of sources.now) ≡ type_of first.now }
     requires first { IsWellFormed first.now }
     requires some { 0 < length sources.now }
-    requires alike { All (λ c. type_of c.now ≡ type_of first.now) sources.now }
-    requires formed { All (λ c. IsWellFormed c.now) sources.now }
-    requires fits { All (PickFits (rows_of sources.now)) (P.picks plan.now) }
+    requires may { MayGatherAs sources.now (type_of first.now) (P.picks plan.now) }
     ensures { Collects result (type_of first.now)
         (columns_of sources.now) (pick Null (rows_of sources.now) (P.picks plan.now)) }
 {
-    match first {
+    macro_rules! gather {
+        ($number:ty) => {
+            gather_primitive::<P, $number>(alloc, sources, plan)
+        };
+    }
+    match_number_types! { first, gather,
         Column::Boolean(_) => gather_boolean(alloc, sources, plan),
-        Column::Int8(_) => gather_primitive::<P, i8>(alloc, sources, plan),
-        Column::Int16(_) => gather_primitive::<P, i16>(alloc, sources, plan),
-        Column::Int32(_) => gather_primitive::<P, i32>(alloc, sources, plan),
-        Column::Int64(_) => gather_primitive::<P, i64>(alloc, sources, plan),
-        Column::Int128(_) => gather_primitive::<P, i128>(alloc, sources, plan),
-        Column::UInt8(_) => gather_primitive::<P, u8>(alloc, sources, plan),
-        Column::UInt16(_) => gather_primitive::<P, u16>(alloc, sources, plan),
-        Column::UInt32(_) => gather_primitive::<P, u32>(alloc, sources, plan),
-        Column::UInt64(_) => gather_primitive::<P, u64>(alloc, sources, plan),
-        Column::UInt128(_) => gather_primitive::<P, u128>(alloc, sources, plan),
         Column::LargeList { values, .. } => gather_lists(alloc, values, sources, plan),
         Column::FixedSizeList { size, values, .. } => {
             gather_blocks(alloc, *size, values, sources, plan)
@@ -198,9 +188,8 @@ fn collect_listed<'a, P: Plan>(
     plan: &P,
 ) -> PolarsResult<Column>
     requires some { 0 < length sources.now }
-    requires alike { All (λ c. type_of c.now ≡ first_type (columns_of sources.now)) sources.now }
-    requires formed { All (λ c. IsWellFormed c.now) sources.now }
-    requires fits { All (PickFits (rows_of sources.now)) (P.picks plan.now) }
+    requires may { MayGatherAs sources.now (first_type (columns_of sources.now))
+        (P.picks plan.now) }
     ensures { Collects result (first_type (columns_of sources.now))
         (columns_of sources.now) (pick Null (rows_of sources.now) (P.picks plan.now)) }
 {
@@ -231,6 +220,11 @@ pub fn gather_lists<'a, P: Plan>(
     ensures { Collects result (of_large_list (type_of child.now))
         (columns_of sources.now) (pick Null (rows_of sources.now) (P.picks plan.now)) }
 {
+    if !plan.is_wide() {
+        if let Some(column) = gather_spanned_lists(alloc, child, sources, plan)? {
+            return Ok(column);
+        }
+    }
     let (ends, below, need) = walk_lists(alloc, sources, plan)?;
     let values = collect_children(alloc, child, sources, &below, need)?;
     drop(below);
@@ -252,10 +246,8 @@ fn gather_blocks<'a, P: Plan>(
         of_fixed_size_list (type_of child.now) size }
     requires child { IsWellFormed child.now }
     requires some { 0 < length sources.now }
-    requires alike { All (λ c. type_of c.now ≡
-        of_fixed_size_list (type_of child.now) size) sources.now }
-    requires formed { All (λ c. IsWellFormed c.now) sources.now }
-    requires fits { All (PickFits (rows_of sources.now)) (P.picks plan.now) }
+    requires may { MayGatherAs sources.now (of_fixed_size_list (type_of child.now) size)
+        (P.picks plan.now) }
     ensures { Collects result (of_fixed_size_list (type_of child.now) size)
         (columns_of sources.now) (pick Null (rows_of sources.now) (P.picks plan.now)) }
 {

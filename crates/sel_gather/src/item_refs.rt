@@ -11,7 +11,7 @@ ghost use Rattle.sel_gather.specs.Sources.{rows_of};
 
 use crate::lists::run_of_list;
 use crate::row_refs::Plan;
-use crate::runs::{Run, nulls_of};
+use crate::runs::{NO_ROWS, Run, nulls_of, split_first};
 use crate::validity::has_validity;
 use sel_arrow::column::Column;
 
@@ -84,17 +84,10 @@ impl<P: Plan> Plan for ItemRefs<'_, P> {
     #[inline(always)]
     fn next(&mut self) -> Option<(u32, u32)> {
         self.ready();
-        let Run { source, start, len } = self.first;
+        let (next, others) = split_first(self.first);
         self.left -= 1;
-        self.first = Run {
-            source,
-            start: start.wrapping_add(1),
-            len: len - 1,
-        };
-        match source {
-            None => None,
-            Some(source) => Some((source, start)),
-        }
+        self.first = others;
+        next
     }
 
     #[inline(always)]
@@ -102,11 +95,7 @@ impl<P: Plan> Plan for ItemRefs<'_, P> {
         self.ready();
         let run = self.first;
         self.left -= run.len as usize;
-        self.first = Run {
-            source: Some(0),
-            start: 0,
-            len: 0,
-        };
+        self.first = NO_ROWS;
         run
     }
 

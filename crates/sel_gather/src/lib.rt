@@ -27,6 +27,7 @@ mod repeat;
 pub mod row_refs;
 mod run_refs;
 pub mod runs;
+mod spans;
 mod structs;
 mod typed_arrays;
 mod validity;

@@ -1,15 +1,14 @@
 //! Child rows of gathered lists.
 
-ghost use Rattle.std.specs.Prelude.{◌≡◌, ◌≤◌, ◌<◌, ◌+◌, ◌*◌, ◌++◌, true, All, length, map, take, drop, slice_index_or, IfSome, IfNone, IfOk, IfErr, OnOk};
+ghost use Rattle.std.specs.Prelude.{◌≡◌, ◌≤◌, ◌<◌, ◌+◌, ◌*◌, ◌++◌, true, All, length, map, slice_index_or, IfOk, IfErr, OnOk};
 ghost use Rattle.sel_bits.specs.Faults.{IsOutOfMemory};
 ghost use Rattle.sel_bits.specs.Limits.{max_rows};
-ghost use Rattle.sel_arrow.specs.Nested.{list_of};
 ghost use Rattle.sel_arrow.specs.Rows.{rows, type_of, IsWellFormed};
 ghost use Rattle.sel_arrow.specs.Value.{Null};
 ghost use Rattle.sel_gather.specs.Children.{child, is_listing, items_in, joined_items};
 ghost use Rattle.sel_gather.specs.ItemPicks.{item_picks, part_of};
 ghost use Rattle.sel_gather.specs.Picks.{pick, PickFits};
-ghost use Rattle.sel_gather.specs.Runs.{expand, unrolled};
+ghost use Rattle.sel_gather.specs.Runs.{expand, picks_of, unrolled};
 ghost use Rattle.sel_gather.specs.Sources.{picked, rows_of};
 ghost use Rattle.sel_gather.specs.Steps.{child_rows};
 ghost use Rattle.sel_gather.specs.RunRows.{run_rows};
@@ -57,11 +56,7 @@ fn part_of_row(column: &Column, i: usize) -> Option<(u32, u32)>
     requires lists { is_listing (type_of column.now) ≡ true }
     requires formed { IsWellFormed column.now }
     requires inside { i < length (rows column.now) }
-    ensures part { result ≡ part_of column.now i }
-    ensures null { IfNone result (slice_index_or (rows column.now) i Null ≡ Null) }
-    ensures row { IfSome result (λ part. slice_index_or (rows column.now) i Null ≡
-        list_of (take part.1 (drop part.0 (rows (child column.now))))) }
-    ensures inside { IfSome result (λ part. part.0 + part.1 ≤ length (rows (child column.now))) }
+    ensures { result ≡ part_of column.now i }
 {
     match column {
         Column::LargeList {
@@ -111,6 +106,29 @@ pub(crate) fn run_of_list(sources: &[&Column], pick: Option<(u32, u32)>, width: 
     }
 }
 
+/// Returns the first item of the list that a row reference refers to, and the number of its items;
+/// zeros if the reference or the list is null.
+///
+/// # Requires
+/// There is one source, a well-formed list or fixed-size list column, and a reference that is not
+/// null refers to one of its rows.
+#[inline(always)]
+pub(crate) fn span_of_list(sources: &[&Column], pick: Option<(u32, u32)>) -> (u32, u32)
+    requires one { length sources.now ≡ 1 }
+    requires lists { All (λ c. is_listing (type_of c.now) ≡ true) sources.now }
+    requires formed { All (λ c. IsWellFormed c.now) sources.now }
+    requires fits { PickFits (rows_of sources.now) pick }
+    ensures { picks_of 0 result.0 result.1 ≡ item_picks sources.now 0 pick }
+{
+    let Some((_, row)) = pick else {
+        return (0, 0);
+    };
+    match part_of_row(sources[0], row as usize) {
+        None => (0, 0),
+        Some(span) => span,
+    }
+}
+
 /// Returns the run of the child rows of row `i` of a run; `width` nulls if the row is null.
 ///
 /// # Requires
@@ -130,15 +148,7 @@ pub fn run_of_row(sources: &[&Column], run: Run, i: u32, width: u32) -> Run
     let Some(source) = run.source else {
         return nulls_of(width);
     };
-    let row = run.start as usize + i as usize;
-    match part_of_row(sources[source as usize], row) {
-        None => nulls_of(width),
-        Some((start, len)) => Run {
-            source: Some(source),
-            start,
-            len,
-        },
-    }
+    run_of_list(sources, Some((source, run.start + i)), width)
 }
 
 /// Returns the number of child rows of the lists that runs refer to, counting `width` for each null

@@ -17,6 +17,29 @@ use sel_bits::buffer::Buffer;
 use sel_bits::faults::PolarsResult;
 use std::alloc::Global;
 
+/// Matches a column: `$each!(i8)` for 8-bit integers, the same with the type of the integers for
+/// those of every other width, and an arm for each other column.
+///
+/// `$each` is a macro that takes the type: inside a function, it may use the function's variables.
+#[macro_export]
+macro_rules! match_number_types {
+    ($column:expr, $each:ident, $($others:tt)+) => {
+        match $column {
+            Column::Int8(_) => $each!(i8),
+            Column::Int16(_) => $each!(i16),
+            Column::Int32(_) => $each!(i32),
+            Column::Int64(_) => $each!(i64),
+            Column::Int128(_) => $each!(i128),
+            Column::UInt8(_) => $each!(u8),
+            Column::UInt16(_) => $each!(u16),
+            Column::UInt32(_) => $each!(u32),
+            Column::UInt64(_) => $each!(u64),
+            Column::UInt128(_) => $each!(u128),
+            $($others)+
+        }
+    };
+}
+
 /// Returns the values and the validity of each source. Errors: `OutOfMemory`.
 fn numbers_of<'a, T: ArrowPrimitive>(
     alloc: Global,

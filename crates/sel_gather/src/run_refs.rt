@@ -7,7 +7,7 @@ ghost use Rattle.sel_gather.specs.Runs.{expand, unrolled};
 
 use crate::copy_values::is_any_null;
 use crate::row_refs::Plan;
-use crate::runs::Run;
+use crate::runs::{NO_ROWS, Run, split_first};
 
 /// An iterator over the row references of runs: those left of the run `first`, and those of the
 /// runs `rest`.
@@ -53,17 +53,10 @@ impl Plan for RunRefs<'_> {
     #[inline(always)]
     fn next(&mut self) -> Option<(u32, u32)> {
         self.ready();
-        let Run { source, start, len } = self.first;
+        let (next, others) = split_first(self.first);
         self.left -= 1;
-        self.first = Run {
-            source,
-            start: start.wrapping_add(1),
-            len: len - 1,
-        };
-        match source {
-            None => None,
-            Some(source) => Some((source, start)),
-        }
+        self.first = others;
+        next
     }
 
     #[inline(always)]
@@ -71,11 +64,7 @@ impl Plan for RunRefs<'_> {
         self.ready();
         let run = self.first;
         self.left -= run.len as usize;
-        self.first = Run {
-            source: Some(0),
-            start: 0,
-            len: 0,
-        };
+        self.first = NO_ROWS;
         run
     }
 

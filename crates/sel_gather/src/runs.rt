@@ -1,8 +1,9 @@
 //! Runs of consecutive rows.
 
-ghost use Rattle.std.specs.Prelude.{◌≡◌, ◌≤◌, ◌+◌, ◌++◌, ◌∷◌, [], None, length, IfSome, IfErr, OnOk};
+ghost use Rattle.std.specs.Prelude.{◌≡◌, ◌≤◌, ◌<◌, ◌+◌, ◌++◌, ◌∷◌, [], All, None, length, IfSome, IfErr, OnOk};
 ghost use Rattle.sel_bits.specs.Faults.{IsOutOfMemory};
 ghost use Rattle.sel_bits.specs.Limits.{max_rows};
+ghost use Rattle.sel_gather.specs.Plans.{IsNear};
 ghost use Rattle.sel_gather.specs.Runs.{expand, unrolled};
 
 use sel_bits::faults::PolarsResult;
@@ -14,6 +15,13 @@ pub struct Run {
     pub start: u32,
     pub len: u32,
 }
+
+/// A run of no rows.
+pub(crate) const NO_ROWS: Run = Run {
+    source: Some(0),
+    start: 0,
+    len: 0,
+};
 
 /// Appends a run, or extends the last run if the two are contiguous; does nothing for an empty run.
 ///
@@ -111,6 +119,28 @@ pub(crate) fn continues(first: Run, second: Run) -> bool {
             one == other && first.start as u64 + first.len as u64 == second.start as u64
         }
         _ => false,
+    }
+}
+
+/// Returns the first row reference of a run, and the run of the others.
+///
+/// # Requires
+/// The run has a row, and each row number is less than 2^32.
+#[inline(always)]
+pub(crate) fn split_first(run: Run) -> (Option<(u32, u32)>, Run)
+    requires some { 0 < run.len }
+    requires near { All IsNear (unrolled run) }
+    ensures { unrolled run ≡ result.0 ∷ unrolled result.1 }
+{
+    let Run { source, start, len } = run;
+    let others = Run {
+        source,
+        start: start.wrapping_add(1),
+        len: len - 1,
+    };
+    match source {
+        None => (None, others),
+        Some(source) => (Some((source, start)), others),
     }
 }
 

@@ -15,6 +15,18 @@ use sel_arrow::column::Column;
 use sel_bits::faults::PolarsResult;
 use std::alloc::Global;
 
+/// Returns `$array` of each column, all of one variant.
+macro_rules! arrays_of {
+    ($alloc:ident, $sources:ident, $variant:pat => $array:expr) => {{
+        let mut found = Vec::with_capacity($alloc, $sources.len())?;
+        for source in $sources {
+            let $variant = *source else { unreachable!() };
+            found.push($array)?;
+        }
+        Ok(found)
+    }};
+}
+
 /// Returns the binary array of each column.
 ///
 /// # Requires
@@ -31,14 +43,7 @@ pub fn binaries_of<'a>(
         rows_of sources.now) }
     ensures refusal { IfErr result IsOutOfMemory }
 {
-    let mut found = Vec::with_capacity(alloc, sources.len())?;
-    for source in sources {
-        let Column::LargeBinary(array) = *source else {
-            unreachable!()
-        };
-        found.push(array)?;
-    }
-    Ok(found)
+    arrays_of!(alloc, sources, Column::LargeBinary(array) => array)
 }
 
 /// Returns the view array of each column.
@@ -59,14 +64,7 @@ pub fn views_of<'a>(
         map (λ c. buffer_count c.now) sources.now) }
     ensures refusal { IfErr result IsOutOfMemory }
 {
-    let mut found = Vec::with_capacity(alloc, sources.len())?;
-    for source in sources {
-        let Column::BinaryView(array) = *source else {
-            unreachable!()
-        };
-        found.push(array)?;
-    }
-    Ok(found)
+    arrays_of!(alloc, sources, Column::BinaryView(array) => array)
 }
 
 /// Returns the view array of each string view column.
@@ -89,12 +87,5 @@ pub fn texts_of<'a>(
         map (λ c. buffer_count c.now) sources.now) }
     ensures refusal { IfErr result IsOutOfMemory }
 {
-    let mut found = Vec::with_capacity(alloc, sources.len())?;
-    for source in sources {
-        let Column::Utf8View(array) = *source else {
-            unreachable!()
-        };
-        found.push(&array.bytes)?;
-    }
-    Ok(found)
+    arrays_of!(alloc, sources, Column::Utf8View(array) => &array.bytes)
 }

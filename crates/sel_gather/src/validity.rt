@@ -18,7 +18,7 @@ ghost use Rattle.sel_gather.specs.Sources.{columns_of, picked, rows_of};
 use crate::gather_values::validity_at;
 use crate::row_refs::Plan;
 use crate::run_refs::RunRefs;
-use crate::runs::Run;
+use crate::runs::{NO_ROWS, Run};
 use sel_arrow::column::Column;
 use sel_bits::bitmap::Bitmap;
 use sel_bits::faults::PolarsResult;
@@ -46,11 +46,7 @@ pub fn collect_validity(
     ensures refusal { IfErr result IsOutOfMemory }
 {
     let plan = RunRefs {
-        first: Run {
-            source: Some(0),
-            start: 0,
-            len: 0,
-        },
+        first: NO_ROWS,
         rest: runs,
         left: len,
     };

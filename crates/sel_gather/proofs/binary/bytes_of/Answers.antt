@@ -1,9 +1,6 @@
-use Rattle.std.proofs.Common.{◌∙◌, ap, sym, map}
-use Rattle.sel_arrow.specs.Columns.{binary_rows}
-use Rattle.sel_arrow.specs.Value.{Null}
-use Rattle.sel_gather.specs.GrownBytes.{joined_bytes}
-use Rattle.sel_gather.proofs.RunLists.{pick_nulls}
+use Rattle.sel_gather.proofs.Common.{◌∙◌, ap, sym, map, binary_rows, Null, joined_bytes}
 use Rattle.sel_gather.proofs.ValidBytes.{nulls_bytes, source_below, source_inside, source_live, source_picked}
+use Rattle.sel_gather.proofs.RunLists.{pick_nulls}
 use Rattle.sel_gather.proofs.binary.bytes_of.Goals as goal
 
 pub bounds-sources-source : goal.bounds-sources-source

@@ -1,15 +1,7 @@
-use Rattle.std.proofs.Common.{◌≡◌, ◌∷◌, ℕ, ℤ, List, ap, sym, subst, ◌∙◌, arith, length, map}
-use Rattle.sel_bits.specs.Offsets.{IsRising}
-use Rattle.sel_arrow.specs.Columns.{binary_rows}
-use Rattle.sel_arrow.specs.Masked.{Covers}
-use Rattle.sel_arrow.specs.Pieces.{rows_between, last_offset}
-use Rattle.sel_arrow.specs.Value.{Null}
-use Rattle.sel_gather.specs.JoinedBytes.{ends_from}
-use Rattle.sel_gather.specs.GrownBytes.{joined_bytes}
-use Rattle.sel_gather.specs.Need.{bytes_needed}
-use Rattle.sel_gather.specs.Picks.{pick}
-use Rattle.sel_gather.specs.Runs.{expand}
-use Rattle.sel_gather.proofs.JoinedRows.{all_bits, all_bytes, all_ends, built_ends, built_rows, column_bytes, ends_shown, length-joined, offsets_of, picked_bytes, rebuilt, rising-ends, sources_bytes}
+use Rattle.sel_gather.proofs.Common.{◌≡◌, ◌∷◌, ℕ, ℤ, List, ap, sym, subst, ◌∙◌, arith, length, map, IsRising, binary_rows, Covers, rows_between, last_offset}
+use Rattle.sel_gather.proofs.Common.{Null, ends_from, joined_bytes, bytes_needed, pick, expand}
+use Rattle.sel_gather.proofs.JoinedRows.{all_bits, all_bytes, all_ends, built_ends, built_rows, column_bytes, ends_shown, length-joined, offsets_of}
+use Rattle.sel_gather.proofs.JoinedRows.{picked_bytes, rebuilt, rising-ends}
 use Rattle.sel_gather.proofs.RunLists.{length-pick}
 use Rattle.sel_gather.proofs.binary.collect_binary.Goals as goal
 
@@ -46,6 +38,5 @@ returns-clause-rows c =
     let ends : c.in_ok-offsets.offsets ≡ 0 ∷ ends_from 0 rows = ends_shown (λ (x : ℤ). x) joined.ends.items c.in_ok-offsets.offsets rows shown c.in_ok-offsets.ensures.value in
     let bytes : c.in_ok-values.values ≡ joined_bytes rows = c.in_ok-values.ensures.items ∙ all_bytes rows c.in_ok-joined.joined joined c.in_ok-joined.ensures.bytes c.in_ok-push_runs.ensures.rows in
     let bits = c.in_ok-validity.ensures.bits ∙ all_bits rows c.in_ok-joined.joined joined c.in_ok-joined.ensures.bits c.in_ok-push_runs.ensures.rows in
-    let each = sources_bytes (λ s. binary_rows s.now) (λ s k. column_bytes s.now.offsets s.now.values s.now.validity k) c.args.sources.now in
-    let all = picked_bytes xss each (expand c.args.runs.now) in
+    let all = picked_bytes (λ s. binary_rows s.now) (λ s k. column_bytes s.now.offsets s.now.values s.now.validity k) c.args.sources.now (expand c.args.runs.now) in
     rw (ends, bytes) (rebuilt rows c.in_ok-validity.validity c.args.len all (length-pick Null xss (expand c.args.runs.now) ∙ c.requires.len) bits)

@@ -1,13 +1,5 @@
-use Rattle.std.proofs.Common.{ap, ◌∙◌, arith, map}
-use Rattle.std.proofs.lemmas.List.{take_all}
-use Rattle.sel_arrow.specs.Columns.{binary_rows}
-use Rattle.sel_arrow.specs.Value.{Null}
-use Rattle.sel_gather.specs.Cleared.{IsLive}
-use Rattle.sel_gather.specs.Need.{bytes_needed}
-use Rattle.sel_gather.specs.Picks.{pick, PickFits}
-use Rattle.sel_gather.specs.Runs.{expand}
-use Rattle.sel_gather.proofs.JoinedRows.{needed_run}
-use Rattle.sel_gather.proofs.RunLists.{all_at, room_at, length_more}
+use Rattle.sel_gather.proofs.Common.{ap, ◌∙◌, arith, map, take_all, binary_rows, Null, IsLive, bytes_needed, pick, PickFits, expand}
+use Rattle.sel_gather.proofs.{JoinedRows.needed_run, RunLists.all_at, RunLists.room_at, RunLists.length_more}
 use Rattle.sel_gather.proofs.binary.count_bytes.Goals as goal
 
 pub count_run-total-requires : goal.count_run-total-requires

@@ -1,8 +1,4 @@
-use Rattle.std.proofs.Common.{◌∙◌, ap, map, List, ℕ, length}
-use Rattle.sel_arrow.specs.Columns.{binary_rows}
-use Rattle.sel_arrow.specs.Value.{Null}
-use Rattle.sel_gather.specs.Picks.{pick}
-use Rattle.sel_gather.specs.Runs.{unrolled}
+use Rattle.sel_gather.proofs.Common.{◌∙◌, ap, map, List, ℕ, length, binary_rows, Null, pick, unrolled}
 use Rattle.sel_gather.proofs.JoinedRows.{length-joined}
 use Rattle.sel_gather.proofs.binary.count_run.Goals as goal
 

@@ -1,10 +1,6 @@
-use Rattle.std.proofs.Common.{◌≡◌, ◌++◌, ◌∙◌, ap, sym, arith, subst, map, pos, ℤ, List, OnOk}
-use Rattle.sel_arrow.specs.Columns.{binary_rows}
-use Rattle.sel_arrow.specs.Value.{Null}
-use Rattle.sel_gather.specs.JoinedBytes.{ends_from}
-use Rattle.sel_gather.specs.Need.{bytes_needed}
-use Rattle.sel_gather.proofs.RunLists.{pick_nulls}
+use Rattle.sel_gather.proofs.Common.{◌≡◌, ◌++◌, ◌∙◌, ap, sym, arith, subst, map, pos, ℤ, List, OnOk, binary_rows, Null, ends_from, bytes_needed}
 use Rattle.sel_gather.proofs.ValidBytes.{nulls_ends, same_ends, source_below, source_inside, source_live, source_picked}
+use Rattle.sel_gather.proofs.RunLists.{pick_nulls}
 use Rattle.sel_gather.proofs.binary.push_ends.Goals as goal
 
 pub bounds-sources-source : goal.bounds-sources-source

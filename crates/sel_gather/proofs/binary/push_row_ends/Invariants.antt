@@ -1,7 +1,5 @@
 -- The ends of the rows so far are appended.
-use Rattle.std.proofs.Common.{◌≡◌, ◌++◌, map, pos, take, drop}
-use Rattle.sel_arrow.specs.Columns.{binary_rows}
-use Rattle.sel_gather.specs.JoinedBytes.{ends_from}
+use Rattle.sel_gather.proofs.Common.{◌≡◌, ◌++◌, map, pos, take, drop, binary_rows, ends_from}
 use Rattle.sel_gather.proofs.binary.push_row_ends.Given as goal
 
 abbrev pub invariant-loop-i : goal.invariant-loop-i

@@ -1,9 +1,4 @@
-use Rattle.std.proofs.Common.{◌≡◌, ◌++◌, ◌∙◌, ap, arith, length, map, pos, replicate}
-use Rattle.sel_arrow.specs.Columns.{binary_rows}
-use Rattle.sel_arrow.specs.Value.{Null}
-use Rattle.sel_gather.specs.JoinedBytes.{ends_from}
-use Rattle.sel_gather.specs.Picks.{pick}
-use Rattle.sel_gather.specs.Runs.{unrolled}
+use Rattle.sel_gather.proofs.Common.{◌≡◌, ◌++◌, ◌∙◌, ap, arith, length, map, pos, replicate, binary_rows, Null, ends_from, pick, unrolled}
 use Rattle.sel_gather.proofs.ValidBytes.{live_bits}
 use Rattle.sel_gather.proofs.binary.push_run.Goals as goal
 

@@ -1,7 +1,4 @@
-use Rattle.std.proofs.Common.{arith, map}
-use Rattle.sel_arrow.specs.Columns.{binary_rows}
-use Rattle.sel_gather.specs.Cleared.{IsLive}
-use Rattle.sel_gather.specs.Picks.{PickFits}
+use Rattle.sel_gather.proofs.Common.{arith, map, binary_rows, IsLive, PickFits}
 use Rattle.sel_gather.proofs.JoinedRows.{run_room, grew_none, grew_run, grew_runs}
 use Rattle.sel_gather.proofs.RunLists.{all_at}
 use Rattle.sel_gather.proofs.binary.push_runs.Goals as goal

@@ -1,5 +1,4 @@
-use Rattle.std.proofs.Common.{◌++◌, ◌∷◌, [], ◌∙◌, ap, arith, pos, w64}
-use Rattle.std.proofs.lemmas.Int.{to_z_pos}
+use Rattle.sel_gather.proofs.Common.{◌++◌, ◌∷◌, [], ◌∙◌, ap, arith, pos, w64, to_z_pos}
 use Rattle.sel_gather.proofs.Windows.{repeated_more}
 use Rattle.sel_gather.proofs.binary.push_same_ends.Goals as goal
 

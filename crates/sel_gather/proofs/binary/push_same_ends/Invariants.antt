@@ -1,5 +1,5 @@
 -- The ends so far are appended, all equal.
-use Rattle.std.proofs.Common.{◌≡◌, ◌++◌, replicate, pos}
+use Rattle.sel_gather.proofs.Common.{◌≡◌, ◌++◌, replicate, pos}
 use Rattle.sel_gather.proofs.binary.push_same_ends.Given as goal
 
 abbrev pub invariant-loop : goal.invariant-loop

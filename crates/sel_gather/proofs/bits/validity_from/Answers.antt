@@ -1,6 +1,4 @@
-use Rattle.std.proofs.Common.{◌≡◌, ◌∙◌, List, Bool, ap, sym, subst}
-use Rattle.std.specs.Prelude.{count_by, not}
-use Rattle.sel_bits.specs.Bits.{Bits}
+use Rattle.sel_gather.proofs.Common.{◌≡◌, ◌∙◌, List, Bool, ap, sym, subst, count_by, not, Bits}
 use Rattle.sel_gather.proofs.Windows.{all_true}
 use Rattle.sel_gather.proofs.bits.validity_from.Goals as goal
 

@@ -1,6 +1,4 @@
-use Rattle.std.proofs.Common.{◌≡◌, take, map}
-use Rattle.sel_arrow.specs.Columns.{boolean_rows}
-use Rattle.sel_arrow.specs.Rows.{rows}
+use Rattle.sel_gather.proofs.Common.{◌≡◌, take, map, boolean_rows, rows}
 use Rattle.sel_gather.proofs.boolean.booleans_of.Given as goal
 
 abbrev pub invariant-loop-source : goal.invariant-loop-source

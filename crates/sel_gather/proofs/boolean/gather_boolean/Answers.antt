@@ -1,14 +1,7 @@
-use Rattle.std.proofs.Common.{◌≡◌, ◌∙◌, All, length, map, ap, sym, subst, arith, false}
-use Rattle.std.specs.Option.{option_copied}
-use Rattle.std.proofs.lemmas.List.{length-map}
-use Rattle.sel_bits.specs.Bits.{Bits}
-use Rattle.sel_arrow.specs.Columns.{boolean_rows}
-use Rattle.sel_arrow.specs.Masked.{Covers, hidden, bool_rows}
-use Rattle.sel_arrow.specs.Value.{Null, Truth}
-use Rattle.sel_gather.specs.Picks.{pick, PickFits}
-use Rattle.sel_gather.specs.Plans.{HasBit, bit_found, bits_found}
-use Rattle.sel_gather.proofs.Grown.{finished}
+use Rattle.sel_gather.proofs.Common.{◌≡◌, ◌∙◌, All, length, map, ap, sym, subst, arith, false, option_copied, length-map, Bits, boolean_rows, Covers, hidden}
+use Rattle.sel_gather.proofs.Common.{bool_rows, Null, Truth, pick, PickFits, HasBit, bit_found, bits_found}
 use Rattle.sel_gather.proofs.Hiding.{values_fit, bits_fit, rows_picked, truths_fit, truths_found}
+use Rattle.sel_gather.proofs.Grown.{finished}
 use Rattle.sel_gather.proofs.boolean.gather_boolean.Goals as goal
 
 pub gather_bits-requires : goal.gather_bits-requires

@@ -1,5 +1,4 @@
-use Rattle.std.proofs.Common.{◌≡◌, take, map}
-use Rattle.std.specs.Option.{option_copied}
+use Rattle.sel_gather.proofs.Common.{◌≡◌, take, map, option_copied}
 use Rattle.sel_gather.proofs.boolean.validities_of.Given as goal
 
 abbrev pub invariant-loop-array : goal.invariant-loop-array

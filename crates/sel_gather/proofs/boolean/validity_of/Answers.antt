@@ -1,8 +1,4 @@
-use Rattle.std.proofs.Common.{◌≡◌, ◌∙◌, All, ap, sym, subst, map, length}
-use Rattle.std.specs.Option.{option_copied}
-use Rattle.std.specs.Prelude.{IfOk}
-use Rattle.sel_gather.specs.Plans.{HasBit, bits_found}
-use Rattle.sel_gather.specs.Validity.{bits_for}
+use Rattle.sel_gather.proofs.Common.{◌≡◌, ◌∙◌, All, ap, sym, subst, map, length, option_copied, IfOk, HasBit, bits_found, bits_for}
 use Rattle.sel_gather.proofs.Gathers.{all_none, all_there}
 use Rattle.sel_gather.proofs.boolean.validity_of.Goals as goal
 

@@ -1,7 +1,4 @@
-use Rattle.std.proofs.Common.{◌≡◌, All, subst, refl, ◌∙◌}
-use Rattle.std.proofs.lemmas.List.{take_all}
-use Rattle.std.proofs.lemmas.List.Elements.{All-more}
-use Rattle.sel_arrow.specs.Rows.{type_of}
+use Rattle.sel_gather.proofs.Common.{◌≡◌, All, subst, refl, ◌∙◌, take_all, All-more, type_of}
 use Rattle.sel_gather.proofs.Fits.{first_type_is}
 use Rattle.sel_gather.proofs.checks.are_alike.Goals as goal
 

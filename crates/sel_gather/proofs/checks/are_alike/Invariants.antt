@@ -1,5 +1,4 @@
-use Rattle.std.proofs.Common.{◌≡◌, All, take}
-use Rattle.sel_arrow.specs.Rows.{type_of}
+use Rattle.sel_gather.proofs.Common.{◌≡◌, All, take, type_of}
 use Rattle.sel_gather.proofs.checks.are_alike.Given as goal
 
 abbrev pub invariant-loop-source : goal.invariant-loop-source

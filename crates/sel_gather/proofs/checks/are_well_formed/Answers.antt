@@ -1,7 +1,4 @@
-use Rattle.std.proofs.Common.{All, subst, refl, sym, ◌∙◌}
-use Rattle.std.proofs.lemmas.List.{take_all}
-use Rattle.std.proofs.lemmas.List.Elements.{All-more, All-get_or}
-use Rattle.sel_arrow.specs.Rows.{IsWellFormed}
+use Rattle.sel_gather.proofs.Common.{All, subst, refl, sym, ◌∙◌, take_all, All-more, All-get_or, IsWellFormed}
 use Rattle.sel_gather.proofs.checks.are_well_formed.Goals as goal
 
 pub loop-source-preserved : goal.loop-source-preserved

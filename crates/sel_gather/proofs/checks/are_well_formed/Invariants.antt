@@ -1,6 +1,5 @@
 -- The sources so far are well-formed.
-use Rattle.std.proofs.Common.{All, take}
-use Rattle.sel_arrow.specs.Rows.{IsWellFormed}
+use Rattle.sel_gather.proofs.Common.{All, take, IsWellFormed}
 use Rattle.sel_gather.proofs.checks.are_well_formed.Given as goal
 
 abbrev pub invariant-loop-source : goal.invariant-loop-source

@@ -1,6 +1,4 @@
-use Rattle.std.proofs.Common.{All, take, map}
-use Rattle.sel_arrow.specs.Rows.{rows}
-use Rattle.sel_gather.specs.Picks.{PickFits}
+use Rattle.sel_gather.proofs.Common.{All, take, map, rows, PickFits}
 use Rattle.sel_gather.proofs.checks.picks_in_bounds.Given as goal
 
 abbrev pub invariant-loop-pick : goal.invariant-loop-pick

@@ -1,6 +1,4 @@
-use Rattle.std.proofs.Common.{◌≡◌, ◌-◌, suc, map, refl, sym, subst, ◌∙◌, arith}
-use Rattle.sel_arrow.specs.Rows.{rows}
-use Rattle.sel_gather.specs.Picks.{PickFits}
+use Rattle.sel_gather.proofs.Common.{◌≡◌, ◌-◌, suc, map, refl, sym, subst, ◌∙◌, arith, rows, PickFits}
 use Rattle.sel_gather.proofs.PlanTests.{IsTested, tested_none, tested_next, tested_here, tested_all}
 use Rattle.sel_gather.proofs.checks.plan_in_bounds.Goals as goal
 

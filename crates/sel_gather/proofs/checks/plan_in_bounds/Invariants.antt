@@ -1,7 +1,5 @@
 -- The row references so far pass the test.
-use Rattle.std.proofs.Common.{map}
-use Rattle.sel_arrow.specs.Rows.{rows}
-use Rattle.sel_gather.specs.Picks.{PickFits}
+use Rattle.sel_gather.proofs.Common.{map, rows, PickFits}
 use Rattle.sel_gather.proofs.PlanTests.{IsTested}
 use Rattle.sel_gather.proofs.checks.plan_in_bounds.Given as goal
 

@@ -1,5 +1,4 @@
-use Rattle.std.proofs.Common.{map}
-use Rattle.sel_arrow.specs.Rows.{rows}
+use Rattle.sel_gather.proofs.Common.{map, rows}
 use Rattle.sel_gather.proofs.Fits.{source_rows, run_fits_if, run_lost}
 use Rattle.sel_gather.proofs.checks.run_fits.Goals as goal
 

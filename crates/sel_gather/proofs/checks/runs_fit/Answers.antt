@@ -1,6 +1,4 @@
-use Rattle.std.proofs.Common.{map}
-use Rattle.sel_arrow.specs.Rows.{rows}
-use Rattle.sel_gather.specs.Picks.{PickFits}
+use Rattle.sel_gather.proofs.Common.{map, rows, PickFits}
 use Rattle.sel_gather.proofs.Fits.{all_more, run_refused, runs_done}
 use Rattle.sel_gather.proofs.checks.runs_fit.Goals as goal
 

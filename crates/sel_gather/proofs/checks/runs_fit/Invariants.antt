@@ -1,7 +1,4 @@
-use Rattle.std.proofs.Common.{All, take, map}
-use Rattle.sel_arrow.specs.Rows.{rows}
-use Rattle.sel_gather.specs.Picks.{PickFits}
-use Rattle.sel_gather.specs.Runs.{expand}
+use Rattle.sel_gather.proofs.Common.{All, take, map, rows, PickFits, expand}
 use Rattle.sel_gather.proofs.checks.runs_fit.Given as goal
 
 abbrev pub invariant-loop-run : goal.invariant-loop-run

@@ -1,30 +1,14 @@
-use Rattle.std.proofs.Common.{◌≡◌, ◌∙◌, ◌<◌, ◌+◌, ◌++◌, ◌∷◌, [], All, ap, sym, subst, map, length, get_or, take, replicate, arith, rules, true}
-use Rattle.std.proofs.lemmas.List.{length-map, take_all, map_more, map-append}
-use Rattle.std.proofs.lemmas.List.Elements.{All-get_or, All-push}
-use Rattle.std.proofs.lemmas.Result.{err_from_is_err_and}
-use Rattle.sel_arrow.specs.Rows.{rows, row_count, type_of, well_formed, IsField, IsWellFormed}
-use Rattle.sel_arrow.specs.Shape.{of_null, of_struct, shapes_of, shape_list}
-use Rattle.sel_arrow.specs.Value.{Null}
-use Rattle.sel_arrow.proofs.NestedRows.{length-rows}
+use Rattle.sel_gather.proofs.Common.{◌≡◌, ◌∙◌, ◌<◌, ◌+◌, ◌++◌, ◌∷◌, [], All, ap, sym, subst, map, length, get_or, take, replicate, arith, rules, true}
+use Rattle.sel_gather.proofs.Common.{length-map, take_all, map_more, map-append, All-get_or, All-push, err_from_is_err_and, rows, row_count, type_of}
+use Rattle.sel_gather.proofs.Common.{well_formed, IsField, IsWellFormed, of_null, of_struct, shapes_of, shape_list, Null, length-rows, child, field, is_listing}
+use Rattle.sel_gather.proofs.Common.{part_at, parts_of, cleared, Collects, IsLimitOrMemory, ExceedsNone, exceeded_taken, pick, PickFits, expand, columns_of, picked}
 use Rattle.sel_arrow.proofs.Trees.{has_fields}
 use Rattle.sel_arrow.proofs.Types.{type_of-Struct}
-use Rattle.sel_gather.specs.Children.{child, field, is_listing, part_at}
-use Rattle.sel_gather.specs.Steps.{parts_of}
-use Rattle.sel_gather.specs.Cleared.{cleared}
-use Rattle.sel_gather.specs.Gathers.{Collects}
-use Rattle.sel_gather.specs.Need.{IsLimitOrMemory, ExceedsNone, exceeded_taken}
-use Rattle.sel_gather.specs.Picks.{pick, PickFits}
-use Rattle.sel_gather.specs.Runs.{expand}
 use Rattle.sel_gather.proofs.Below.{block_child_type, found_all, found_map, mapped_now, listed_shapes, refused_more, past_at, parts_more, field_kind}
-use Rattle.sel_gather.proofs.Depths.{size_of, one_size}
-use Rattle.sel_gather.proofs.ItemRuns.{rows_of, below_of}
-use Rattle.sel_gather.proofs.NullItems.{null_items_in}
-use Rattle.sel_gather.proofs.PlanRuns.{near_may}
-use Rattle.sel_gather.proofs.RunLists.{length-pick}
 use Rattle.sel_gather.proofs.TupleRows.{field_rows, field_type, field_formed, picked_parts, parts_fit}
-use Rattle.sel_gather.specs.Sources.{columns_of, picked}
 use Rattle.sel_gather.proofs.Walks.{children_collected, children_may, children_recurse, lists_child, lists_listing, one_child}
-use Rattle.sel_gather.proofs.Within.{fields_pass, one_more_passes}
+use Rattle.sel_gather.proofs.{Depths.size_of, Depths.one_size, ItemRuns.rows_of, ItemRuns.below_of, NullItems.null_items_in, PlanRuns.near_may}
+use Rattle.sel_gather.proofs.{RunLists.length-pick, Within.fields_pass, Within.one_more_passes}
 use Rattle.sel_gather.proofs.copy.+collecting.Goals as goal
 
 -- ---- runs as row references

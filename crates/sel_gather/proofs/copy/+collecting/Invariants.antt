@@ -1,16 +1,7 @@
 -- Each recursive call has a smaller type; the fields so far are collected.
-use Rattle.std.proofs.Common.{◌≡◌, ℕ, ◌+◌, ◌*◌, ◌<◌, All, map, take, get_or}
-use Rattle.sel_arrow.specs.Rows.{rows, type_of, IsField}
-use Rattle.sel_arrow.specs.Shape.{of_null, shapes_of}
-use Rattle.sel_arrow.specs.Value.{Null}
-use Rattle.sel_gather.specs.Children.{field, part_at}
-use Rattle.sel_gather.specs.Steps.{parts_of}
-use Rattle.sel_gather.specs.Picks.{pick}
-use Rattle.sel_gather.specs.Need.{ExceedsNone, exceeded_taken}
-use Rattle.sel_gather.specs.Runs.{expand}
-use Rattle.sel_gather.specs.Sources.{columns_of, picked}
-use Rattle.sel_gather.proofs.Depths.{size_of, sizes_of}
-use Rattle.sel_gather.proofs.ItemRuns.{rows_of}
+use Rattle.sel_gather.proofs.Common.{◌≡◌, ℕ, ◌+◌, ◌*◌, ◌<◌, All, map, take, get_or, rows, type_of, IsField, of_null, shapes_of, Null, field, part_at, parts_of}
+use Rattle.sel_gather.proofs.Common.{pick, ExceedsNone, exceeded_taken, expand, columns_of, picked}
+use Rattle.sel_gather.proofs.{Depths.size_of, Depths.sizes_of, ItemRuns.rows_of}
 use Rattle.sel_gather.proofs.copy.+collecting.Given as goal
 
 abbrev pub decreases-collect_like : goal.decreases-collect_like

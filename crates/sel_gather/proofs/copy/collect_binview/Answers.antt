@@ -1,8 +1,5 @@
-use Rattle.std.proofs.Common.{◌∙◌, length, ap, arith, rules}
-use Rattle.std.specs.List.{flat_map}
-use Rattle.sel_gather.proofs.Collected.{refused}
-use Rattle.sel_gather.proofs.Refusals.{joined_count, refused_at}
-use Rattle.sel_gather.proofs.Within.{few_buffers_pass}
+use Rattle.sel_gather.proofs.Common.{◌∙◌, length, ap, arith, rules, flat_map}
+use Rattle.sel_gather.proofs.{Collected.refused, Refusals.joined_count, Refusals.refused_at, Within.few_buffers_pass}
 use Rattle.sel_gather.proofs.copy.collect_binview.Goals as goal
 
 pub returns-in_err-array : goal.returns-in_err-array

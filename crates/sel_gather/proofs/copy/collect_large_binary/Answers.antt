@@ -1,14 +1,6 @@
-use Rattle.std.proofs.Common.{◌∙◌, All, List, ap, sym, subst, length, map, pos, rules}
-use Rattle.std.proofs.lemmas.List.{length-map}
-use Rattle.sel_arrow.specs.Columns.{binary_rows}
-use Rattle.sel_arrow.specs.Value.{Value, Null}
-use Rattle.sel_gather.specs.Cleared.{cleared, IsLive}
-use Rattle.sel_gather.specs.Need.{ExceedsBytes, IsLimitOrMemory, ExceedsNone}
-use Rattle.sel_gather.specs.Picks.{pick, PickFits}
-use Rattle.sel_gather.specs.Runs.{expand}
-use Rattle.sel_gather.proofs.Collected.{refused}
-use Rattle.sel_gather.proofs.ItemRuns.{rows_of}
-use Rattle.sel_gather.proofs.ValidBytes.{cleared_fits, cleared_live, cleared_picks}
+use Rattle.sel_gather.proofs.Common.{◌∙◌, All, List, ap, sym, subst, length, map, pos, rules, length-map, binary_rows, Value, Null, cleared, IsLive}
+use Rattle.sel_gather.proofs.Common.{ExceedsBytes, IsLimitOrMemory, ExceedsNone, pick, PickFits, expand}
+use Rattle.sel_gather.proofs.{Collected.refused, ItemRuns.rows_of, ValidBytes.cleared_fits, ValidBytes.cleared_live, ValidBytes.cleared_picks}
 use Rattle.sel_gather.proofs.copy.collect_large_binary.Goals as goal
 
 pub collect_binary-requires : goal.collect_binary-requires

@@ -1,10 +1,5 @@
-use Rattle.std.proofs.Common.{◌∙◌, length, ap, arith, rules}
-use Rattle.std.specs.List.{flat_map}
-use Rattle.sel_arrow.specs.Columns.{binview_rows}
-use Rattle.sel_gather.specs.Runs.{expand}
-use Rattle.sel_gather.proofs.Collected.{refused}
-use Rattle.sel_gather.proofs.Refusals.{joined_count, refused_at, texts_picked}
-use Rattle.sel_gather.proofs.Within.{few_buffers_pass}
+use Rattle.sel_gather.proofs.Common.{◌∙◌, length, ap, arith, rules, flat_map, binview_rows, expand}
+use Rattle.sel_gather.proofs.{Collected.refused, Refusals.joined_count, Refusals.refused_at, Refusals.texts_picked, Within.few_buffers_pass}
 use Rattle.sel_gather.proofs.copy.collect_utf8view.Goals as goal
 
 pub returns-in_err-bytes : goal.returns-in_err-bytes

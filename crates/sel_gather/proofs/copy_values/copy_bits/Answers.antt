@@ -1,10 +1,6 @@
-use Rattle.std.proofs.Common.{◌∙◌, ◌++◌, arith, ap, sym, map, take}
-use Rattle.std.specs.Option.{option_copied}
-use Rattle.std.proofs.lemmas.List.{map-append, take_all}
-use Rattle.sel_gather.specs.Plans.{HasBit, bit_found, bits_found}
-use Rattle.sel_gather.specs.Runs.{unrolled}
-use Rattle.sel_gather.proofs.Gathers.{left_all}
+use Rattle.sel_gather.proofs.Common.{◌∙◌, ◌++◌, arith, ap, sym, map, take, option_copied, map-append, take_all, HasBit, bit_found, bits_found, unrolled}
 use Rattle.sel_gather.proofs.Walks.{run_behind, run_within, run_all, taken_run}
+use Rattle.sel_gather.proofs.Gathers.{left_all}
 use Rattle.sel_gather.proofs.copy_values.copy_bits.Goals as goal
 
 pub push_bits-requires-clause-fits : goal.push_bits-requires-clause-fits

@@ -1,7 +1,5 @@
 -- The bits so far are copied.
-use Rattle.std.proofs.Common.{◌≡◌, ◌≤◌, ◌-◌, take, drop, map}
-use Rattle.std.specs.Option.{option_copied}
-use Rattle.sel_gather.specs.Plans.{bits_found}
+use Rattle.sel_gather.proofs.Common.{◌≡◌, ◌≤◌, ◌-◌, take, drop, map, option_copied, bits_found}
 use Rattle.sel_gather.proofs.copy_values.copy_bits.Given as goal
 
 abbrev pub invariant-loop-at : goal.invariant-loop-at

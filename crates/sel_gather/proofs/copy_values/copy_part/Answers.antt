@@ -1,4 +1,4 @@
-use Rattle.std.proofs.Common.{◌+◌, ◌-◌, drop, arith}
+use Rattle.sel_gather.proofs.Common.{◌+◌, ◌-◌, drop, arith}
 use Rattle.sel_gather.proofs.Windows.{cut_behind}
 use Rattle.sel_gather.proofs.copy_values.copy_part.Goals as goal
 

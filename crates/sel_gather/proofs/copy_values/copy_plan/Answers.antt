@@ -1,10 +1,6 @@
-use Rattle.std.proofs.Common.{◌∙◌, ◌++◌, arith, ap, sym, length, map, take}
-use Rattle.std.proofs.lemmas.List.{length-take-le, map-append, take_all}
-use Rattle.sel_gather.specs.Picks.{found, pick, PickFits}
-use Rattle.sel_gather.specs.Runs.{unrolled}
-use Rattle.sel_gather.proofs.Gathers.{left_all}
-use Rattle.sel_gather.proofs.RunLists.{length-pick}
+use Rattle.sel_gather.proofs.Common.{◌∙◌, ◌++◌, arith, ap, sym, length, map, take, length-take-le, map-append, take_all, found, pick, PickFits, unrolled}
 use Rattle.sel_gather.proofs.Walks.{run_behind, run_within, run_all, taken_run}
+use Rattle.sel_gather.proofs.{Gathers.left_all, RunLists.length-pick}
 use Rattle.sel_gather.proofs.copy_values.copy_plan.Goals as goal
 
 pub copy_run-requires-clause-fits : goal.copy_run-requires-clause-fits

@@ -1,6 +1,5 @@
 -- The values so far are copied.
-use Rattle.std.proofs.Common.{◌≡◌, ◌≤◌, ◌-◌, take, drop, map}
-use Rattle.sel_gather.specs.Picks.{pick}
+use Rattle.sel_gather.proofs.Common.{◌≡◌, ◌≤◌, ◌-◌, take, drop, map, pick}
 use Rattle.sel_gather.proofs.copy_values.copy_plan.Given as goal
 
 abbrev pub invariant-loop-at : goal.invariant-loop-at

@@ -1,8 +1,5 @@
-use Rattle.std.proofs.Common.{◌++◌, ◌∙◌, length, map, ap, sym, arith}
-use Rattle.std.proofs.lemmas.List.{length-map}
-use Rattle.std.proofs.lemmas.Result.{on_ok_weaker}
-use Rattle.sel_gather.proofs.Grown.{source_rows}
-use Rattle.sel_gather.proofs.RunLists.{pick_nulls, pick_run, run_there}
+use Rattle.sel_gather.proofs.Common.{◌++◌, ◌∙◌, length, map, ap, sym, arith, length-map, on_ok_weaker}
+use Rattle.sel_gather.proofs.{Grown.source_rows, RunLists.pick_nulls, RunLists.pick_run, RunLists.run_there}
 use Rattle.sel_gather.proofs.copy_values.copy_run.Goals as goal
 
 pub bounds-parts-source : goal.bounds-parts-source

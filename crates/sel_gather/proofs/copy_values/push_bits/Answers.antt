@@ -1,8 +1,5 @@
-use Rattle.std.proofs.Common.{◌∙◌, ◌++◌, ◌+◌, ◌≤◌, ◌<◌, ap, sym, map, subst, length, arith, None}
-use Rattle.std.specs.Option.{ForSome, option_copied}
-use Rattle.std.proofs.lemmas.List.{get_or-map, length-map}
-use Rattle.std.proofs.lemmas.Result.{on_ok_weaker}
-use Rattle.sel_gather.specs.Validity.{part_bits}
+use Rattle.sel_gather.proofs.Common.{◌∙◌, ◌++◌, ◌+◌, ◌≤◌, ◌<◌, ap, sym, map, subst, length, arith, None, ForSome, option_copied, get_or-map, length-map}
+use Rattle.sel_gather.proofs.Common.{on_ok_weaker, part_bits}
 use Rattle.sel_gather.proofs.PlanRuns.{null_found, run_there, run_found}
 use Rattle.sel_gather.proofs.copy_values.push_bits.Goals as goal
 

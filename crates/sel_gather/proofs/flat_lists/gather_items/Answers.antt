@@ -1,10 +1,6 @@
-use Rattle.std.proofs.Common.{◌∙◌, ◌∷◌, [], ap, arith, map, sym}
-use Rattle.sel_arrow.specs.Rows.{type_of}
-use Rattle.sel_gather.specs.ItemPicks.{items_at}
+use Rattle.sel_gather.proofs.Common.{◌∙◌, ◌∷◌, [], ap, arith, map, sym, type_of, items_at}
 use Rattle.sel_gather.proofs.FlatItems.{again_fits, again_long, children_alike, children_fit, flat_collected}
-use Rattle.sel_gather.proofs.ItemPicks.{fits_rows, items_fit, items_near}
-use Rattle.sel_gather.proofs.ItemRuns.{rows_of}
-use Rattle.sel_gather.proofs.Walks.{one_child}
+use Rattle.sel_gather.proofs.{ItemPicks.fits_rows, ItemPicks.items_fit, ItemPicks.items_near, ItemRuns.rows_of, Walks.one_child}
 use Rattle.sel_gather.proofs.flat_lists.gather_items.Goals as goal
 
 pub invariant_of-items : goal.invariant_of-items

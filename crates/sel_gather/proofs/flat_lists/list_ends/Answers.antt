@@ -1,9 +1,5 @@
-use Rattle.std.proofs.Common.{◌∙◌, ◌<◌, ◌+◌, arith, sym, w64}
-use Rattle.std.proofs.lemmas.Int.{to_z_pos}
-use Rattle.sel_gather.specs.Picks.{PickFits}
-use Rattle.sel_gather.proofs.Gathers.{next_all, rest_is}
-use Rattle.sel_gather.proofs.ItemPicks.{counted_below, counted_more, ended_more}
-use Rattle.sel_gather.proofs.ItemRuns.{rows_of}
+use Rattle.sel_gather.proofs.Common.{◌∙◌, ◌<◌, ◌+◌, arith, sym, w64, to_z_pos, PickFits}
+use Rattle.sel_gather.proofs.{Gathers.next_all, Gathers.rest_is, ItemPicks.counted_below, ItemPicks.counted_more, ItemPicks.ended_more, ItemRuns.rows_of}
 use Rattle.sel_gather.proofs.flat_lists.list_ends.Goals as goal
 
 pub run_of_list-list-requires-clause-fits : goal.run_of_list-list-requires-clause-fits

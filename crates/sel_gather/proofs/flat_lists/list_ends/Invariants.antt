@@ -1,9 +1,5 @@
 -- The ends of the lists so far.
-use Rattle.std.proofs.Common.{◌≡◌, ◌∷◌, length, map, take, drop, pos}
-use Rattle.sel_arrow.specs.Value.{Null}
-use Rattle.sel_gather.specs.Children.{joined_items}
-use Rattle.sel_gather.specs.Ends.{item_ends}
-use Rattle.sel_gather.specs.Picks.{pick}
+use Rattle.sel_gather.proofs.Common.{◌≡◌, ◌∷◌, length, map, take, drop, pos, Null, joined_items, item_ends, pick}
 use Rattle.sel_gather.proofs.ItemRuns.{rows_of}
 use Rattle.sel_gather.proofs.flat_lists.list_ends.Given as goal
 

@@ -1,4 +1,4 @@
-use Rattle.sel_arrow.specs.Rows.{type_of}
+use Rattle.sel_gather.proofs.Common.{type_of}
 use Rattle.sel_gather.proofs.Walks.{lists_child, lists_listing}
 use Rattle.sel_gather.proofs.gather.gather_lists.Goals as goal
 

@@ -1,6 +1,4 @@
-use Rattle.std.proofs.Common.{◌≤◌, ◌+◌, length, map, arith}
-use Rattle.std.specs.Option.{option_copied}
-use Rattle.sel_gather.specs.Plans.{HasBit}
+use Rattle.sel_gather.proofs.Common.{◌≤◌, ◌+◌, length, map, arith, option_copied, HasBit}
 use Rattle.sel_gather.proofs.Gathers.{word_lt, words_more, left_all, left_length, left_behind}
 use Rattle.sel_gather.proofs.gather_values.gather_bits.Goals as goal
 

@@ -1,10 +1,6 @@
-use Rattle.std.proofs.Common.{◌≤◌, ◌+◌, ◌∙◌, All, ap, sym, subst, length, map, arith}
-use Rattle.std.specs.Option.{option_copied}
-use Rattle.sel_arrow.specs.Value.{Null}
-use Rattle.sel_gather.specs.Picks.{PickFits}
-use Rattle.sel_gather.specs.Plans.{HasBit}
-use Rattle.sel_gather.proofs.Hiding.{bits_fit}
+use Rattle.sel_gather.proofs.Common.{◌≤◌, ◌+◌, ◌∙◌, All, ap, sym, subst, length, map, arith, option_copied, Null, PickFits, HasBit}
 use Rattle.sel_gather.proofs.Gathers.{word_lt, words_more, values_more, left_all, left_length, left_behind}
+use Rattle.sel_gather.proofs.Hiding.{bits_fit}
 use Rattle.sel_gather.proofs.gather_values.gather_hidden.Goals as goal
 
 pub copy_bits-requires : goal.copy_bits-requires

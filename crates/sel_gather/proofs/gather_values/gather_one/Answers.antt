@@ -1,5 +1,4 @@
-use Rattle.std.proofs.Common.{◌∷◌, [], sym, ◌∙◌, arith}
-use Rattle.sel_gather.specs.Picks.{PickFits}
+use Rattle.sel_gather.proofs.Common.{◌∷◌, [], sym, ◌∙◌, arith, PickFits}
 use Rattle.sel_gather.proofs.Gathers.{next_all, rest_is, values_next}
 use Rattle.sel_gather.proofs.gather_values.gather_one.Goals as goal
 

@@ -1,5 +1,4 @@
-use Rattle.std.proofs.Common.{◌≡◌, ◌≤◌, take, drop, map, vec_len, vec_capacity}
-use Rattle.sel_gather.specs.Picks.{pick}
+use Rattle.sel_gather.proofs.Common.{◌≡◌, ◌≤◌, take, drop, map, vec_len, vec_capacity, pick}
 use Rattle.sel_gather.proofs.gather_values.gather_values.Given as goal
 
 abbrev pub invariant-loop-k : goal.invariant-loop-k

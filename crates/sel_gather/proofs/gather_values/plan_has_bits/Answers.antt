@@ -1,6 +1,4 @@
-use Rattle.std.proofs.Common.{◌≡◌, ◌-◌, suc, map, refl, sym, subst, ◌∙◌, arith}
-use Rattle.std.specs.Option.{option_copied}
-use Rattle.sel_gather.specs.Plans.{HasBit}
+use Rattle.sel_gather.proofs.Common.{◌≡◌, ◌-◌, suc, map, refl, sym, subst, ◌∙◌, arith, option_copied, HasBit}
 use Rattle.sel_gather.proofs.PlanTests.{IsTested, tested_none, tested_next, tested_here, tested_all}
 use Rattle.sel_gather.proofs.gather_values.plan_has_bits.Goals as goal
 

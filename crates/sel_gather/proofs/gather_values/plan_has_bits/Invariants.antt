@@ -1,7 +1,5 @@
 -- The row references so far pass the test.
-use Rattle.std.proofs.Common.{map}
-use Rattle.std.specs.Option.{option_copied}
-use Rattle.sel_gather.specs.Plans.{HasBit}
+use Rattle.sel_gather.proofs.Common.{map, option_copied, HasBit}
 use Rattle.sel_gather.proofs.PlanTests.{IsTested}
 use Rattle.sel_gather.proofs.gather_values.plan_has_bits.Given as goal
 

@@ -1,8 +1,4 @@
-use Rattle.std.proofs.Common.{◌≡◌, ◌+◌, ◌++◌, take, drop, map, vec_len, vec_capacity}
-use Rattle.std.specs.Option.{option_copied}
-use Rattle.sel_bits.specs.Words.{word_of}
-use Rattle.sel_gather.specs.Picks.{pick}
-use Rattle.sel_gather.specs.Plans.{bits_found}
+use Rattle.sel_gather.proofs.Common.{◌≡◌, ◌+◌, ◌++◌, take, drop, map, vec_len, vec_capacity, option_copied, word_of, pick, bits_found}
 use Rattle.sel_gather.proofs.gather_values.push_word.Given as goal
 
 abbrev pub invariant-loop-i : goal.invariant-loop-i

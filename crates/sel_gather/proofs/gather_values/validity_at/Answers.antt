@@ -1,8 +1,4 @@
-use Rattle.std.proofs.Common.{map, length, ap, sym, ◌∙◌}
-use Rattle.std.specs.Option.{option_copied}
-use Rattle.std.proofs.lemmas.List.{length-map}
-use Rattle.sel_gather.specs.Plans.{bit_found}
-use Rattle.sel_gather.specs.Validity.{bits_for}
+use Rattle.sel_gather.proofs.Common.{map, length, ap, sym, ◌∙◌, option_copied, length-map, bit_found, bits_for}
 use Rattle.sel_gather.proofs.Gathers.{all_there, all_none}
 use Rattle.sel_gather.proofs.gather_values.validity_at.Goals as goal
 

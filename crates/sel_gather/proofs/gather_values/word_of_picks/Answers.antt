@@ -1,6 +1,4 @@
-use Rattle.std.proofs.Common.{◌∙◌, map, sym, arith}
-use Rattle.std.specs.Option.{option_copied}
-use Rattle.sel_gather.specs.Plans.{HasBit}
+use Rattle.sel_gather.proofs.Common.{◌∙◌, map, sym, arith, option_copied, HasBit}
 use Rattle.sel_gather.proofs.Gathers.{word_next, word_few, next_all, rest_is}
 use Rattle.sel_gather.proofs.gather_values.word_of_picks.Goals as goal
 

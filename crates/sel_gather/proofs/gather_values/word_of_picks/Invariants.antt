@@ -1,7 +1,4 @@
-use Rattle.std.proofs.Common.{◌≡◌, take, drop, map}
-use Rattle.std.specs.Option.{option_copied}
-use Rattle.sel_bits.specs.Words.{word_of}
-use Rattle.sel_gather.specs.Plans.{bits_found}
+use Rattle.sel_gather.proofs.Common.{◌≡◌, take, drop, map, option_copied, word_of, bits_found}
 use Rattle.sel_gather.proofs.gather_values.word_of_picks.Given as goal
 
 abbrev pub invariant-loop-i : goal.invariant-loop-i

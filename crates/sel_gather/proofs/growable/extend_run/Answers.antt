@@ -1,6 +1,4 @@
-use Rattle.std.proofs.Common.{◌++◌, ap, sym, ◌∙◌}
-use Rattle.std.proofs.lemmas.Result.{IfOk-weaker}
-use Rattle.sel_arrow.specs.Value.{Null}
+use Rattle.sel_gather.proofs.Common.{◌++◌, ap, sym, ◌∙◌, IfOk-weaker, Null}
 use Rattle.sel_gather.proofs.RunLists.{run_there, pick_run, pick_nulls}
 use Rattle.sel_gather.proofs.growable.extend_run.Goals as goal
 

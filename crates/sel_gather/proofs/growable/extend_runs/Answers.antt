@@ -1,8 +1,5 @@
-use Rattle.std.proofs.Common.{◌++◌, All, List, length, take, ap, sym, subst, ◌∙◌, arith, refl, append_assoc, length-append}
-use Rattle.std.proofs.lemmas.List.{append-nil, take_all}
-use Rattle.sel_arrow.specs.Value.{Value, Null}
-use Rattle.sel_gather.specs.Picks.{pick, PickFits}
-use Rattle.sel_gather.specs.Runs.{expand, unrolled}
+use Rattle.sel_gather.proofs.Common.{◌++◌, All, List, length, take, ap, sym, subst, ◌∙◌, arith, refl, append_assoc, length-append, append-nil, take_all, Value}
+use Rattle.sel_gather.proofs.Common.{Null, pick, PickFits, expand, unrolled}
 use Rattle.sel_gather.proofs.RunLists.{all_at, room_at, pick_more, length-pick, run_at}
 use Rattle.sel_gather.proofs.growable.extend_runs.Goals as goal
 

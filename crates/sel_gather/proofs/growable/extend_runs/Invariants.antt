@@ -1,7 +1,4 @@
-use Rattle.std.proofs.Common.{◌≡◌, ◌++◌, take}
-use Rattle.sel_arrow.specs.Value.{Null}
-use Rattle.sel_gather.specs.Picks.{pick}
-use Rattle.sel_gather.specs.Runs.{expand}
+use Rattle.sel_gather.proofs.Common.{◌≡◌, ◌++◌, take, Null, pick, expand}
 use Rattle.sel_gather.proofs.growable.extend_runs.Given as goal
 
 abbrev pub invariant-loop-run : goal.invariant-loop-run

@@ -1,8 +1,5 @@
-use Rattle.std.proofs.Common.{All, subst}
-use Rattle.std.proofs.lemmas.List.Elements.{All-head, All-tail}
-use Rattle.sel_gather.specs.ItemPicks.{IsRow}
-use Rattle.sel_gather.proofs.ItemPicks.{lists_left, next_list, row_fits}
-use Rattle.sel_gather.proofs.ItemRuns.{rows_of}
+use Rattle.sel_gather.proofs.Common.{All, subst, All-head, All-tail, IsRow}
+use Rattle.sel_gather.proofs.{ItemPicks.lists_left, ItemPicks.next_list, ItemPicks.row_fits, ItemRuns.rows_of}
 use Rattle.sel_gather.proofs.item_refs.next_items.Goals as goal
 
 pub next-requires : goal.next-requires

@@ -1,7 +1,5 @@
 -- The lists so far have no items before those of the run.
-use Rattle.std.proofs.Common.{◌≡◌, ◌++◌, All, length}
-use Rattle.sel_gather.specs.ItemPicks.{items_at, IsRow}
-use Rattle.sel_gather.specs.Runs.{unrolled}
+use Rattle.sel_gather.proofs.Common.{◌≡◌, ◌++◌, All, length, items_at, IsRow, unrolled}
 use Rattle.sel_gather.proofs.ItemRuns.{rows_of}
 use Rattle.sel_gather.proofs.item_refs.next_items.Given as goal
 

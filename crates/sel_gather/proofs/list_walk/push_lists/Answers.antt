@@ -1,10 +1,5 @@
-use Rattle.std.proofs.Common.{◌≡◌, ◌∙◌, ◌++◌, ◌∷◌, [], ◌+◌, ◌<◌, arith, ap, sym, map, pos, w64, length, length-append, take, refl}
-use Rattle.std.proofs.lemmas.Int.{to_z_pos}
-use Rattle.sel_arrow.specs.Value.{Null}
-use Rattle.sel_gather.specs.Children.{joined_items}
-use Rattle.sel_gather.specs.Ends.{item_ends}
-use Rattle.sel_gather.specs.Picks.{pick}
-use Rattle.sel_gather.specs.Runs.{expand, unrolled}
+use Rattle.sel_gather.proofs.Common.{◌≡◌, ◌∙◌, ◌++◌, ◌∷◌, [], ◌+◌, ◌<◌, arith, ap, sym, map, pos, w64, length, length-append, take, refl, to_z_pos, Null}
+use Rattle.sel_gather.proofs.Common.{joined_items, item_ends, pick, expand, unrolled}
 use Rattle.sel_gather.proofs.ItemRuns.{rows_of, below_of, counted_row, joined_part, ends_more, items_more, pushed_fit, all_rows}
 use Rattle.sel_gather.proofs.RunLists.{length-pick}
 use Rattle.sel_gather.proofs.list_walk.push_lists.Goals as goal

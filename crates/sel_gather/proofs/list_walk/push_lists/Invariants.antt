@@ -1,10 +1,5 @@
 -- The ends and the child rows of the rows so far are appended.
-use Rattle.std.proofs.Common.{◌≡◌, ◌+◌, ◌++◌, ◌∷◌, [], All, length, map, take, pos}
-use Rattle.sel_arrow.specs.Value.{Null}
-use Rattle.sel_gather.specs.Children.{joined_items}
-use Rattle.sel_gather.specs.Ends.{item_ends}
-use Rattle.sel_gather.specs.Picks.{pick, PickFits}
-use Rattle.sel_gather.specs.Runs.{expand, unrolled}
+use Rattle.sel_gather.proofs.Common.{◌≡◌, ◌+◌, ◌++◌, ◌∷◌, [], All, length, map, take, pos, Null, joined_items, item_ends, pick, PickFits, expand, unrolled}
 use Rattle.sel_gather.proofs.ItemRuns.{rows_of, below_of}
 use Rattle.sel_gather.proofs.list_walk.push_lists.Given as goal
 

@@ -1,16 +1,8 @@
-use Rattle.std.proofs.Common.{◌≤◌, ◌∙◌, ◌++◌, ◌∷◌, [], ◌+◌, arith, ap, sym, subst, All, length-append, length, take}
-use Rattle.std.proofs.lemmas.Result.{err_from_is_err_and}
-use Rattle.sel_arrow.specs.Value.{Null}
-use Rattle.sel_gather.specs.Children.{joined_items}
-use Rattle.sel_gather.specs.Need.{ExceedsRows}
-use Rattle.sel_gather.specs.Picks.{pick, PickFits}
-use Rattle.sel_gather.specs.Runs.{expand, unrolled}
-use Rattle.sel_gather.proofs.Below.{refused_more}
-use Rattle.sel_gather.proofs.Gathers.{left_all}
-use Rattle.sel_gather.proofs.ItemRuns.{rows_of, below_of}
-use Rattle.std.proofs.lemmas.List.{take_all}
-use Rattle.sel_gather.proofs.RunLists.{length-unrolled, expand-push, length-pick}
+use Rattle.sel_gather.proofs.Common.{◌≤◌, ◌∙◌, ◌++◌, ◌∷◌, [], ◌+◌, arith, ap, sym, subst, All, length-append, length, take, err_from_is_err_and, Null}
+use Rattle.sel_gather.proofs.Common.{joined_items, ExceedsRows, pick, PickFits, expand, unrolled, take_all}
 use Rattle.sel_gather.proofs.Walks.{picked_run, run_behind, run_within, run_all, items_behind, counts_behind, ends_behind, joined_first, past_more}
+use Rattle.sel_gather.proofs.{Below.refused_more, Gathers.left_all, ItemRuns.rows_of, ItemRuns.below_of, RunLists.length-unrolled, RunLists.expand-push}
+use Rattle.sel_gather.proofs.{RunLists.length-pick}
 use Rattle.sel_gather.proofs.list_walk.walk_lists.Goals as goal
 
 pub push_lists-requires-clause-fits : goal.push_lists-requires-clause-fits

@@ -1,10 +1,5 @@
 -- The ends and the child rows of the lists so far.
-use Rattle.std.proofs.Common.{◌≡◌, ◌≤◌, ◌-◌, ◌∷◌, ◌++◌, [], All, length, map, take, drop, pos}
-use Rattle.sel_arrow.specs.Value.{Null}
-use Rattle.sel_gather.specs.Children.{joined_items}
-use Rattle.sel_gather.specs.Ends.{item_ends}
-use Rattle.sel_gather.specs.Picks.{pick, PickFits}
-use Rattle.sel_gather.specs.Runs.{expand}
+use Rattle.sel_gather.proofs.Common.{◌≡◌, ◌≤◌, ◌-◌, ◌∷◌, ◌++◌, [], All, length, map, take, drop, pos, Null, joined_items, item_ends, pick, PickFits, expand}
 use Rattle.sel_gather.proofs.ItemRuns.{rows_of, below_of}
 use Rattle.sel_gather.proofs.list_walk.walk_lists.Given as goal
 

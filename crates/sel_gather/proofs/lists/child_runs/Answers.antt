@@ -1,9 +1,4 @@
-use Rattle.std.proofs.Common.{◌∙◌, ap, sym, length}
-use Rattle.sel_bits.specs.Limits.{max_rows}
-use Rattle.sel_arrow.specs.Value.{Null}
-use Rattle.sel_gather.specs.Children.{joined_items}
-use Rattle.sel_gather.specs.Picks.{pick, PickFits}
-use Rattle.sel_gather.specs.Runs.{expand}
+use Rattle.sel_gather.proofs.Common.{◌∙◌, ap, sym, length, max_rows, Null, joined_items, pick, PickFits, expand}
 use Rattle.sel_gather.proofs.ItemRuns.{rows_of, below_of, items_of_run, run_items_room, all_runs}
 use Rattle.sel_gather.proofs.RunLists.{all_at, length-pick}
 use Rattle.sel_gather.proofs.lists.child_runs.Goals as goal

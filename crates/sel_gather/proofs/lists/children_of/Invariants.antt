@@ -1,6 +1,5 @@
 -- The children of the sources so far.
-use Rattle.std.proofs.Common.{◌≡◌, map, take}
-use Rattle.sel_gather.specs.Children.{child}
+use Rattle.sel_gather.proofs.Common.{◌≡◌, map, take, child}
 use Rattle.sel_gather.proofs.lists.children_of.Given as goal
 
 abbrev pub invariant-loop-source : goal.invariant-loop-source

@@ -1,10 +1,6 @@
-use Rattle.std.proofs.Common.{◌∙◌, arith, length, ap, length-append, take}
-use Rattle.sel_arrow.specs.Value.{Null}
-use Rattle.sel_gather.specs.Children.{joined_items}
-use Rattle.sel_gather.specs.Picks.{pick, PickFits}
-use Rattle.sel_gather.specs.Runs.{expand, unrolled}
-use Rattle.sel_gather.proofs.ItemRuns.{rows_of, joined_run, all_runs}
+use Rattle.sel_gather.proofs.Common.{◌∙◌, arith, length, ap, length-append, take, Null, joined_items, pick, PickFits, expand, unrolled}
 use Rattle.sel_gather.proofs.RunLists.{all_at, room_at, length_more, run_at}
+use Rattle.sel_gather.proofs.ItemRuns.{rows_of, joined_run, all_runs}
 use Rattle.sel_gather.proofs.lists.count_items.Goals as goal
 
 pub count_run-total-requires-clause-fits : goal.count_run-total-requires-clause-fits

@@ -1,5 +1,4 @@
-use Rattle.std.proofs.Common.{◌∙◌, arith, length}
-use Rattle.sel_gather.specs.Children.{joined_items}
+use Rattle.sel_gather.proofs.Common.{◌∙◌, arith, length, joined_items}
 use Rattle.sel_gather.proofs.ItemRuns.{rows_of, below_of, counted_row, all_rows}
 use Rattle.sel_gather.proofs.lists.count_run.Goals as goal
 

@@ -1,9 +1,4 @@
-use Rattle.std.proofs.Common.{◌∙◌, ◌++◌, ap}
-use Rattle.sel_bits.specs.Limits.{max_rows}
-use Rattle.sel_arrow.specs.Value.{Null}
-use Rattle.sel_gather.specs.Children.{joined_items}
-use Rattle.sel_gather.specs.Picks.{pick}
-use Rattle.sel_gather.specs.Runs.{expand}
+use Rattle.sel_gather.proofs.Common.{◌∙◌, ◌++◌, ap, max_rows, Null, joined_items, pick, expand}
 use Rattle.sel_gather.proofs.ItemRuns.{rows_of, below_of, items_more, items_room, pushed_fit, all_rows}
 use Rattle.sel_gather.proofs.lists.push_items.Goals as goal
 

@@ -1,9 +1,5 @@
 -- The child rows of the rows so far are appended.
-use Rattle.std.proofs.Common.{◌≡◌, ◌++◌, All, take}
-use Rattle.sel_arrow.specs.Value.{Null}
-use Rattle.sel_gather.specs.Children.{joined_items}
-use Rattle.sel_gather.specs.Picks.{pick, PickFits}
-use Rattle.sel_gather.specs.Runs.{expand, unrolled}
+use Rattle.sel_gather.proofs.Common.{◌≡◌, ◌++◌, All, take, Null, joined_items, pick, PickFits, expand, unrolled}
 use Rattle.sel_gather.proofs.ItemRuns.{rows_of, below_of}
 use Rattle.sel_gather.proofs.lists.push_items.Given as goal
 

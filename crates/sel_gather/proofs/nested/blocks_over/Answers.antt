@@ -1,14 +1,5 @@
-use Rattle.std.proofs.Common.{◌≡◌, ◌∙◌, true, ap, arith, length}
-use Rattle.sel_arrow.specs.Rows.{rows, type_of, well_formed}
-use Rattle.sel_arrow.specs.Value.{Null}
-use Rattle.sel_gather.specs.Picks.{pick}
-use Rattle.sel_gather.specs.Children.{joined_items}
-use Rattle.sel_arrow.proofs.NestedRows.{blocks_formed}
-use Rattle.sel_gather.proofs.ItemRuns.{rows_of}
-use Rattle.sel_gather.proofs.Layouts.{picked_blocks}
-use Rattle.sel_gather.proofs.Rebuilt.{blocks_rebuilt, blocks_fit}
-use Rattle.sel_gather.proofs.RunLists.{length-pick}
-use Rattle.sel_gather.proofs.Walks.{blocks_known}
+use Rattle.sel_gather.proofs.Common.{◌≡◌, ◌∙◌, true, ap, arith, length, rows, type_of, well_formed, Null, pick, joined_items, blocks_formed}
+use Rattle.sel_gather.proofs.{ItemRuns.rows_of, Layouts.picked_blocks, Rebuilt.blocks_rebuilt, Rebuilt.blocks_fit, RunLists.length-pick, Walks.blocks_known}
 use Rattle.sel_gather.proofs.nested.blocks_over.Goals as goal
 
 pub gather_validity-requires-clause-known : goal.gather_validity-requires-clause-known

@@ -1,17 +1,7 @@
-use Rattle.std.proofs.Common.{◌≡◌, ◌∙◌, ◌∷◌, true, ap, sym, length, arith}
+use Rattle.sel_gather.proofs.Common.{◌≡◌, ◌∙◌, ◌∷◌, true, ap, sym, length, arith, rows, type_of, well_formed, Null, lists_formed, joined_items, item_ends, pick}
 use Rattle.std.specs.Prelude.{ℤ}
-use Rattle.sel_arrow.specs.Rows.{rows, type_of, well_formed}
-use Rattle.sel_arrow.specs.Value.{Null}
-use Rattle.sel_arrow.proofs.NestedRows.{lists_formed}
-use Rattle.sel_gather.specs.Children.{joined_items}
-use Rattle.sel_gather.specs.Ends.{item_ends}
-use Rattle.sel_gather.specs.Picks.{pick}
-use Rattle.sel_gather.proofs.ItemRuns.{rows_of}
-use Rattle.sel_gather.proofs.JoinedRows.{offsets_of, same_numbers, map_same}
-use Rattle.sel_gather.proofs.Layouts.{picked_lists}
-use Rattle.sel_gather.proofs.Rebuilt.{rising_ends, lists_rebuilt, lists_fit}
-use Rattle.sel_gather.proofs.RunLists.{length-pick}
-use Rattle.sel_gather.proofs.Walks.{lists_known}
+use Rattle.sel_gather.proofs.{ItemRuns.rows_of, JoinedRows.offsets_of, JoinedRows.same_numbers, JoinedRows.map_same, Layouts.picked_lists, Rebuilt.rising_ends}
+use Rattle.sel_gather.proofs.{Rebuilt.lists_rebuilt, Rebuilt.lists_fit, RunLists.length-pick, Walks.lists_known}
 use Rattle.sel_gather.proofs.nested.lists_over.Goals as goal
 
 pub of_rising-requires : goal.of_rising-requires

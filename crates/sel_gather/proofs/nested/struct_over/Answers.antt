@@ -1,17 +1,7 @@
-use Rattle.std.proofs.Common.{◌≡◌, ◌∙◌, ap, subst, length, map, get_or}
-use Rattle.std.proofs.lemmas.List.{length-map}
-use Rattle.sel_arrow.specs.Rows.{rows, type_of}
-use Rattle.sel_arrow.specs.Shape.{shapes_of, shape_list}
-use Rattle.sel_arrow.specs.Value.{Null}
+use Rattle.sel_gather.proofs.Common.{◌≡◌, ◌∙◌, ap, subst, length, map, get_or, length-map, rows, type_of, shapes_of, shape_list, Null, pick, expand}
 use Rattle.sel_arrow.proofs.Trees.{rows-Struct, fields_make}
 use Rattle.sel_arrow.proofs.Types.{type_of-Struct}
-use Rattle.sel_gather.specs.Picks.{pick}
-use Rattle.sel_gather.specs.Runs.{expand}
-use Rattle.sel_gather.proofs.Below.{listed_shapes}
-use Rattle.sel_gather.proofs.ItemRuns.{rows_of}
-use Rattle.sel_gather.proofs.Layouts.{picked_tuples}
-use Rattle.sel_gather.proofs.Rebuilt.{IsTuple, tuples_rebuilt}
-use Rattle.sel_gather.proofs.RunLists.{length-pick}
+use Rattle.sel_gather.proofs.{Below.listed_shapes, ItemRuns.rows_of, Layouts.picked_tuples, Rebuilt.IsTuple, Rebuilt.tuples_rebuilt, RunLists.length-pick}
 use Rattle.sel_gather.proofs.nested.struct_over.Goals as goal
 
 pub returns-clause-rows : goal.returns-clause-rows

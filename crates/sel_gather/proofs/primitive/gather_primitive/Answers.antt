@@ -1,12 +1,5 @@
-use Rattle.std.proofs.Common.{◌≡◌, All, length, map, ap, sym, subst, ◌∙◌, arith}
-use Rattle.std.specs.Option.{option_copied}
-use Rattle.sel_arrow.specs.Masked.{hidden, number_rows}
-use Rattle.sel_arrow.specs.Value.{Value, Number, Null}
-use Rattle.sel_gather.specs.Picks.{pick, PickFits}
-use Rattle.sel_gather.specs.Plans.{bits_found}
-use Rattle.sel_gather.proofs.Grown.{finished}
-use Rattle.sel_gather.proofs.RunLists.{length-pick}
-use Rattle.sel_gather.proofs.Hiding.{values_fit, rows_picked}
+use Rattle.sel_gather.proofs.Common.{◌≡◌, All, length, map, ap, sym, subst, ◌∙◌, arith, option_copied, hidden, number_rows, Value, Number, Null, pick, PickFits, bits_found}
+use Rattle.sel_gather.proofs.{Grown.finished, RunLists.length-pick, Hiding.values_fit, Hiding.rows_picked}
 use Rattle.sel_gather.proofs.primitive.gather_primitive.Goals as goal
 
 pub gather_parts-requires : goal.gather_parts-requires

@@ -1,7 +1,4 @@
-use Rattle.std.proofs.Common.{◌≡◌, take, map}
-use Rattle.std.specs.Option.{option_copied}
-use Rattle.sel_arrow.specs.Masked.{number_rows}
-use Rattle.sel_arrow.specs.Rows.{rows}
+use Rattle.sel_gather.proofs.Common.{◌≡◌, take, map, option_copied, number_rows, rows}
 use Rattle.sel_gather.proofs.primitive.numbers_of.Given as goal
 
 abbrev pub invariant-loop-source : goal.invariant-loop-source

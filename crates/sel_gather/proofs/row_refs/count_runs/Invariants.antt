@@ -1,4 +1,4 @@
-use Rattle.std.proofs.Common.{◌≡◌, ◌≤◌, ◌+◌, length}
+use Rattle.sel_gather.proofs.Common.{◌≡◌, ◌≤◌, ◌+◌, length}
 use Rattle.sel_gather.proofs.row_refs.count_runs.Given as goal
 
 abbrev pub invariant-loop-left : goal.invariant-loop-left

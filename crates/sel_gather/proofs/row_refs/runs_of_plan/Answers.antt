@@ -1,8 +1,5 @@
-use Rattle.std.proofs.Common.{◌≡◌, ◌++◌, [], length, ap, sym, ◌∙◌, arith, length-append}
-use Rattle.std.proofs.lemmas.List.{append-nil}
-use Rattle.sel_gather.specs.Runs.{expand, unrolled}
-use Rattle.sel_gather.proofs.RunLists.{length-unrolled}
-use Rattle.sel_gather.proofs.Gathers.{none_left, run_more}
+use Rattle.sel_gather.proofs.Common.{◌≡◌, ◌++◌, [], length, ap, sym, ◌∙◌, arith, length-append, append-nil, expand, unrolled}
+use Rattle.sel_gather.proofs.{RunLists.length-unrolled, Gathers.none_left, Gathers.run_more}
 use Rattle.sel_gather.proofs.row_refs.runs_of_plan.Goals as goal
 
 pub push_run-requires : goal.push_run-requires

@@ -1,5 +1,4 @@
-use Rattle.std.proofs.Common.{◌≡◌, ◌++◌, length}
-use Rattle.sel_gather.specs.Runs.{expand}
+use Rattle.sel_gather.proofs.Common.{◌≡◌, ◌++◌, length, expand}
 use Rattle.sel_gather.proofs.row_refs.runs_of_plan.Given as goal
 
 abbrev pub invariant-loop-left : goal.invariant-loop-left

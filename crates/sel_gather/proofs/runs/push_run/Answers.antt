@@ -1,5 +1,4 @@
-use Rattle.std.proofs.Common.{◌+◌, ◌-◌, ◌<◌, ◌≡◌, ◌∙◌, length, ap, arith}
-use Rattle.sel_gather.specs.Runs.{expand}
+use Rattle.sel_gather.proofs.Common.{◌+◌, ◌-◌, ◌<◌, ◌≡◌, ◌∙◌, length, ap, arith, expand}
 use Rattle.sel_gather.proofs.RunLists.{expand-push, last_joined, one_len}
 use Rattle.sel_gather.proofs.runs.push_run.Goals as goal
 

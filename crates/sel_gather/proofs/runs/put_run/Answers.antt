@@ -1,6 +1,4 @@
-use Rattle.std.proofs.Common.{◌++◌, ◌∷◌, [], ◌∙◌, ap, sym, arith, append_assoc, length-append, length}
-use Rattle.std.proofs.lemmas.List.{append-nil}
-use Rattle.sel_gather.specs.Runs.{expand, unrolled}
+use Rattle.sel_gather.proofs.Common.{◌++◌, ◌∷◌, [], ◌∙◌, ap, sym, arith, append_assoc, length-append, length, append-nil, expand, unrolled}
 use Rattle.sel_gather.proofs.RunLists.{expand-push, length-unrolled, none_unrolled}
 use Rattle.sel_gather.proofs.runs.put_run.Goals as goal
 

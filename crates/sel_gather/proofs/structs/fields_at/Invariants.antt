@@ -1,6 +1,5 @@
 -- The fields of the sources so far.
-use Rattle.std.proofs.Common.{◌≡◌, map, take}
-use Rattle.sel_gather.specs.Children.{field}
+use Rattle.sel_gather.proofs.Common.{◌≡◌, map, take, field}
 use Rattle.sel_gather.proofs.structs.fields_at.Given as goal
 
 abbrev pub invariant-loop-source : goal.invariant-loop-source

@@ -1,9 +1,6 @@
-use Rattle.std.proofs.Common.{◌≡◌, ℕ, ◌+◌, ◌-◌, ◌++◌, ◌∙◌, ap, sym, arith, length, map, List, Option, true≢false}
+use Rattle.sel_gather.proofs.Common.{◌≡◌, ℕ, ◌+◌, ◌-◌, ◌++◌, ◌∙◌, ap, sym, arith, length, map, List, Option, true≢false, Bits, kept_by, expand, unrolled}
+use Rattle.sel_gather.proofs.Common.{unrolled_from, Run}
 use Rattle.std.proofs.lemmas.List.{length-append}
-use Rattle.sel_bits.specs.Bits.{Bits}
-use Rattle.sel_gather.specs.KeptPicks.{kept_by}
-use Rattle.sel_gather.specs.Runs.{expand, unrolled, unrolled_from}
-use Rattle.sel_gather.specs.declared.runs.Run.{Run}
 use Rattle.sel_gather.proofs.KeptBlocks.{Passes, zeros_within, ones_within, passed_left, passed_some, passed_rest, kept_more, kept_count}
 use Rattle.sel_gather.proofs.RunLists.{length-unrolled}
 use Rattle.sel_gather.proofs.structs.push_kept.Goals as goal
@@ -46,13 +43,8 @@ overflow_add-start-in-loop-run c =
 
 pub loop-run-smaller : goal.loop-run-smaller
 loop-run-smaller c =
-    let passes : Passes c.loop-run.rest.bits c.take_leading_zeros-nulls.new.self.bits c.take_leading_ones-len.new.self.bits c.take_leading_zeros-nulls.result c.take_leading_ones-len.result = record {
-      zeros = c.take_leading_zeros-nulls.ensures.count;
-      cut = ap (λ (b : Bits). b.bits) c.take_leading_zeros-nulls.ensures.rest;
-      ones = c.take_leading_ones-len.ensures.count;
-      left = ap (λ (b : Bits). b.bits) c.take_leading_ones-len.ensures.rest;
-    }
-    in
+    let passes : Passes c.loop-run.rest.bits c.take_leading_zeros-nulls.new.self.bits c.take_leading_ones-len.new.self.bits c.take_leading_zeros-nulls.result c.take_leading_ones-len.result =
+    record { zeros = c.take_leading_zeros-nulls.ensures.count; cut = ap (λ (b : Bits). b.bits) c.take_leading_zeros-nulls.ensures.rest; ones = c.take_leading_ones-len.ensures.count; left = ap (λ (b : Bits). b.bits) c.take_leading_ones-len.ensures.rest } in
     let some : length c.loop-run.rest.bits ≡ 0 → ⊥ = λ none. true≢false (sym (c.loop-run-test.ensures.1 none)) in
     passed_some c.args.bits.now.bits _ _ _ _ _ passes (omega (arith, some))
 
@@ -60,13 +52,8 @@ pub loop-run-preserved : goal.loop-run-preserved
 loop-run-preserved c =
     let bits = c.args.bits.now.bits in
     let o = c.args.run.source in
-    let passes : Passes c.loop-run.rest.bits c.take_leading_zeros-nulls.new.self.bits c.take_leading_ones-len.new.self.bits c.take_leading_zeros-nulls.result c.take_leading_ones-len.result = record {
-      zeros = c.take_leading_zeros-nulls.ensures.count;
-      cut = ap (λ (b : Bits). b.bits) c.take_leading_zeros-nulls.ensures.rest;
-      ones = c.take_leading_ones-len.ensures.count;
-      left = ap (λ (b : Bits). b.bits) c.take_leading_ones-len.ensures.rest;
-    }
-    in
+    let passes : Passes c.loop-run.rest.bits c.take_leading_zeros-nulls.new.self.bits c.take_leading_ones-len.new.self.bits c.take_leading_zeros-nulls.result c.take_leading_ones-len.result =
+    record { zeros = c.take_leading_zeros-nulls.ensures.count; cut = ap (λ (b : Bits). b.bits) c.take_leading_zeros-nulls.ensures.rest; ones = c.take_leading_ones-len.ensures.count; left = ap (λ (b : Bits). b.bits) c.take_leading_ones-len.ensures.rest } in
     let nulls = c.in_ok-push_run.ensures.picks ∙ ap (λ (r : Run). expand c.loop-run.split.items ++ unrolled r) c.nulls_of.ensures in
     record {
       from = omega (arith, c.loop-run.invariant.from);

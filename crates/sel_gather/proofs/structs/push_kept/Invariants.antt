@@ -1,7 +1,5 @@
 -- The row references so far are appended; the remaining bits are those from the next row on.
-use Rattle.std.proofs.Common.{◌≡◌, ◌≤◌, ◌+◌, ◌-◌, ◌++◌, length, map}
-use Rattle.sel_gather.specs.KeptPicks.{kept_by}
-use Rattle.sel_gather.specs.Runs.{expand, unrolled_from}
+use Rattle.sel_gather.proofs.Common.{◌≡◌, ◌≤◌, ◌+◌, ◌-◌, ◌++◌, length, map, kept_by, expand, unrolled_from}
 use Rattle.sel_gather.proofs.KeptBlocks.{IsRest}
 use Rattle.sel_gather.proofs.structs.push_kept.Given as goal
 

@@ -1,10 +1,6 @@
-use Rattle.std.proofs.Common.{◌∙◌, ◌++◌, ap, sym, arith, length, map, take}
-use Rattle.std.proofs.lemmas.List.{length-map, map-append}
-use Rattle.sel_gather.specs.Cleared.{cleared}
-use Rattle.sel_gather.specs.Picks.{PickFits}
-use Rattle.sel_gather.specs.Runs.{expand, unrolled}
-use Rattle.sel_gather.proofs.ItemRuns.{rows_of, all_runs}
+use Rattle.sel_gather.proofs.Common.{◌∙◌, ◌++◌, ap, sym, arith, length, map, take, length-map, map-append, cleared, PickFits, expand, unrolled}
 use Rattle.sel_gather.proofs.RunLists.{all_at, room_at, expand_more, run_at}
+use Rattle.sel_gather.proofs.ItemRuns.{rows_of, all_runs}
 use Rattle.sel_gather.proofs.structs.split_runs.Goals as goal
 
 pub push_split-requires-clause-fits : goal.push_split-requires-clause-fits

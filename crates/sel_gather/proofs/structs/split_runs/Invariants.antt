@@ -1,7 +1,5 @@
 -- The cleared row references of the runs so far.
-use Rattle.std.proofs.Common.{◌≡◌, map, take}
-use Rattle.sel_gather.specs.Cleared.{cleared}
-use Rattle.sel_gather.specs.Runs.{expand}
+use Rattle.sel_gather.proofs.Common.{◌≡◌, map, take, cleared, expand}
 use Rattle.sel_gather.proofs.ItemRuns.{rows_of}
 use Rattle.sel_gather.proofs.structs.split_runs.Given as goal
 

@@ -1,6 +1,4 @@
-use Rattle.std.proofs.Common.{◌≡◌, take, map}
-use Rattle.sel_arrow.specs.Columns.{binary_rows}
-use Rattle.sel_arrow.specs.Rows.{rows}
+use Rattle.sel_gather.proofs.Common.{◌≡◌, take, map, binary_rows, rows}
 use Rattle.sel_gather.proofs.typed_arrays.binaries_of.Given as goal
 
 abbrev pub invariant-loop-source : goal.invariant-loop-source

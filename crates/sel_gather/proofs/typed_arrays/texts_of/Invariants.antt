@@ -1,9 +1,5 @@
-use Rattle.std.proofs.Common.{◌≡◌, All, length, take, map}
-use Rattle.std.specs.Prelude.{IsTrue}
-use Rattle.sel_arrow.specs.Columns.{binview_rows}
-use Rattle.sel_arrow.specs.Rows.{rows}
+use Rattle.sel_gather.proofs.Common.{◌≡◌, All, length, take, map, IsTrue, binview_rows, rows, buffer_count}
 use Rattle.sel_arrow.specs.Texts.{all_text}
-use Rattle.sel_gather.specs.Need.{buffer_count}
 use Rattle.sel_gather.proofs.typed_arrays.texts_of.Given as goal
 
 abbrev pub invariant-loop-source : goal.invariant-loop-source

@@ -1,7 +1,4 @@
-use Rattle.std.proofs.Common.{◌≡◌, length, take, map}
-use Rattle.sel_arrow.specs.Columns.{binview_rows}
-use Rattle.sel_arrow.specs.Rows.{rows}
-use Rattle.sel_gather.specs.Need.{buffer_count}
+use Rattle.sel_gather.proofs.Common.{◌≡◌, length, take, map, binview_rows, rows, buffer_count}
 use Rattle.sel_gather.proofs.typed_arrays.views_of.Given as goal
 
 abbrev pub invariant-loop-source : goal.invariant-loop-source

@@ -1,4 +1,4 @@
-use Rattle.sel_gather.specs.Runs.{expand}
+use Rattle.sel_gather.proofs.Common.{expand}
 use Rattle.sel_gather.proofs.PlanRuns.{near_may}
 use Rattle.sel_gather.proofs.validity.collect_validity.Goals as goal
 

@@ -1,9 +1,6 @@
-use Rattle.std.proofs.Common.{◌≡◌, ◌∙◌, ◌∷◌, [], All, None, ap, sym, subst, map, refl, arith}
-use Rattle.std.specs.Option.{option_copied}
-use Rattle.std.proofs.lemmas.Result.{IfOk-weaker}
-use Rattle.sel_gather.specs.Plans.{HasBit, bits_found}
-use Rattle.sel_gather.proofs.Gathers.{all_none, all_there}
+use Rattle.sel_gather.proofs.Common.{◌≡◌, ◌∙◌, ◌∷◌, [], All, None, ap, sym, subst, map, refl, arith, option_copied, IfOk-weaker, HasBit, bits_found}
 use Rattle.sel_gather.proofs.Walks.{none_told, one_told, told_fits, told_picked}
+use Rattle.sel_gather.proofs.Gathers.{all_none, all_there}
 use Rattle.sel_gather.proofs.validity.gather_validity.Goals as goal
 
 pub returns-in-len1-clause-bits : goal.returns-in-len1-clause-bits

@@ -1,9 +1,4 @@
-use Rattle.std.proofs.Common.{Bor, None, ap, subst}
-use Rattle.std.specs.Option.{option_copied}
-use Rattle.std.proofs.lemmas.List.Elements.{All-more}
-use Rattle.sel_arrow.specs.Nulls.{IsValidityOf}
-use Rattle.sel_arrow.specs.Rows.{rows, type_of}
-use Rattle.sel_arrow.specs.declared.column.Column.{Column}
+use Rattle.sel_gather.proofs.Common.{Bor, None, ap, subst, option_copied, All-more, IsValidityOf, rows, type_of, Column}
 use Rattle.sel_gather.proofs.validity.has_validity.Goals as goal
 
 pub loop-source-preserved : goal.loop-source-preserved

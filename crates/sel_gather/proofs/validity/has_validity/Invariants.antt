@@ -1,7 +1,5 @@
 -- The sources so far have no validity.
-use Rattle.std.proofs.Common.{All, None, take}
-use Rattle.sel_arrow.specs.Nulls.{IsValidityOf}
-use Rattle.sel_arrow.specs.Rows.{rows, type_of}
+use Rattle.sel_gather.proofs.Common.{All, None, take, IsValidityOf, rows, type_of}
 use Rattle.sel_gather.proofs.validity.has_validity.Given as goal
 
 abbrev pub invariant-loop-source : goal.invariant-loop-source

@@ -1,8 +1,4 @@
-use Rattle.std.proofs.Common.{◌∙◌, ◌++◌, ◌∷◌, [], ap, sym, subst, map, take}
-use Rattle.std.specs.Option.{option_copied}
-use Rattle.std.proofs.lemmas.List.{map_push, map_more}
-use Rattle.sel_gather.specs.Steps.{AreValidities}
-use Rattle.sel_gather.specs.Sources.{columns_of}
+use Rattle.sel_gather.proofs.Common.{◌∙◌, ◌++◌, ◌∷◌, [], ap, sym, subst, map, take, option_copied, map_push, map_more, AreValidities, columns_of}
 use Rattle.sel_gather.proofs.Walks.{told_more}
 use Rattle.sel_gather.proofs.validity.validities_of.Goals as goal
 

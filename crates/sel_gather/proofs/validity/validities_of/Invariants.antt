@@ -1,8 +1,5 @@
 -- The validities so far are those of the sources.
-use Rattle.std.proofs.Common.{map, take}
-use Rattle.std.specs.Option.{option_copied}
-use Rattle.sel_gather.specs.Steps.{AreValidities}
-use Rattle.sel_gather.specs.Sources.{columns_of}
+use Rattle.sel_gather.proofs.Common.{map, take, option_copied, AreValidities, columns_of}
 use Rattle.sel_gather.proofs.validity.validities_of.Given as goal
 
 abbrev pub invariant-loop-source : goal.invariant-loop-source

@@ -1,4 +1,4 @@
-use Rattle.std.proofs.Common.{arith, refl}
+use Rattle.sel_gather.proofs.Common.{arith, refl}
 use Rattle.sel_gather.proofs.Raising.{count_room}
 use Rattle.sel_gather.proofs.view.check_buffers.Goals as goal
 

@@ -1,6 +1,4 @@
-use Rattle.std.proofs.Common.{◌≡◌, ◌≤◌, length, take}
-use Rattle.std.specs.List.{flat_map}
-use Rattle.sel_bits.specs.Limits.{max_buffers}
+use Rattle.sel_gather.proofs.Common.{◌≡◌, ◌≤◌, length, take, flat_map, max_buffers}
 use Rattle.sel_gather.proofs.view.check_buffers.Given as goal
 
 abbrev pub invariant-loop-source : goal.invariant-loop-source

@@ -1,4 +1,4 @@
-use Rattle.std.specs.List.{flat_map}
+use Rattle.sel_gather.proofs.Common.{flat_map}
 use Rattle.sel_gather.proofs.view.collect_views.Given as goal
 
 abbrev pub ghosts-collect_few : goal.ghosts-collect_few

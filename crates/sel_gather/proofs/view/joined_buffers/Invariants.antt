@@ -1,5 +1,4 @@
-use Rattle.std.proofs.Common.{◌≡◌, take}
-use Rattle.std.specs.List.{flat_map}
+use Rattle.sel_gather.proofs.Common.{◌≡◌, take, flat_map}
 use Rattle.sel_gather.proofs.view.joined_buffers.Given as goal
 
 abbrev pub invariant-loop-source : goal.invariant-loop-source

@@ -1,4 +1,4 @@
-use Rattle.std.proofs.Common.{◌≡◌, ◌++◌, take}
+use Rattle.sel_gather.proofs.Common.{◌≡◌, ◌++◌, take}
 use Rattle.sel_gather.proofs.view.push_buffers.Given as goal
 
 abbrev pub invariant-loop-buffer : goal.invariant-loop-buffer

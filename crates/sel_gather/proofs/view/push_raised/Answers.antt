@@ -1,5 +1,4 @@
-use Rattle.std.proofs.Common.{◌≡◌, ◌+◌, ◌-◌, ◌++◌, ◌∙◌, ap, sym, arith, take, drop}
-use Rattle.sel_gather.specs.Raised.{raised}
+use Rattle.sel_gather.proofs.Common.{◌≡◌, ◌+◌, ◌-◌, ◌++◌, ◌∙◌, ap, sym, arith, take, drop, raised}
 use Rattle.sel_gather.proofs.Raising.{raised_more, unraised}
 use Rattle.sel_gather.proofs.view.push_raised.Goals as goal
 

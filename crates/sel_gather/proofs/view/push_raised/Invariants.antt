@@ -1,5 +1,4 @@
-use Rattle.std.proofs.Common.{◌≡◌, ◌++◌, map, take, drop}
-use Rattle.sel_gather.specs.Raised.{raised}
+use Rattle.sel_gather.proofs.Common.{◌≡◌, ◌++◌, map, take, drop, raised}
 use Rattle.sel_gather.proofs.view.push_raised.Given as goal
 
 abbrev pub invariant-loop-i : goal.invariant-loop-i

@@ -1,4 +1,4 @@
-use Rattle.std.proofs.Common.{arith}
+use Rattle.sel_gather.proofs.Common.{arith}
 use Rattle.sel_gather.proofs.Raising.{count_more, count_room, starts_more}
 use Rattle.sel_gather.proofs.view.starts_of_buffers.Goals as goal
 

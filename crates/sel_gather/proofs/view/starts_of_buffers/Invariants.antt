@@ -1,5 +1,4 @@
-use Rattle.std.proofs.Common.{◌≡◌, length, map, take}
-use Rattle.std.specs.List.{flat_map, range_with_len}
+use Rattle.sel_gather.proofs.Common.{◌≡◌, length, map, take, flat_map, range_with_len}
 use Rattle.sel_gather.proofs.view.starts_of_buffers.Given as goal
 
 abbrev pub invariant-loop-source : goal.invariant-loop-source

@@ -1,8 +1,4 @@
-use Rattle.std.proofs.Common.{◌≡◌, All, arith, subst}
-use Rattle.std.proofs.lemmas.List.Elements.{All-append}
-use Rattle.sel_gather.specs.ItemPicks.{items_at}
-use Rattle.sel_gather.specs.Plans.{IsPicked}
-use Rattle.sel_gather.specs.Runs.{unrolled}
+use Rattle.sel_gather.proofs.Common.{◌≡◌, All, arith, subst, All-append, items_at, IsPicked, unrolled}
 use Rattle.sel_gather.proofs.ItemPicks.{items_picked_all, items_shown, run_picked}
 use Rattle.sel_gather.proofs.item_refs.ItemRefsPlan.has_nulls.Goals as goal
 

@@ -1,7 +1,4 @@
-use Rattle.std.proofs.Common.{arith, length-append}
-use Rattle.sel_gather.specs.ItemPicks.{items_at}
-use Rattle.sel_gather.specs.Plans.{IsNear}
-use Rattle.sel_gather.specs.Runs.{unrolled}
+use Rattle.sel_gather.proofs.Common.{arith, length-append, items_at, IsNear, unrolled}
 use Rattle.sel_gather.proofs.RunLists.{All-right, length-unrolled}
 use Rattle.sel_gather.proofs.item_refs.ItemRefsPlan.next_run.Goals as goal
 

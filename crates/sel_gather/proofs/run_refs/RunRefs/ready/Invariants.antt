@@ -1,6 +1,5 @@
 -- The row references that are left are the same.
-use Rattle.std.proofs.Common.{◌≡◌, ◌++◌, length}
-use Rattle.sel_gather.specs.Runs.{expand, unrolled}
+use Rattle.sel_gather.proofs.Common.{◌≡◌, ◌++◌, length, expand, unrolled}
 use Rattle.sel_gather.proofs.run_refs.RunRefs.ready.Given as goal
 
 abbrev pub invariant-loop-first : goal.invariant-loop-first

@@ -1,6 +1,4 @@
-use Rattle.std.proofs.Common.{◌≡◌, ◌∷◌, ap, is_none, false}
-use Rattle.std.proofs.lemmas.List.Elements.{All-cons}
-use Rattle.sel_gather.specs.declared.runs.Run.{Run}
+use Rattle.sel_gather.proofs.Common.{◌≡◌, ◌∷◌, ap, is_none, false, All-cons, Run}
 use Rattle.sel_gather.proofs.RunLists.{named_picked}
 use Rattle.sel_gather.proofs.run_refs.RunRefsPlan.has_nulls.Goals as goal
 

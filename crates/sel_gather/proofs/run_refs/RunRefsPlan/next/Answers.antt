@@ -1,25 +1,19 @@
-use Rattle.std.proofs.Common.{◌∙◌, ◌++◌, ◌+◌, ◌-◌, ◌%◌, ◌^◌, ◌∷◌, All, ap, sym, subst, length, arith}
-use Rattle.std.proofs.lemmas.List.Elements.{All-tail}
-use Rattle.sel_gather.specs.Plans.{IsNear}
-use Rattle.sel_gather.specs.Runs.{expand, unrolled_from}
-use Rattle.sel_gather.proofs.PlanRuns.{first_of, next_pick}
+use Rattle.sel_gather.proofs.Common.{◌∙◌, ◌++◌, All, ap, sym, subst, length, arith, All-tail, IsNear, expand, unrolled}
+use Rattle.sel_gather.proofs.RunLists.{All-left}
 use Rattle.sel_gather.proofs.run_refs.RunRefsPlan.next.Goals as goal
+
+pub split_first-next-requires-clause-near : goal.split_first-next-requires-clause-near
+split_first-next-requires-clause-near c = let p = c.ready.new.self in All-left IsNear (unrolled p.first) (expand p.rest.now) p.near
 
 pub invariant_of-self : goal.invariant_of-self
 invariant_of-self c =
     let p = c.ready.new.self in
     let rest = expand p.rest.now in
-    let split = next_pick p.first.source p.first.start p.first.len rest c.ready.ensures.some p.near in
     record {
-      count = omega (arith, ap (λ l. length (l ++ rest)) split, p.count);
+      count = omega (arith, ap (λ l. length (l ++ rest)) c.split_first-next.ensures, p.count);
       few = omega (arith, p.few);
-      near = All-tail IsNear _ _ (subst (λ l. All IsNear (l ++ rest)) split p.near);
+      near = All-tail IsNear _ _ (subst (λ l. All IsNear (l ++ rest)) c.split_first-next.ensures p.near);
     }
 
-pub returns-in-Some : goal.returns-in-Some
-returns-in-Some c =
-    let p = c.ready.new.self in
-    let rest = expand p.rest.now in
-    let split = next_pick p.first.source p.first.start p.first.len rest c.ready.ensures.some p.near in
-    let left = unrolled_from p.first.source ((p.first.start + 1) % 2 ^ 32) (p.first.len - 1) in
-    sym c.ready.ensures.picks ∙ ap (λ l. l ++ rest) split ∙ ap (λ o. first_of o p.first.start ∷ (left ++ rest)) c.in-Some.is
+pub returns : goal.returns
+returns c = sym c.ready.ensures.picks ∙ ap (λ l. l ++ expand c.ready.new.self.rest.now) c.split_first-next.ensures

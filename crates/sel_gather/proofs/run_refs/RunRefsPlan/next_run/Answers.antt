@@ -1,6 +1,4 @@
-use Rattle.std.proofs.Common.{arith, length-append}
-use Rattle.sel_gather.specs.Plans.{IsNear}
-use Rattle.sel_gather.specs.Runs.{expand, unrolled}
+use Rattle.sel_gather.proofs.Common.{arith, length-append, IsNear, expand, unrolled}
 use Rattle.sel_gather.proofs.RunLists.{All-right, length-unrolled}
 use Rattle.sel_gather.proofs.run_refs.RunRefsPlan.next_run.Goals as goal
 

@@ -1,13 +1,8 @@
-use Rattle.std.proofs.Common.{◌<◌, ◌+◌, ◌≤◌, ◌++◌, List, map, length, take, drop, get_or, [], ap, sym, ◌∙◌, arith}
-use Rattle.std.proofs.lemmas.List.{length-map}
-use Rattle.sel_bits.specs.Limits.{max_buffers}
-use Rattle.sel_arrow.specs.Columns.{binview_rows}
-use Rattle.sel_arrow.specs.Masked.{hidden}
-use Rattle.sel_arrow.specs.Value.{Value}
-use Rattle.sel_arrow.specs.Views.{view_value}
+use Rattle.sel_gather.proofs.Common.{◌<◌, ◌+◌, ◌≤◌, ◌++◌, List, map, length, take, drop, get_or, [], ap, sym, ◌∙◌, arith, length-map, max_buffers, binview_rows}
+use Rattle.sel_gather.proofs.Common.{hidden, Value, view_value}
 use Rattle.sel_arrow.proofs.ViewRows.{length-view_rows}
-use Rattle.sel_gather.proofs.Grown.{source_rows}
 use Rattle.sel_gather.proofs.Raising.{grown_views, source_behind, source_room, starts_long, views_lengths, views_placed}
+use Rattle.sel_gather.proofs.Grown.{source_rows}
 use Rattle.sel_gather.proofs.view.GrowableViewsGrowable.extend.Goals as goal
 
 pub bounds-starts-source : goal.bounds-starts-source

@@ -1,8 +1,6 @@
-use Rattle.std.proofs.Common.{refl}
-use Rattle.sel_arrow.specs.Views.{is_placed, view_value}
+use Rattle.sel_gather.proofs.Common.{refl, is_placed, view_value}
 use Rattle.sel_arrow.specs.declared.view.View.{View}
-use Rattle.sel_gather.proofs.Grown.{grown_nulls}
-use Rattle.sel_gather.proofs.Raising.{nulls_lengths, nulls_placed}
+use Rattle.sel_gather.proofs.{Grown.grown_nulls, Raising.nulls_lengths, Raising.nulls_placed}
 use Rattle.sel_gather.proofs.view.GrowableViewsGrowable.extend_nulls.Goals as goal
 
 abbrev no_bytes : View
