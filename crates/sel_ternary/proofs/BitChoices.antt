@@ -1,45 +1,33 @@
 -- If-then-else of bits, as bitmap operations.
-use Rattle.std.proofs.Common.{◌≡◌, refl, ap, arith, List, [], ◌∷◌, length, map, replicate, Bool, true, false, not, ◌&&◌, ◌||◌}
-use Rattle.sel_bits.specs.Bits.{zip_with}
-use Rattle.sel_ternary.specs.Choose.{broadcast_true, broadcast_false, broadcast_both}
+use Rattle.sel_ternary.proofs.Common.{◌≡◌, refl, ap, arith, List, [], ◌∷◌, length, map, replicate, Bool, true, false, not, ◌&&◌, zip_with, broadcast_true}
+use Rattle.sel_ternary.proofs.Common.{broadcast_false, broadcast_both, if◌then◌else◌}
+use Rattle.std.proofs.Common.{◌||◌}
+use Rattle.std.proofs.Math.Bool.{or-true, or-false, and-true, and-false}
+
+-- A bitmap operation is an if-then-else with a broadcast value if it is one at each bit.
+by_bit_true : (p : Bool → Bool → Bool) (x : Bool) → ((f m : Bool) → p f m ≡ (if m then x else f)) → (ms fs : List Bool) → length fs ≡ length ms → zip_with p fs ms ≡ broadcast_true ms x fs
+by_bit_true p x same [] [] h = refl
+by_bit_true p x same (m ∷ ms) (f ∷ fs) h = λ i. same f m i ∷ by_bit_true p x same ms fs (omega arith) i
+by_bit_true p x same ms fs h = absurd (omega arith)
+
+by_bit_false : (p : Bool → Bool → Bool) (x : Bool) → ((t m : Bool) → p t m ≡ (if m then t else x)) → (ms ts : List Bool) → length ts ≡ length ms → zip_with p ts ms ≡ broadcast_false ms ts x
+by_bit_false p x same [] [] h = refl
+by_bit_false p x same (m ∷ ms) (t ∷ ts) h = λ i. same t m i ∷ by_bit_false p x same ms ts (omega arith) i
+by_bit_false p x same ms ts h = absurd (omega arith)
 
 pub one_true : (ms fs : List Bool) → length fs ≡ length ms → zip_with (λ x y. x || y) fs ms ≡ broadcast_true ms true fs
-one_true [] [] p = refl
-one_true [] (f ∷ fs) p = absurd (omega arith)
-one_true (m ∷ ms) [] p = refl
-one_true (true ∷ ms) (true ∷ fs) p = ap (λ l. true ∷ l) (one_true ms fs (omega arith))
-one_true (true ∷ ms) (false ∷ fs) p = ap (λ l. true ∷ l) (one_true ms fs (omega arith))
-one_true (false ∷ ms) (true ∷ fs) p = ap (λ l. true ∷ l) (one_true ms fs (omega arith))
-one_true (false ∷ ms) (false ∷ fs) p = ap (λ l. false ∷ l) (one_true ms fs (omega arith))
+one_true = by_bit_true (λ x y. x || y) true (λ f m. elim m as (λ m. (f || m) ≡ (if m then true else f)) [ true ↦ or-true f | false ↦ or-false f ])
 
 pub one_false : (ms fs : List Bool) → length fs ≡ length ms → zip_with (λ x y. x && not y) fs ms ≡ broadcast_true ms false fs
-one_false [] [] p = refl
-one_false [] (f ∷ fs) p = absurd (omega arith)
-one_false (m ∷ ms) [] p = refl
-one_false (true ∷ ms) (true ∷ fs) p = ap (λ l. false ∷ l) (one_false ms fs (omega arith))
-one_false (true ∷ ms) (false ∷ fs) p = ap (λ l. false ∷ l) (one_false ms fs (omega arith))
-one_false (false ∷ ms) (true ∷ fs) p = ap (λ l. true ∷ l) (one_false ms fs (omega arith))
-one_false (false ∷ ms) (false ∷ fs) p = ap (λ l. false ∷ l) (one_false ms fs (omega arith))
+one_false = by_bit_true (λ x y. x && not y) false (λ f m. elim m as (λ m. (f && not m) ≡ (if m then false else f)) [ true ↦ and-false f | false ↦ and-true f ])
 
 pub or_true : (ms ts : List Bool) → length ts ≡ length ms → zip_with (λ x y. x || not y) ts ms ≡ broadcast_false ms ts true
-or_true [] [] p = refl
-or_true [] (t ∷ ts) p = absurd (omega arith)
-or_true (m ∷ ms) [] p = refl
-or_true (true ∷ ms) (true ∷ ts) p = ap (λ l. true ∷ l) (or_true ms ts (omega arith))
-or_true (true ∷ ms) (false ∷ ts) p = ap (λ l. false ∷ l) (or_true ms ts (omega arith))
-or_true (false ∷ ms) (true ∷ ts) p = ap (λ l. true ∷ l) (or_true ms ts (omega arith))
-or_true (false ∷ ms) (false ∷ ts) p = ap (λ l. true ∷ l) (or_true ms ts (omega arith))
+or_true = by_bit_false (λ x y. x || not y) true (λ t m. elim m as (λ m. (t || not m) ≡ (if m then t else true)) [ true ↦ or-false t | false ↦ or-true t ])
 
 pub or_false : (ms ts : List Bool) → length ts ≡ length ms → zip_with (λ x y. x && y) ts ms ≡ broadcast_false ms ts false
-or_false [] [] p = refl
-or_false [] (t ∷ ts) p = absurd (omega arith)
-or_false (m ∷ ms) [] p = refl
-or_false (true ∷ ms) (true ∷ ts) p = ap (λ l. true ∷ l) (or_false ms ts (omega arith))
-or_false (true ∷ ms) (false ∷ ts) p = ap (λ l. false ∷ l) (or_false ms ts (omega arith))
-or_false (false ∷ ms) (true ∷ ts) p = ap (λ l. false ∷ l) (or_false ms ts (omega arith))
-or_false (false ∷ ms) (false ∷ ts) p = ap (λ l. false ∷ l) (or_false ms ts (omega arith))
+or_false = by_bit_false (λ x y. x && y) false (λ t m. elim m as (λ m. (t && m) ≡ (if m then t else false)) [ true ↦ and-true t | false ↦ and-false t ])
 
-pub two_equal : (ms : List Bool) (x : Bool) → broadcast_both ms x x ≡ replicate (length ms) x
+pub two_equal : {A : Type 0} → (ms : List Bool) (x : A) → broadcast_both ms x x ≡ replicate (length ms) x
 two_equal [] x = refl
 two_equal (true ∷ ms) x = ap (λ l. x ∷ l) (two_equal ms x)
 two_equal (false ∷ ms) x = ap (λ l. x ∷ l) (two_equal ms x)

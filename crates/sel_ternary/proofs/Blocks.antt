@@ -1,14 +1,12 @@
 -- If-then-else, word by word of its mask.
-use Rattle.std.proofs.Common.{◌≡◌, ℕ, ◌+◌, ◌<◌, ◌≤◌, ◌∙◌, sym, ap, arith, List, ◌++◌, length, take, drop}
+use Rattle.sel_ternary.proofs.Common.{◌≡◌, ℕ, ◌+◌, ◌<◌, ◌≤◌, ◌∙◌, sym, ap, arith, List, ◌++◌, length, take, drop, append_assoc, Bits, WordReading, reached}
+use Rattle.sel_ternary.proofs.Common.{bits, length_part, choose}
 use borrow.Rule.Slice.PartMut.{put_mid}
-use Rattle.std.proofs.lemmas.List.{append_assoc, take-append-drop}
+use Rattle.std.proofs.lemmas.List.{take-append-drop}
 use Rattle.std.proofs.lemmas.Slice.{take-put_mid, drop-put_mid}
-use Rattle.sel_bits.specs.Bits.{Bits}
-use Rattle.sel_bits.specs.Reading.{WordReading, after_word, next_bits, next_count, reached}
-use Rattle.sel_bits.specs.Words.{bits, word_of}
+use Rattle.sel_bits.specs.Reading.{after_word, next_bits, next_count}
+use Rattle.sel_bits.specs.Words.{word_of}
 use Rattle.sel_bits.proofs.Packed.{bits_word_of}
-use Rattle.sel_bits.proofs.WordsOf.{length_part}
-use Rattle.sel_ternary.specs.Choose.{choose}
 use Rattle.sel_ternary.proofs.Chosen.{AsLong, IsChosen, chosen_block, length-choose}
 
 -- The entries of the words so far are written.

@@ -1,15 +1,14 @@
 -- If-then-else of lists, part by part.
-use Rattle.std.proofs.Common.{◌≡◌, ◌≢◌, ℕ, zero, suc, ◌+◌, ◌/◌, ◌^◌, ◌<◌, ◌≤◌, ◌∙◌, bit_and, sym, refl, ap, arith, List, [], ◌∷◌, ◌++◌, length, get_or, take, drop, replicate, map, Bool}
+use Rattle.sel_ternary.proofs.Common.{◌≡◌, ℕ, suc, ◌+◌, ◌/◌, ◌^◌, ◌<◌, ◌≤◌, ◌∙◌, sym, refl, ap, arith, List, [], ◌∷◌, ◌++◌, length, get_or, take, drop}
+use Rattle.sel_ternary.proofs.Common.{replicate, map, Bool, if◌then◌else◌, eq-eqb, append_assoc, append-nil, length-replicate, get_or-replicate, take_all, bits}
+use Rattle.sel_ternary.proofs.Common.{is_set, length_bits, get_bits, choose, broadcast_true, broadcast_false, broadcast_both}
+use Rattle.std.proofs.lemmas.List.{length-take, drop-drop, set_split, take-append-le, get_or_default}
+use Rattle.std.proofs.Common.{◌≢◌, bit_and}
 use Rattle.std.specs.Int.{bit_at}
-use Rattle.std.specs.Prelude.{if◌then◌else◌}
 use Rattle.std.proofs.Math.ListN.{set, drop_of_length-le, get_or-map}
 use Rattle.std.proofs.Math.Seq.{take-add, drop-cons, drop-append-add}
-use Rattle.std.proofs.lemmas.Bool.{eq-eqb, ne_eqb}
+use Rattle.std.proofs.lemmas.Bool.{ne_eqb}
 use Rattle.std.proofs.lemmas.Nat.Bits.{shr_and_one}
-use Rattle.std.proofs.lemmas.List.{append_assoc, append-nil, drop-drop, length-take, length-replicate, get_or-replicate, set_split, take-append-le, take_all}
-use Rattle.sel_bits.specs.Words.{bits, is_set}
-use Rattle.sel_bits.proofs.Packs.{length_bits, get_bits}
-use Rattle.sel_ternary.specs.Choose.{choose, broadcast_true, broadcast_false, broadcast_both}
 
 -- ---- a broadcast value equals the list that repeats it
 
@@ -31,22 +30,14 @@ repeated_both (m ∷ ms) x y = ap (λ l. (if m then x else y) ∷ l) (repeated_b
 
 pub length-choose : {A : Type 0} → (ms : List Bool) (ts fs : List A) → length ts ≡ length ms → length fs ≡ length ms → length (choose ms ts fs) ≡ length ms
 length-choose [] ts fs p q = refl
-length-choose (m ∷ ms) [] fs p q = absurd (omega arith)
-length-choose (m ∷ ms) (t ∷ ts) [] p q = absurd (omega arith)
 length-choose (m ∷ ms) (t ∷ ts) (f ∷ fs) p q = omega (arith, length-choose ms ts fs (omega arith) (omega arith))
+length-choose ms ts fs p q = absurd (omega arith)
 
 pub choose-append : {A : Type 0} → (ms ns : List Bool) (ts us fs gs : List A) → length ts ≡ length ms → length fs ≡ length ms
     → choose (ms ++ ns) (ts ++ us) (fs ++ gs) ≡ choose ms ts fs ++ choose ns us gs
 choose-append [] ns [] us [] gs p q = refl
-choose-append [] ns [] us (f ∷ fs) gs p q = absurd (omega arith)
-choose-append [] ns (t ∷ ts) us fs gs p q = absurd (omega arith)
-choose-append (m ∷ ms) ns [] us fs gs p q = absurd (omega arith)
-choose-append (m ∷ ms) ns (t ∷ ts) us [] gs p q = absurd (omega arith)
 choose-append (m ∷ ms) ns (t ∷ ts) us (f ∷ fs) gs p q = ap (λ l. (if m then t else f) ∷ l) (choose-append ms ns ts us fs gs (omega arith) (omega arith))
-
--- The first entries of the output are those of the if-then-else, the others are unchanged.
-pub record IsChosen {A : Type 0} (ms : List Bool) (ts fs base : List A) (at : ℕ) (out : List A) : Type 0 where
-  pub begun : out ≡ choose (take at ms) (take at ts) (take at fs) ++ drop at base
+choose-append ms ns ts us fs gs p q = absurd (omega arith)
 
 -- The lists are as long as the mask.
 pub record AsLong {A : Type 0} (n : ℕ) (ms : List Bool) (ts fs : List A) : Type 0 where
@@ -54,35 +45,55 @@ pub record AsLong {A : Type 0} (n : ℕ) (ms : List Bool) (ts fs : List A) : Typ
   pub trues : length ts ≡ n
   pub falses : length fs ≡ n
 
+-- Lists that are as long as the bits of a word.
+pub word_long : {A : Type 0} → (mask : ℕ) (ts fs : List A) → length fs ≡ length ts → AsLong (length ts) (bits (length ts) mask) ts fs
+word_long mask ts fs alike = record { mask = length_bits (length ts) mask; trues = refl; falses = alike }
+
+-- The if-then-else of the first entries.
+abbrev pub chosen_to : {A : Type 0} → List Bool → List A → List A → ℕ → List A
+chosen_to ms ts fs at = choose (take at ms) (take at ts) (take at fs)
+
+module _ {A : Type 0} (n : ℕ) (ms : List Bool) (ts fs : List A) (long : AsLong n ms ts fs) (at : ℕ) where
+  low : length (take at ts) ≡ length (take at ms)
+  low = omega (arith, length-take at ts, length-take at ms, long.mask, long.trues)
+
+  lower : length (take at fs) ≡ length (take at ms)
+  lower = omega (arith, length-take at fs, length-take at ms, long.mask, long.falses)
+
+  pub length-chosen_to : at ≤ n → length (chosen_to ms ts fs at) ≡ at
+  length-chosen_to le = omega (arith, length-choose (take at ms) (take at ts) (take at fs) low lower, length-take at ms, long.mask)
+
+  -- The next entries follow.
+  pub chosen_more : (count : ℕ) → chosen_to ms ts fs (at + count) ≡ chosen_to ms ts fs at ++ choose (take count (drop at ms)) (take count (drop at ts)) (take count (drop at fs))
+  chosen_more count =
+      (λ i. choose (take-add at count ms i) (take-add at count ts i) (take-add at count fs i))
+      ∙ choose-append (take at ms) (take count (drop at ms)) (take at ts) (take count (drop at ts)) (take at fs) (take count (drop at fs)) low lower
+
+  pub chosen_end : at ≡ n → chosen_to ms ts fs at ≡ choose ms ts fs
+  chosen_end all = λ i. choose (take_all at ms (omega (arith, all, long.mask)) i) (take_all at ts (omega (arith, all, long.trues)) i) (take_all at fs (omega (arith, all, long.falses)) i)
+
+-- The first entries of the output are those of the if-then-else, the others are unchanged.
+pub record IsChosen {A : Type 0} (ms : List Bool) (ts fs base : List A) (at : ℕ) (out : List A) : Type 0 where
+  pub begun : out ≡ chosen_to ms ts fs at ++ drop at base
+
 module _ {A : Type 0} (n : ℕ) (ms : List Bool) (ts fs base : List A) (long : AsLong n ms ts fs) (at : ℕ) (out : List A) (was : IsChosen ms ts fs base at out) where
   -- The next entries are written.
   pub chosen_block : (count : ℕ) (new : List A) → at + count ≤ n → new ≡ take at out ++ (choose (take count (drop at ms)) (take count (drop at ts)) (take count (drop at fs)) ++ drop (at + count) out)
       → IsChosen ms ts fs base (at + count) new
   chosen_block count new le is =
-      let mask = long.mask in
-      let trues = long.trues in
-      let falses = long.falses in
-      let front = choose (take at ms) (take at ts) (take at fs) in
+      let front = chosen_to ms ts fs at in
       let block = choose (take count (drop at ms)) (take count (drop at ts)) (take count (drop at fs)) in
-      let low : length (take at ts) ≡ length (take at ms) = omega (arith, length-take at ts, length-take at ms) in
-      let lower : length (take at fs) ≡ length (take at ms) = omega (arith, length-take at fs, length-take at ms) in
-      let size : length front ≡ at = omega (arith, length-choose (take at ms) (take at ts) (take at fs) low lower, length-take at ms) in
+      let size : length front ≡ at = length-chosen_to n ms ts fs long at (omega arith) in
       let kept : take at out ≡ front = ap (take at) was.begun ∙ take-append-le at front (drop at base) (omega arith) ∙ take_all at front (omega arith) in
       let rest : drop (at + count) out ≡ drop (at + count) base =
       ap (drop (at + count)) was.begun ∙ ap (λ k. drop (k + count) (front ++ drop at base)) (sym size) ∙ drop-append-add front (drop at base) count ∙ drop-drop count at base in
-      let whole : choose (take (at + count) ms) (take (at + count) ts) (take (at + count) fs) ≡ front ++ block =
-      (λ i. choose (take-add at count ms i) (take-add at count ts i) (take-add at count fs i))
-      ∙ choose-append (take at ms) (take count (drop at ms)) (take at ts) (take count (drop at ts)) (take at fs) (take count (drop at fs)) low lower in
-      record { begun = is ∙ (λ i. kept i ++ (block ++ rest i)) ∙ sym (append_assoc front block (drop (at + count) base)) ∙ ap (λ l. l ++ drop (at + count) base) (sym whole) }
+      record { begun = is ∙ (λ i. kept i ++ (block ++ rest i)) ∙ sym (append_assoc front block (drop (at + count) base)) ∙ ap (λ l. l ++ drop (at + count) base) (sym (chosen_more n ms ts fs long at count)) }
 
   -- All entries are written.
   pub chosen_all : length base ≡ n → at ≡ n → out ≡ choose ms ts fs
   chosen_all size all =
-      let mask = long.mask in
-      let trues = long.trues in
-      let falses = long.falses in
       was.begun
-      ∙ (λ i. choose (take_all at ms (omega arith) i) (take_all at ts (omega arith) i) (take_all at fs (omega arith) i) ++ drop at base)
+      ∙ ap (λ l. l ++ drop at base) (chosen_end n ms ts fs long at all)
       ∙ ap (λ l. choose ms ts fs ++ l) (drop_of_length-le base (omega arith))
       ∙ append-nil (choose ms ts fs)
 
@@ -110,13 +121,10 @@ row_block n mask ts fs i t f x trues falses lt t_is f_is x_is =
 pub chosen_row : {A : Type 0} → (n mask : ℕ) (ts fs base out : List A) (i : ℕ) (t f x : A) → Rows n ts fs out → i < n → IsChosen (bits n mask) ts fs base i out
     → t ≡ get_or ts i t → f ≡ get_or fs i f → x ≡ (if is_set mask i then t else f) → IsChosen (bits n mask) ts fs base (i + 1) (set out i x)
 chosen_row n mask ts fs base out i t f x rows lt was t_is f_is x_is =
-    let trues = rows.trues in
-    let falses = rows.falses in
-    let places = rows.places in
-    let block = row_block n mask ts fs i t f x trues falses lt t_is f_is x_is in
+    let block = row_block n mask ts fs i t f x rows.trues rows.falses lt t_is f_is x_is in
     let next : suc i ≡ i + 1 = omega arith in
-    chosen_block n (bits n mask) ts fs base (record { mask = length_bits n mask; trues = trues; falses = falses }) i out was 1 (set out i x) (omega arith)
-    (set_split out i x (omega arith) ∙ ap (λ k. take i out ++ (x ∷ drop k out)) next ∙ ap (λ l. take i out ++ (l ++ drop (i + 1) out)) (sym block))
+    chosen_block n (bits n mask) ts fs base (record { mask = length_bits n mask; trues = rows.trues; falses = rows.falses }) i out was 1 (set out i x) (omega arith)
+    (set_split out i x (omega (arith, rows.places)) ∙ ap (λ k. take i out ++ (x ∷ drop k out)) next ∙ ap (λ l. take i out ++ (l ++ drop (i + 1) out)) (sym block))
 
 -- The entry for a bit that a shift moves to the lowest position of its word.
 pub bit_takes_first : {A : Type 0} → (mask i : ℕ) (t f x : A) → bit_and (mask / 2 ^ i) 1 ≡ 1 → x ≡ t → x ≡ (if is_set mask i then t else f)
@@ -144,17 +152,10 @@ module _ {A : Type 0} (n mask : ℕ) (base out : List A) (i : ℕ) (size : lengt
       all_rows (replicate n x) (replicate n y) (length-replicate n x) (length-replicate n y) was
       ∙ sym (repeated_both (bits n mask) x y ∙ ap (λ k. choose (bits n mask) (replicate k x) (replicate k y)) (length_bits n mask))
 
-any_default : {A : Type 0} → (l : List A) (i : ℕ) (d e : A) → i < length l → get_or l i d ≡ get_or l i e
-any_default [] i d e lt = absurd (omega arith)
-any_default (x ∷ l) zero d e lt = refl
-any_default (x ∷ l) (suc i) d e lt = any_default l i d e (omega arith)
-
 -- The same for entries that are read from the lists, those of the second one mapped.
 pub chosen_mapped : {A B : Type 0} → (n mask : ℕ) (f : B → A) (ts : List A) (fs : List B) (base out : List A) (i : ℕ) (d x : A) (e : B) → Rows n ts (map f fs) out → i < n → IsChosen (bits n mask) ts (map f fs) base i out
     → x ≡ (if is_set mask i then get_or ts i d else f (get_or fs i e)) → IsChosen (bits n mask) ts (map f fs) base (i + 1) (set out i x)
 chosen_mapped n mask f ts fs base out i d x e rows lt was x_is =
-    let trues = rows.trues in
-    let falses = rows.falses in
     let t = get_or ts i d in
     let y = f (get_or fs i e) in
-    chosen_row n mask ts (map f fs) base out i t y x rows lt was (any_default ts i d t (omega arith)) (sym (get_or-map f fs i e) ∙ any_default (map f fs) i (f e) y (omega arith)) x_is
+    chosen_row n mask ts (map f fs) base out i t y x rows lt was (get_or_default ts i d t (omega (arith, rows.trues))) (sym (get_or-map f fs i e) ∙ get_or_default (map f fs) i (f e) y (omega (arith, rows.falses))) x_is

@@ -1,16 +1,12 @@
 -- The row references of an if-then-else, and the rows that they give.
-use Rattle.std.proofs.Common.{◌≡◌, ℕ, zero, suc, ◌+◌, ◌<◌, Bool, true, false, All, List, [], ◌∷◌, length, get_or, replicate, refl, sym, ap, ◌∙◌, arith, Option, Some}
-use Rattle.std.specs.Prelude.{if◌then◌else◌}
-use Rattle.std.proofs.lemmas.List.{length-replicate, get_or-replicate}
+use Rattle.sel_ternary.proofs.Common.{◌≡◌, ℕ, zero, suc, ◌+◌, ◌<◌, Bool, true, false, All, List, [], ◌∷◌, length, get_or, replicate, refl, sym, ap, ◌∙◌, arith}
+use Rattle.sel_ternary.proofs.Common.{Option, Some, if◌then◌else◌, length-replicate, get_or-replicate, rows, Value, Null, pick, chosen_rows, first_row, choose}
+use Rattle.sel_ternary.proofs.Common.{broadcast_true, broadcast_false, broadcast_both}
+use Rattle.sel_ternary.specs.ChosenPicks.{chosen_picks, bit_pick, place_on}
 use Rattle.std.proofs.lemmas.List.Elements.{All-nil, All-cons}
-use Rattle.sel_arrow.specs.Rows.{rows}
-use Rattle.sel_arrow.specs.Value.{Value, Null}
-use Rattle.sel_arrow.specs.declared.column.Column.{Column}
-use Rattle.sel_gather.specs.Picks.{pick, PickFits}
+use Rattle.sel_gather.specs.Picks.{PickFits}
 use Rattle.sel_gather.specs.Plans.{IsPicked}
-use Rattle.sel_ternary.specs.Chosen.{chosen_rows, first_row, SideFits}
-use Rattle.sel_ternary.specs.ChosenPicks.{bit_pick, chosen_picks, place_on}
-use Rattle.sel_ternary.specs.Choose.{choose, broadcast_true, broadcast_false, broadcast_both}
+use Rattle.sel_ternary.specs.Chosen.{SideFits}
 use Rattle.sel_ternary.proofs.Chosen.{repeated_then, repeated_otherwise, repeated_both}
 
 at : (t f : Bool) (i k : ℕ) (bits : List Bool) (b : Bool) (d : Option (ℕ × ℕ)) → k < length bits → get_or (chosen_picks t f i bits) k d ≡ bit_pick t f (get_or bits k b) (i + k)
@@ -108,6 +104,6 @@ fits t f i n (false ∷ bits) ts fs same long other =
 pub choice_fits : (t f : Bool) (bits : List Bool) (ts fs : List Value) → SideFits t (length ts) (length bits) → SideFits f (length fs) (length bits) → All (PickFits (ts ∷ fs ∷ [])) (chosen_picks t f 0 bits)
 choice_fits t f bits ts fs long other = fits t f 0 (length bits) bits ts fs (omega arith) long other
 
--- The rows gathered from equal columns are equal.
-pub picked_alike : (x y a b : Column) (ps : List (Option (ℕ × ℕ))) → x ≡ a → y ≡ b → pick Null (rows x ∷ rows y ∷ []) ps ≡ pick Null (rows a ∷ rows b ∷ []) ps
-picked_alike x y a b ps first second = cc (first, second)
+pub ruleset picks = (chosen_long, chosen_picked, chosen_at)
+
+pub ruleset choices = (choice_fits, choice_picked)

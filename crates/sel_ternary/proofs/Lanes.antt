@@ -1,26 +1,20 @@
 -- If-then-else by vector operations.
-use Rattle.std.proofs.Common.{◌≡◌, ℕ, ℤ, zero, suc, ◌+◌, ◌*◌, ◌/◌, ◌%◌, ◌^◌, ◌<◌, ◌≤◌, ◌∙◌, sym, refl, ap, arith, List, [], ◌∷◌, ◌++◌, length, map, take, drop, Bool, true, false, bit_and, nat_eq, pow_pos}
-use Rattle.std.specs.Prelude.{◌==◌}
-use Rattle.std.specs.Prelude.{Vec, if◌then◌else◌}
+use Rattle.sel_ternary.proofs.Common.{◌≡◌, ℕ, ℤ, zero, suc, ◌+◌, ◌*◌, ◌/◌, ◌^◌, ◌<◌, ◌≤◌, ◌∙◌, sym, refl, ap, arith, List, [], ◌∷◌, ◌++◌, length, map, take}
+use Rattle.sel_ternary.proofs.Common.{drop, Bool, true, false, ◌==◌, if◌then◌else◌, vec_capacity, eq-eqb, append_assoc, append-nil, length-append, take_all}
+use Rattle.sel_ternary.proofs.Common.{Bits, WordReading, reached, bits, is_set, get_bits, length_bits, length_part, choose, all_ones}
+use Rattle.std.proofs.Common.{◌%◌, bit_and, nat_eq, pow_pos}
+use Rattle.std.specs.Prelude.{Vec}
 use Rattle.std.specs.Global.{Global}
 use Rattle.std.specs.Int.{bit_at}
 use Rattle.std.specs.List.{range_with_len}
-use Rattle.std.specs.Vec.{vec_capacity}
 use Rattle.std.specs.Simd.Lanes.{sel_l, Each1}
-use Rattle.std.proofs.lemmas.Bool.{eq-eqb, ne_eqb}
+use Rattle.std.proofs.lemmas.Bool.{ne_eqb}
 use Rattle.std.proofs.lemmas.Nat.Bits.{and_pow, bit_at-lt}
-use Rattle.std.proofs.Math.Seq.{take-add}
-use Rattle.std.proofs.lemmas.List.{append_assoc, append-nil, get_or-drop, get_or-take, length-append, length-take, same_lists, take_all}
+use Rattle.std.proofs.lemmas.List.{get_or-drop, get_or-take, same_lists}
 use Rattle.std.proofs.lemmas.Simd.{map-map}
-use Rattle.sel_bits.specs.Bits.{Bits}
-use Rattle.sel_bits.specs.Reading.{WordReading, reached}
-use Rattle.sel_bits.specs.Words.{bits, is_set}
-use Rattle.sel_bits.proofs.Packs.{bits_same, bits_split, get_bits, length_bits}
+use Rattle.sel_bits.proofs.Packs.{bits_same, bits_split}
 use Rattle.sel_bits.proofs.Shifts.{bit_at_mod, bit_at_shr}
-use Rattle.sel_bits.proofs.WordsOf.{length_part}
-use Rattle.sel_ternary.specs.Choose.{choose}
-use Rattle.sel_ternary.specs.Lanes.{all_ones}
-use Rattle.sel_ternary.proofs.Chosen.{AsLong, choose-append, length-choose}
+use Rattle.sel_ternary.proofs.Chosen.{AsLong, chosen_end, chosen_more, chosen_to, length-chosen_to}
 
 -- ---- the lanes of set bits
 
@@ -34,9 +28,13 @@ marked : (m k : ℕ) → nat_eq (bit_and m (2 ^ k)) (2 ^ k) ≡ is_set m k
 marked m k = ap (λ x. nat_eq x (2 ^ k)) (and_pow m k) ∙ at_power (bit_at m k) k (bit_at-lt m k)
 
 -- The lanes for the bits of a word, which it has in common with the powers of two.
-pub lanes_marked : {A : Type 0} → (n m : ℕ) (f g : Bool → A) → ((b : Bool) → f b ≡ g b) → map (λ k. f (nat_eq (bit_and m (2 ^ k)) (2 ^ k))) (range_with_len 0 n) ≡ map g (bits n m)
+pub lanes_marked : (n m : ℕ) (f : Bool → ℤ) → f true ≡ all_ones true → f false ≡ all_ones false → map (λ k. f (nat_eq (bit_and m (2 ^ k)) (2 ^ k))) (range_with_len 0 n) ≡ map all_ones (bits n m)
 unfolding bits
-lanes_marked n m f g same = (λ i. map (λ k. (same (nat_eq (bit_and m (2 ^ k)) (2 ^ k)) ∙ ap g (marked m k)) i) (range_with_len 0 n)) ∙ sym (map-map g (is_set m) (range_with_len 0 n))
+lanes_marked n m f high low = (λ i. map (λ k. (same (nat_eq (bit_and m (2 ^ k)) (2 ^ k)) ∙ ap all_ones (marked m k)) i) (range_with_len 0 n)) ∙ sym (map-map all_ones (is_set m) (range_with_len 0 n))
+  where
+    same : (b : Bool) → f b ≡ all_ones b
+    same true = high
+    same false = low
 
 -- The bits of the two bytes of a word.
 pub two_bytes : (m : ℕ) → bits 8 (m % 256) ++ bits 8 (m / 256) ≡ bits 16 m
@@ -57,13 +55,16 @@ sel_signed g h (m ∷ ms) (t ∷ ts) [] p q = refl
 sel_signed g h (true ∷ ms) (t ∷ ts) (f ∷ fs) (p, ps) (q, qs) = λ i. p i ∷ sel_signed g h ms ts fs ps qs i
 sel_signed g h (false ∷ ms) (t ∷ ts) (f ∷ fs) (p, ps) (q, qs) = λ i. q i ∷ sel_signed g h ms ts fs ps qs i
 
-tops : (t : ℕ → Bool) (u : ℤ → ℕ) → ((b : Bool) → t (u (all_ones b)) ≡ b) → (ms : List Bool) → map t (map u (map all_ones ms)) ≡ ms
-tops t u keeps [] = refl
-tops t u keeps (m ∷ ms) = λ i. keeps m i ∷ tops t u keeps ms i
+-- The highest bits of lanes that are all ones, or all zeros.
+module _ (t : ℕ → Bool) (u : ℤ → ℕ) (high : t (u (all_ones true)) ≡ true) (low : t (u (all_ones false)) ≡ false) where
+  tops : (ms : List Bool) → map t (map u (map all_ones ms)) ≡ ms
+  tops [] = refl
+  tops (true ∷ ms) = λ i. high i ∷ tops ms i
+  tops (false ∷ ms) = λ i. low i ∷ tops ms i
 
-module _ (t : ℕ → Bool) (u : ℤ → ℕ) (keeps : (b : Bool) → t (u (all_ones b)) ≡ b) (m : ℕ) (lanes : List ℤ) (is : lanes ≡ map all_ones (bits 16 m)) where
+module _ (t : ℕ → Bool) (u : ℤ → ℕ) (high : t (u (all_ones true)) ≡ true) (low : t (u (all_ones false)) ≡ false) (m : ℕ) (lanes : List ℤ) (is : lanes ≡ map all_ones (bits 16 m)) where
   set_bits : map t (map u lanes) ≡ bits 16 m
-  set_bits = ap (λ l. map t (map u l)) is ∙ tops t u keeps (bits 16 m)
+  set_bits = ap (λ l. map t (map u l)) is ∙ tops t u high low (bits 16 m)
 
   -- Vectors of unsigned values.
   pub unsigned_lanes : {A : Type 0} → (ts fs items new : List A) → length ts ≡ 16 → length fs ≡ 16 → new ≡ items ++ sel_l (map t (map u lanes)) (take 16 ts) (take 16 fs) → new ≡ items ++ choose (bits 16 m) ts fs
@@ -87,45 +88,22 @@ pub record IsFilled {A : Type 0} (items part : List A) (capacity : ℕ) (out : V
   pub appended : out.items ≡ items ++ part
   pub room : vec_capacity out ≡ capacity
 
--- The if-then-else of the first entries.
-abbrev pub chosen_to : {A : Type 0} → List Bool → List A → List A → ℕ → List A
-chosen_to ms ts fs at = choose (take at ms) (take at ts) (take at fs)
-
 module _ {A : Type 0} (n : ℕ) (ms : List Bool) (ts fs : List A) (long : AsLong n ms ts fs) (items : List A) (capacity at : ℕ) (out : Vec A Global) (was : IsFilled items (chosen_to ms ts fs at) capacity out) where
   -- The next entries are appended.
-  pub filled_next : (count : ℕ) (new : Vec A Global) (block : List A) → at + count ≤ n → new.items ≡ out.items ++ block → vec_capacity new ≡ vec_capacity out
+  pub filled_next : (count : ℕ) (new : Vec A Global) (block : List A) → new.items ≡ out.items ++ block → vec_capacity new ≡ vec_capacity out
       → block ≡ choose (take count (drop at ms)) (take count (drop at ts)) (take count (drop at fs)) → IsFilled items (chosen_to ms ts fs (at + count)) capacity new
-  filled_next count new block le is same block_is =
-      let mask = long.mask in
-      let trues = long.trues in
-      let falses = long.falses in
-      let low : length (take at ts) ≡ length (take at ms) = omega (arith, length-take at ts, length-take at ms) in
-      let lower : length (take at fs) ≡ length (take at ms) = omega (arith, length-take at fs, length-take at ms) in
-      let whole : chosen_to ms ts fs (at + count) ≡ chosen_to ms ts fs at ++ block =
-      (λ i. choose (take-add at count ms i) (take-add at count ts i) (take-add at count fs i))
-      ∙ choose-append (take at ms) (take count (drop at ms)) (take at ts) (take count (drop at ts)) (take at fs) (take count (drop at fs)) low lower
-      ∙ ap (λ l. chosen_to ms ts fs at ++ l) (sym block_is) in
-      record {
-        appended = is ∙ ap (λ l. l ++ block) was.appended ∙ append_assoc items (chosen_to ms ts fs at) block ∙ ap (λ l. items ++ l) (sym whole);
-        room = same ∙ was.room;
-      }
+  filled_next count new block is same block_is = record {
+    appended = is ∙ ap (λ l. l ++ block) was.appended ∙ append_assoc items (chosen_to ms ts fs at) block
+        ∙ ap (λ l. items ++ l) (ap (λ l. chosen_to ms ts fs at ++ l) block_is ∙ sym (chosen_more n ms ts fs long at count));
+    room = same ∙ was.room;
+  }
 
   -- All entries are appended.
   pub filled_all : at ≡ n → out.items ≡ items ++ choose ms ts fs
-  filled_all all =
-      let mask = long.mask in
-      let trues = long.trues in
-      let falses = long.falses in
-      was.appended ∙ (λ i. items ++ choose (take_all at ms (omega arith) i) (take_all at ts (omega arith) i) (take_all at fs (omega arith) i))
+  filled_all all = was.appended ∙ ap (λ l. items ++ l) (chosen_end n ms ts fs long at all)
 
   pub filled_length : at ≤ n → length out.items ≡ length items + at
-  filled_length le =
-      let mask = long.mask in
-      let trues = long.trues in
-      let falses = long.falses in
-      let low : length (take at ts) ≡ length (take at ms) = omega (arith, length-take at ts, length-take at ms) in
-      let lower : length (take at fs) ≡ length (take at ms) = omega (arith, length-take at fs, length-take at ms) in
-      ap length was.appended ∙ length-append items (chosen_to ms ts fs at) ∙ ap (λ k. length items + k) (length-choose (take at ms) (take at ts) (take at fs) low lower ∙ omega (arith, length-take at ms))
+  filled_length le = ap length was.appended ∙ length-append items (chosen_to ms ts fs at) ∙ ap (λ k. length items + k) (length-chosen_to n ms ts fs long at le)
 
 -- Nothing is appended yet.
 pub filled_none : {A : Type 0} → (ms : List Bool) (ts fs : List A) (out : Vec A Global) → IsFilled out.items (chosen_to ms ts fs 0) (vec_capacity out) out

@@ -3,6 +3,7 @@ pub mod BitChoices
 pub mod Blocks
 pub mod Chosen
 pub mod ChosenPicks
+pub mod Common
 pub mod JoinedViews
 pub mod Lanes
 pub mod ListChoices

@@ -1,28 +1,24 @@
 -- If-then-else of list columns: the limits that the rows exceed, with the columns that are gathered and with the values that are given.
-use Rattle.std.proofs.Common.{◌≡◌, ℕ, ◌≤◌, true, List, [], ◌∷◌, length, Result, Ok, Err, inl, inr, sym, subst, ◌∙◌, arith}
-use Rattle.std.specs.Prelude.{IfErr, IfOk}
-use Rattle.sel_bits.specs.Limits.{max_rows}
+use Rattle.sel_ternary.proofs.Common.{◌≡◌, ℕ, ◌≤◌, true, List, [], ◌∷◌, length, inl, sym, subst, ◌∙◌, arith, rows, type_of, well_formed, Shape, Value, Column}
+use Rattle.sel_ternary.proofs.Common.{length-rows, joined_items, exceeded_taken, refused_more, passes_neither, IsLimitOrMemory, ExceedsNone, IfOk-weaker}
 use Rattle.sel_bits.specs.declared.faults.Limit.{Limit}
 use Rattle.sel_bits.specs.declared.faults.PolarsError.{PolarsError}
-use Rattle.sel_arrow.specs.Rows.{rows, type_of, buffers_held, well_formed}
-use Rattle.sel_arrow.specs.Shape.{Shape, of_large_list, of_fixed_size_list}
-use Rattle.sel_arrow.specs.Value.{Value}
+use Rattle.std.specs.Prelude.{IfOk, IfErr}
+use Rattle.std.proofs.Common.{Result, inr}
+use Rattle.sel_bits.specs.Limits.{max_rows}
+use Rattle.sel_arrow.specs.Shape.{of_large_list, of_fixed_size_list}
 use Rattle.sel_arrow.specs.declared.array_ref.ArrayRef.{ArrayRef}
-use Rattle.sel_arrow.specs.declared.column.Column.{Column}
-use Rattle.sel_arrow.proofs.NestedRows.{length-rows}
-use Rattle.sel_gather.specs.Children.{child, joined_items}
-use Rattle.sel_gather.specs.Need.{exceeded_taken}
-use Rattle.sel_gather.proofs.Below.{refused_more}
+use Rattle.sel_gather.specs.Children.{child}
 use Rattle.sel_gather.proofs.ListParts.{few_rows}
-use Rattle.sel_gather.proofs.Within.{passes_neither}
-use Rattle.sel_ternary.specs.ListSides.{below, exceeded_below, exceeded_lists}
+use Rattle.sel_ternary.specs.ListSides.{below, exceeded_below, exceeded_lists, exceeded_held}
 use Rattle.sel_ternary.specs.Steps.{IsBelow}
-use Rattle.sel_ternary.specs.Sides.{Side, IsLimitOrMemory, ExceedsNone, exceeded_flat}
+use Rattle.sel_ternary.specs.Sides.{Side, exceeded_flat}
 use Rattle.sel_ternary.proofs.SameNeeds.{Like, block_child, list_child, same_needs}
+use Rattle.std.proofs.lemmas.Result.{IfErr-weaker}
 
--- A mask that is as long as a column has at most 2^32 - 1 bits.
-pub few_bits : (c : Column) (n : ℕ) → well_formed c ≡ true → length (rows c) ≡ n → n ≤ max_rows
-few_bits c n formed long = omega (arith, few_rows c formed, length-rows c, long)
+-- A column has at most 2^32 - 1 rows.
+pub few_bits : (c : Column) → well_formed c ≡ true → length (rows c) ≤ max_rows
+few_bits c formed = omega (arith, few_rows c formed, length-rows c)
 
 -- ---- the child of lists that are over a column like another one
 
@@ -39,25 +35,22 @@ like_block s w a b is =
 back : (s : Shape) (a b : Column) → Like s a b → Like s b a
 back s a b like = record { first = like.second; second = like.first; held = sym like.held }
 
+-- Rows exceed the same limits with columns like these.
+held_like : (s : Shape) (a b c d : Column) → Like s a c → Like s b d → (vs : List Value) (limit : Limit) → exceeded_held s (a ∷ b ∷ []) vs limit → exceeded_held s (c ∷ d ∷ []) vs limit
+held_like s a b c d first second vs limit (inl past) = inl past
+held_like s a b c d first second vs limit (inr past) = inr (same_needs s (a ∷ b ∷ []) (c ∷ d ∷ []) (first, (second, tt)) vs limit past)
+
 -- Rows exceed the same limits with the lists as with their children.
 taken_below : (type : Shape) (a b c d : Column) → IsBelow type a c → IsBelow type b d → (vs : List Value) (limit : Limit) →
     exceeded_taken type (a ∷ b ∷ []) vs limit → exceeded_below type (c ∷ d ∷ []) vs limit
-taken_below (of_large_list s) a b c d first second vs limit (inl past) = inl past
-taken_below (of_large_list s) a b c d first second vs limit (inr past) =
-    inr (same_needs s (child a ∷ child b ∷ []) (c ∷ d ∷ []) (like_list s a c first, (like_list s b d second, tt)) (joined_items 0 vs) limit past)
-taken_below (of_fixed_size_list s w) a b c d first second vs limit (inl past) = inl past
-taken_below (of_fixed_size_list s w) a b c d first second vs limit (inr past) =
-    inr (same_needs s (child a ∷ child b ∷ []) (c ∷ d ∷ []) (like_block s w a c first, (like_block s w b d second, tt)) (joined_items w vs) limit past)
+taken_below (of_large_list s) a b c d first second vs limit past = held_like s (child a) (child b) c d (like_list s a c first) (like_list s b d second) (joined_items 0 vs) limit past
+taken_below (of_fixed_size_list s w) a b c d first second vs limit past = held_like s (child a) (child b) c d (like_block s w a c first) (like_block s w b d second) (joined_items w vs) limit past
 taken_below type a b c d first second vs limit past = absurd first
 
 below_taken : (type : Shape) (a b c d : Column) → IsBelow type a c → IsBelow type b d → (vs : List Value) (limit : Limit) →
     exceeded_below type (c ∷ d ∷ []) vs limit → exceeded_taken type (a ∷ b ∷ []) vs limit
-below_taken (of_large_list s) a b c d first second vs limit (inl past) = inl past
-below_taken (of_large_list s) a b c d first second vs limit (inr past) =
-    inr (same_needs s (c ∷ d ∷ []) (child a ∷ child b ∷ []) (back s (child a) c (like_list s a c first), (back s (child b) d (like_list s b d second), tt)) (joined_items 0 vs) limit past)
-below_taken (of_fixed_size_list s w) a b c d first second vs limit (inl past) = inl past
-below_taken (of_fixed_size_list s w) a b c d first second vs limit (inr past) =
-    inr (same_needs s (c ∷ d ∷ []) (child a ∷ child b ∷ []) (back s (child a) c (like_block s w a c first), (back s (child b) d (like_block s w b d second), tt)) (joined_items w vs) limit past)
+below_taken (of_large_list s) a b c d first second vs limit past = held_like s c d (child a) (child b) (back s _ c (like_list s a c first)) (back s _ d (like_list s b d second)) (joined_items 0 vs) limit past
+below_taken (of_fixed_size_list s w) a b c d first second vs limit past = held_like s c d (child a) (child b) (back s _ c (like_block s w a c first)) (back s _ d (like_block s w b d second)) (joined_items w vs) limit past
 below_taken type a b c d first second vs limit past = absurd first
 
 -- ---- errors and results
@@ -70,35 +63,18 @@ module _ {A C : Type 0} (result : Result A PolarsError) (own : C → Column) (ty
   at_second : IsBelow type b (below own f)
   at_second = subst (λ s. IsBelow s b (below own f)) other second
 
+  alike : exceeded_taken (type_of a) (a ∷ b ∷ []) vs ≡ exceeded_taken type (a ∷ b ∷ []) ws
+  alike = λ i. exceeded_taken (is i) (a ∷ b ∷ []) (same i)
+
   pub refused_choice : IfErr result (IsLimitOrMemory (exceeded_taken (type_of a) (a ∷ b ∷ []) vs)) → IfErr result (IsLimitOrMemory (exceeded_lists own type t f ws))
   refused_choice h =
-      let typed = subst (λ s. IfErr result (IsLimitOrMemory (exceeded_taken s (a ∷ b ∷ []) vs))) is h in
-      refused (subst (λ l. IfErr result (IsLimitOrMemory (exceeded_taken type (a ∷ b ∷ []) l))) same typed)
-    where
-      refused : IfErr result (IsLimitOrMemory (exceeded_taken type (a ∷ b ∷ []) ws)) → IfErr result (IsLimitOrMemory (exceeded_lists own type t f ws))
-      refused = elim result as (λ r. IfErr r (IsLimitOrMemory (exceeded_taken type (a ∷ b ∷ []) ws)) → IfErr r (IsLimitOrMemory (exceeded_lists own type t f ws))) [
-        | Ok x ↦ λ _. tt
-        | Err fault ↦ refused_more (exceeded_taken type (a ∷ b ∷ []) ws) (exceeded_lists own type t f ws) fault
-            (λ limit past. inr (taken_below type a b (below own t) (below own f) at_first at_second ws limit past))
-      ]
+      IfErr-weaker result _ _ (λ fault. refused_more (exceeded_taken type (a ∷ b ∷ []) ws) (exceeded_lists own type t f ws) fault
+      (λ limit past. inr (taken_below type a b (below own t) (below own f) at_first at_second ws limit past)))
+      (subst (λ past. IfErr result (IsLimitOrMemory past)) alike h)
 
   -- A result exceeds no limit if the rows themselves exceed none.
   pub answered_choice : ExceedsNone (exceeded_flat t f ws) → IfOk result (λ _. ExceedsNone (exceeded_taken (type_of a) (a ∷ b ∷ []) vs)) → IfOk result (λ _. ExceedsNone (exceeded_lists own type t f ws))
   answered_choice flat h =
-      let typed = subst (λ s. IfOk result (λ _. ExceedsNone (exceeded_taken s (a ∷ b ∷ []) vs))) is h in
-      answered (subst (λ l. IfOk result (λ _. ExceedsNone (exceeded_taken type (a ∷ b ∷ []) l))) same typed)
-    where
-      answered : IfOk result (λ _. ExceedsNone (exceeded_taken type (a ∷ b ∷ []) ws)) → IfOk result (λ _. ExceedsNone (exceeded_lists own type t f ws))
-      answered = elim result as (λ r. IfOk r (λ _. ExceedsNone (exceeded_taken type (a ∷ b ∷ []) ws)) → IfOk r (λ _. ExceedsNone (exceeded_lists own type t f ws))) [
-        | Ok x ↦ λ none. passes_neither (exceeded_flat t f ws) (exceeded_below type (below own t ∷ below own f ∷ []) ws) flat
-            (λ limit past. none limit (below_taken type a b (below own t) (below own f) at_first at_second ws limit past))
-        | Err fault ↦ λ _. tt
-      ]
-
--- ---- the children of lists
-
-pub lists_below : (lists entries : Column) (s : Shape) → type_of lists ≡ of_large_list s → type_of entries ≡ s → buffers_held lists ≡ buffers_held entries → IsBelow (type_of lists) lists entries
-lists_below lists entries s is same held = subst (λ type. IsBelow type lists entries) (sym is) (is, same, held)
-
-pub blocks_below : (lists entries : Column) (s : Shape) (w : ℕ) → type_of lists ≡ of_fixed_size_list s w → type_of entries ≡ s → buffers_held lists ≡ buffers_held entries → IsBelow (type_of lists) lists entries
-blocks_below lists entries s w is same held = subst (λ type. IsBelow type lists entries) (sym is) (is, same, held)
+      IfOk-weaker result _ _ (λ _ none. passes_neither (exceeded_flat t f ws) (exceeded_below type (below own t ∷ below own f ∷ []) ws) flat
+      (λ limit past. none limit (below_taken type a b (below own t) (below own f) at_first at_second ws limit past)))
+      (subst (λ past. IfOk result (λ _. ExceedsNone past)) alike h)

@@ -1,19 +1,17 @@
 -- A column with one list, which is not null.
-use Rattle.std.proofs.Common.{◌≡◌, ℕ, zero, suc, ◌+◌, ◌≤◌, ◌&&◌, ◌==◌, ◌*◌, true, None, List, [], ◌∷◌, length, get_or, refl, ap, sym, ◌∙◌, arith}
+use Rattle.sel_ternary.proofs.Common.{◌≡◌, ℕ, zero, suc, ◌+◌, ◌≤◌, ◌&&◌, ◌==◌, ◌*◌, true, None, List, [], ◌∷◌, length, get_or, refl, ap, sym, ◌∙◌, arith}
+use Rattle.sel_ternary.proofs.Common.{append-nil, rows, well_formed, Value, Null, Column, joined_items}
 use Rattle.std.specs.Prelude.{nat_le}
-use Rattle.std.proofs.lemmas.List.{append-nil}
 use Rattle.sel_bits.specs.Limits.{max_rows}
 use Rattle.sel_arrow.specs.Masked.{covers, is_few}
-use Rattle.sel_arrow.specs.Nested.{list_of, list_rows, block_rows}
+use Rattle.sel_arrow.specs.Nested.{list_of}
 use Rattle.sel_arrow.specs.Pieces.{rows_between, last_offset, is_rising}
-use Rattle.sel_arrow.specs.Rows.{rows, row_count, well_formed}
-use Rattle.sel_arrow.specs.Value.{Value, Null, listed, values_of}
-use Rattle.sel_arrow.specs.declared.column.Column.{Column}
+use Rattle.sel_arrow.specs.Rows.{row_count}
+use Rattle.sel_arrow.specs.Value.{listed, values_of}
 use Rattle.sel_arrow.proofs.NestedRows.{lists_formed, blocks_formed}
-use Rattle.sel_gather.specs.Children.{joined_items}
 use Rattle.sel_gather.specs.Ends.{item_ends}
 use Rattle.sel_gather.proofs.ItemRuns.{listed_values}
-use Rattle.sel_gather.proofs.Rebuilt.{IsBlock, IsListed, lists_rebuilt, lists_fit, blocks_rebuilt, blocks_fit}
+use Rattle.sel_gather.proofs.Rebuilt.{IsBlock, lists_fit, blocks_fit}
 
 -- The only row.
 abbrev only : List Value → List Value
@@ -27,26 +25,14 @@ one_ends entries =
     let plain : 0 + length (listed (values_of entries)) ≡ length (listed (values_of entries)) = omega arith in
     ap (λ n. n ∷ []) (plain ∙ ap length (listed_values entries))
 
-all_listed : (entries : List Value) (k : ℕ) → IsListed (get_or (only entries) k Null)
-all_listed entries zero = tt
-all_listed entries (suc k) = tt
-
 all_blocks : (w : ℕ) (entries : List Value) → length entries ≡ w → (k : ℕ) → IsBlock w (get_or (only entries) k Null)
 all_blocks w entries long zero = ap length (listed_values entries) ∙ long
 all_blocks w entries long (suc k) = tt
-
-pub one_list_rows : (offsets : List ℕ) (entries child : List Value) → offsets ≡ 0 ∷ length entries ∷ [] → child ≡ entries → list_rows offsets child None ≡ only entries
-one_list_rows offsets entries child ends is =
-    lists_rebuilt (only entries) offsets child None 1 (all_listed entries) refl (ends ∙ ap (λ l. 0 ∷ l) (sym (one_ends entries))) (is ∙ sym (items_of 0 entries)) refl
 
 pub one_list_formed : (offsets : List ℕ) (entries : List Value) (values : Column) → offsets ≡ 0 ∷ length entries ∷ [] → rows values ≡ entries → well_formed values ≡ true →
     (is_rising offsets && is_few (rows_between offsets) && nat_le (last_offset offsets) (row_count values) && covers None (rows_between offsets) && well_formed values) ≡ true
 one_list_formed offsets entries values ends is formed =
     lists_formed offsets values None (lists_fit (only entries) offsets values None 1 refl (omega arith) (ends ∙ ap (λ l. 0 ∷ l) (sym (one_ends entries))) (is ∙ sym (items_of 0 entries)) (λ b there. absurd (cc there)) formed)
-
-pub one_block_rows : (w : ℕ) (entries child : List Value) → length entries ≡ w → child ≡ entries → block_rows w 1 child None ≡ only entries
-one_block_rows w entries child long is =
-    blocks_rebuilt w (only entries) child None 1 (all_blocks w entries long) refl (is ∙ sym (items_of w entries)) refl
 
 pub one_block_formed : (w : ℕ) (entries : List Value) (values : Column) → length entries ≡ w → w ≤ max_rows → rows values ≡ entries → well_formed values ≡ true →
     (is_few 1 && is_few w && (row_count values == 1 * w) && covers None 1 && well_formed values) ≡ true

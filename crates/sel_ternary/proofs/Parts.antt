@@ -1,12 +1,10 @@
 -- If-then-else with a broadcast value, over parts of lists.
-use Rattle.std.proofs.Common.{◌≡◌, ℕ, ◌+◌, ◌^◌, ◌<◌, ◌≤◌, ◌∙◌, sym, refl, ap, arith, List, [], ◌∷◌, ◌++◌, length, take, drop, replicate, map, Bool, true, false, not}
-use Rattle.std.specs.Int.{bit_not, w64}
-use Rattle.std.proofs.lemmas.List.{same_lists, take-append-le, take_all, length-map, length-replicate, get_or-replicate, get_or-take, get_or-drop, get_or-map}
-use Rattle.sel_bits.specs.Words.{bits}
+use Rattle.sel_ternary.proofs.Common.{◌≡◌, ℕ, ◌+◌, ◌^◌, ◌<◌, ◌≤◌, ◌∙◌, sym, refl, ap, arith, List, [], ◌∷◌, ◌++◌, length, take, drop, replicate, map, Bool}
+use Rattle.sel_ternary.proofs.Common.{true, false, not, w64, take_all, length-map, length-replicate, get_or-replicate, bits, length_bits, get_bits, length_part}
+use Rattle.sel_ternary.proofs.Common.{choose, broadcast_true, broadcast_false, broadcast_both}
+use Rattle.std.specs.Int.{bit_not}
+use Rattle.std.proofs.lemmas.List.{same_lists, take-append-le, get_or-take, get_or-drop, get_or-map}
 use Rattle.sel_bits.proofs.Combining.{set_not}
-use Rattle.sel_bits.proofs.Packs.{length_bits, get_bits}
-use Rattle.sel_bits.proofs.WordsOf.{length_part}
-use Rattle.sel_ternary.specs.Choose.{choose, broadcast_true, broadcast_false, broadcast_both}
 use Rattle.sel_ternary.proofs.Chosen.{repeated_then, repeated_otherwise, repeated_both}
 
 -- A part of a repeated value is a repeated value.
@@ -66,3 +64,7 @@ part_of_two n at k mask x y le =
 -- The items of a vector after all of them are overwritten.
 pub overwritten : {A : Type 0} → (len : ℕ) (new items : List A) → length new ≡ len → take len (new ++ drop (length new) items) ≡ new
 overwritten len new items long = take-append-le len new (drop (length new) items) (omega (arith, long)) ∙ take_all len new (omega (arith, long))
+
+pub ruleset broadcasts = (choice_or_one, choice_one, choice_of_two, overwritten, length-replicate)
+
+pub ruleset parts = (part_or_one, part_one, part_of_two, length-replicate)

@@ -1,48 +1,31 @@
 -- If-then-else of views into the data buffers of the true and false values.
-use Rattle.std.proofs.Common.{◌≡◌, ℕ, zero, suc, ◌+◌, ◌-◌, ◌≤◌, ◌<◌, ◌∙◌, sym, refl, ap, arith, List, [], ◌∷◌, ◌++◌, length, map, get_or, take, drop, replicate, Bool, true, false, ◌&&◌}
-use Rattle.std.specs.Prelude.{leb, ltb, ◌==◌}
-use Rattle.std.specs.List.{list_all, slice_range}
-use Rattle.std.proofs.lemmas.Bool.{leb-false, leb-true, le-leb, lt-leb, lt-ltb, eq-eqb}
-use Rattle.std.proofs.lemmas.List.{get_or_append_left, get_or-append-add, length-append, take_all}
+use Rattle.sel_ternary.proofs.Common.{◌≡◌, ℕ, zero, suc, ◌+◌, ◌-◌, ◌≤◌, ◌<◌, ◌∙◌, sym, refl, ap, arith, List, [], ◌∷◌, ◌++◌, length, map, get_or, take, drop}
+use Rattle.sel_ternary.proofs.Common.{replicate, Bool, true, false, ◌&&◌, ◌==◌, list_all, eq-eqb, length-append, take_all, Bytes, is_placed, view_value, View}
+use Rattle.sel_ternary.proofs.Common.{choose, broadcast_true, broadcast_false, broadcast_both, can_rise, raised, scalar_buffers}
+use Rattle.sel_arrow.specs.Views.{view_of, inline_bytes, is_inline, word_at}
+use Rattle.std.specs.Prelude.{leb, ltb}
+use Rattle.std.specs.List.{slice_range}
+use Rattle.std.proofs.lemmas.Bool.{leb-false, leb-true, le-leb, lt-leb, lt-ltb, cases_Bool}
+use Rattle.std.proofs.lemmas.List.{get_or_append_left, get_or-append-add, take-map, drop-map}
 use Rattle.sel_bits.specs.Limits.{max_buffers}
-use Rattle.sel_bits.specs.declared.faults.Limit.{Limit}
-use Rattle.sel_bits.specs.declared.faults.PolarsError.{PolarsError}
-use Rattle.sel_bits.specs.declared.faults.PolarsError.TheVariants.{OutOfMemory, SizeLimit, ComputeError}
-use Rattle.sel_arrow.specs.Value.{Bytes}
-use Rattle.sel_arrow.specs.Views.{inline_bytes, is_inline, is_placed, view_of, view_value, word_at}
-use Rattle.sel_arrow.specs.declared.view.View.{View}
 use Rattle.sel_arrow.proofs.Lists.{all_at, all_more, all_of_them, none_at, all_part, both, and_first, and_second}
 use Rattle.sel_gather.proofs.Raising.{Behind, all_raised, raised_values, inline_placed, far_value, far_placed, room_to_raise}
-use Rattle.sel_ternary.specs.Choose.{choose, broadcast_true, broadcast_false, broadcast_both}
-use Rattle.sel_ternary.specs.Sides.{IsLimitOrMemory}
-use Rattle.sel_ternary.specs.ViewSides.{all_rise, can_rise, raised, scalar_buffers}
+use Rattle.sel_ternary.specs.ViewSides.{all_rise}
 use Rattle.sel_ternary.proofs.Chosen.{repeated_then, repeated_otherwise, repeated_both}
+use Rattle.std.proofs.Common.{⊎_elim}
+use Rattle.sel_arrow.proofs.Texts.{utf8_passes}
 
 pub ruleset all_views = (all_at, all_more, all_of_them, none_at, all_part)
 
--- ---- parts of mapped lists
-
-map-drop : {A B : Type 0} → (f : A → B) (n : ℕ) (l : List A) → map f (drop n l) ≡ drop n (map f l)
-map-drop f zero l = refl
-map-drop f (suc n) [] = refl
-map-drop f (suc n) (x ∷ l) = map-drop f n l
-
-map-take : {A B : Type 0} → (f : A → B) (n : ℕ) (l : List A) → map f (take n l) ≡ take n (map f l)
-map-take f zero l = refl
-map-take f (suc n) [] = refl
-map-take f (suc n) (x ∷ l) = ap (λ r. f x ∷ r) (map-take f n l)
-
 pub map-part : {A B : Type 0} → (f : A → B) (k at : ℕ) (l : List A) → map f (take k (drop at l)) ≡ take k (drop at (map f l))
-map-part f k at l = map-take f k (drop at l) ∙ ap (take k) (map-drop f at l)
+map-part f k at l = sym (take-map f k (drop at l)) ∙ ap (take k) (sym (drop-map f at l))
 
 -- ---- a property of each entry of the result
 
 pub all_chosen : {A : Type 0} → (p : A → Bool) (ms : List Bool) (ts fs : List A) → list_all p ts ≡ true → list_all p fs ≡ true → list_all p (choose ms ts fs) ≡ true
-all_chosen p [] ts fs a b = refl
-all_chosen p (m ∷ ms) [] fs a b = refl
-all_chosen p (m ∷ ms) (t ∷ ts) [] a b = refl
 all_chosen p (true ∷ ms) (t ∷ ts) (f ∷ fs) a b = both (p t) (list_all p (choose ms ts fs)) (and_first (p t) (list_all p ts) a) (all_chosen p ms ts fs (and_second (p t) (list_all p ts) a) (and_second (p f) (list_all p fs) b))
 all_chosen p (false ∷ ms) (t ∷ ts) (f ∷ fs) a b = both (p f) (list_all p (choose ms ts fs)) (and_first (p f) (list_all p fs) b) (all_chosen p ms ts fs (and_second (p t) (list_all p ts) a) (and_second (p f) (list_all p fs) b))
+all_chosen p ms ts fs a b = refl
 
 all_repeated : {A : Type 0} → (p : A → Bool) (n : ℕ) (x : A) → p x ≡ true → list_all p (replicate n x) ≡ true
 all_repeated p zero x a = refl
@@ -70,14 +53,9 @@ back_behind d xs ys i inside =
     (omega (arith, length-append xs ys), ap (λ k. get_or (xs ++ ys) k d) here ∙ get_or-append-add xs ys i d)
 
 not_raised : (view : View) → raised view 0 ≡ view
-not_raised view = decided (is_inline view) refl
-  where
-    same : view.buffer_idx + 0 ≡ view.buffer_idx
-    same = omega arith
-
-    decided : (b : Bool) → is_inline view ≡ b → raised view 0 ≡ view
-    decided true e = rw e refl
-    decided false e = rw e (λ i. record { length = view.length; prefix = view.prefix; buffer_idx = same i; offset = view.offset })
+not_raised view =
+    let same : view.buffer_idx + 0 ≡ view.buffer_idx = omega arith in
+    ⊎_elim (λ e. rw e refl) (λ e. rw e (λ i. record { length = view.length; prefix = view.prefix; buffer_idx = same i; offset = view.offset })) (cases_Bool (is_inline view))
 
 none_raised : (views : List View) → map (λ view. raised view 0) views ≡ views
 none_raised [] = refl
@@ -113,21 +91,14 @@ views_rise own k (view ∷ views) placed room =
     both (can_rise k view) (all_rise k views) (rises view (and_first (is_placed own view) (list_all (is_placed own) views) placed)) (views_rise own k views (and_second (is_placed own view) (list_all (is_placed own) views) placed) room)
   where
     rises : (view : View) → is_placed own view ≡ true → can_rise k view ≡ true
-    rises view there = decided (is_inline view) refl
-      where
-        decided : (b : Bool) → is_inline view ≡ b → can_rise k view ≡ true
-        decided true e = rw e refl
-        decided false e = rw e (le-leb (view.buffer_idx + k) max_buffers (room_to_raise own view k max_buffers there room (leb-false view.length 12 e)))
+    rises view there =
+        ⊎_elim (λ e. rw e refl) (λ e. rw e (le-leb (view.buffer_idx + k) max_buffers (room_to_raise own view k max_buffers there room (leb-false view.length 12 e)))) (cases_Bool (is_inline view))
 
 -- ---- the view of a scalar
 
 module _ (all : List (List ℕ)) (bytes : List ℕ) (k : ℕ) (view : View) (is : view ≡ view_of bytes k 0) (there : 12 < length bytes → (k < length all) × (get_or all k [] ≡ bytes)) where
   as_long : (view_of bytes k 0).length ≡ length bytes
-  as_long = decided (leb (length bytes) 12) refl
-    where
-      decided : (b : Bool) → leb (length bytes) 12 ≡ b → (view_of bytes k 0).length ≡ length bytes
-      decided true e = rw e refl
-      decided false e = rw e refl
+  as_long = ⊎_elim (λ e. rw e refl) (λ e. rw e refl) (cases_Bool (leb (length bytes) 12))
 
   lies_inline : leb (length bytes) 12 ≡ true → is_inline view ≡ true
   lies_inline e = ap (λ (v : View). leb v.length 12) is ∙ ap (λ n. leb n 12) as_long ∙ e
@@ -145,48 +116,40 @@ module _ (all : List (List ℕ)) (bytes : List ℕ) (k : ℕ) (view : View) (is 
       whole = let same : 0 + length bytes - 0 ≡ length bytes = omega arith in ap (λ n. take n bytes) same ∙ take_all (length bytes) bytes (omega arith)
 
   pub scalar_placed : is_placed all view ≡ true
-  scalar_placed = decided (leb (length bytes) 12) refl
-    where
-      decided : (b : Bool) → leb (length bytes) 12 ≡ b → is_placed all view ≡ true
-      decided true e = inline_placed all view (lies_inline e)
-      decided false e =
-          let found = there (leb-false (length bytes) 12 e) in
-          let enough : leb (0 + length bytes) (length (get_or all k [])) ≡ true = le-leb (0 + length bytes) (length (get_or all k [])) (omega (arith, ap length found.1)) in
-          let start : (word_at bytes 0 == word_at (slice_range (get_or all k []) 0 (0 + length bytes)) 0) ≡ true = ap (λ l. word_at bytes 0 == word_at l 0) (named e) ∙ eq-eqb (word_at bytes 0) (word_at bytes 0) refl in
-          ap (is_placed all) (lies_far e) ∙ far_placed all far e
-          ∙ both (ltb k (length all) && leb (0 + length bytes) (length (get_or all k []))) _ (both (ltb k (length all)) _ (lt-ltb k (length all) found.0) enough) start
+  scalar_placed =
+      ⊎_elim
+      (λ e. inline_placed all view (lies_inline e))
+      (λ e.
+      let found = there (leb-false (length bytes) 12 e) in
+      let enough : leb (0 + length bytes) (length (get_or all k [])) ≡ true = le-leb (0 + length bytes) (length (get_or all k [])) (omega (arith, ap length found.1)) in
+      let start : (word_at bytes 0 == word_at (slice_range (get_or all k []) 0 (0 + length bytes)) 0) ≡ true = ap (λ l. word_at bytes 0 == word_at l 0) (named e) ∙ eq-eqb (word_at bytes 0) (word_at bytes 0) refl in
+      ap (is_placed all) (lies_far e) ∙ far_placed all far e
+      ∙ both (ltb k (length all) && leb (0 + length bytes) (length (get_or all k []))) _ (both (ltb k (length all)) _ (lt-ltb k (length all) found.0) enough) start)
+      (cases_Bool (leb (length bytes) 12))
+
+  inline_value : is_inline view ≡ true → view_value all view ≡ Bytes (inline_bytes view)
+  inline_value d = rw d refl
 
   pub scalar_value : (length bytes ≤ 12 → inline_bytes view ≡ bytes) → view_value all view ≡ Bytes bytes
-  scalar_value inline = decided (leb (length bytes) 12) refl
-    where
-      decided : (b : Bool) → leb (length bytes) 12 ≡ b → view_value all view ≡ Bytes bytes
-      decided true e = inline_bytes_value (lies_inline e) ∙ ap Bytes (inline (leb-true (length bytes) 12 e))
-        where
-          inline_bytes_value : is_inline view ≡ true → view_value all view ≡ Bytes (inline_bytes view)
-          inline_bytes_value d = rw d refl
-      decided false e = ap (view_value all) (lies_far e) ∙ far_value all far e ∙ ap Bytes (named e)
+  scalar_value inline =
+      ⊎_elim
+      (λ e. inline_value (lies_inline e) ∙ ap Bytes (inline (leb-true (length bytes) 12 e)))
+      (λ e. ap (view_value all) (lies_far e) ∙ far_value all far e ∙ ap Bytes (named e))
+      (cases_Bool (leb (length bytes) 12))
 
 -- The data buffer of a scalar, if it has one, is after those of a column.
 pub scalar_there : (before : List (List ℕ)) (bytes : List ℕ) → 12 < length bytes → (length before < length (before ++ scalar_buffers bytes)) × (get_or (before ++ scalar_buffers bytes) (length before) [] ≡ bytes)
 scalar_there before bytes long =
-    let one : scalar_buffers bytes ≡ bytes ∷ [] = rw (is_long bytes long) refl in
+    let one : scalar_buffers bytes ≡ bytes ∷ [] = rw (lt-leb (length bytes) 12 long) refl in
     let here : length before + 0 ≡ length before = omega arith in (
       omega (arith, length-append before (scalar_buffers bytes), ap length one),
       ap (λ l. get_or (before ++ l) (length before) []) one ∙ ap (λ n. get_or (before ++ bytes ∷ []) n []) (sym here) ∙ get_or-append-add before (bytes ∷ []) 0 [],
     )
-  where
-    is_long : (bytes : List ℕ) → 12 < length bytes → leb (length bytes) 12 ≡ false
-    is_long bytes long = lt-leb (length bytes) 12 long
-
--- ---- errors
-
-pub refused_more : (P Q : Limit → Type 0) (fault : PolarsError) → ((limit : Limit) → P limit → Q limit) → IsLimitOrMemory P fault → IsLimitOrMemory Q fault
-refused_more P Q OutOfMemory f p = p
-refused_more P Q (SizeLimit limit) f p = f limit p
-refused_more P Q ComputeError f p = p
 
 -- The first of two scalars.
 pub first_there : (first second : List ℕ) → 12 < length first → (0 < length (scalar_buffers first ++ scalar_buffers second)) × (get_or (scalar_buffers first ++ scalar_buffers second) 0 [] ≡ first)
 first_there first second long =
     let one : scalar_buffers first ≡ first ∷ [] = rw (lt-leb (length first) 12 long) refl in
     (omega (arith, length-append (scalar_buffers first) (scalar_buffers second), ap length one), ap (λ l. get_or (l ++ scalar_buffers second) 0 []) one)
+
+pub ruleset texts = (all_chosen, all_chosen_one, all_chosen_or_one, all_chosen_of_two, utf8_passes)

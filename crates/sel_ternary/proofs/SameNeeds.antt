@@ -1,15 +1,18 @@
 -- The limits that rows exceed depend only on the types and the data buffers of their columns.
-use Rattle.std.proofs.Common.{◌≡◌, inl, inr, ℕ, zero, suc, ◌+◌, ◌<◌, Bool, true, false, All, List, [], ◌∷◌, ◌++◌, length, take, drop, map, refl, sym, ap, subst, ◌∙◌, arith, get_or, length-append}
+use Rattle.sel_ternary.proofs.Common.{◌≡◌, inl, ℕ, zero, suc, ◌+◌, ◌<◌, true, All, List, [], ◌∷◌, ◌++◌, length, take, drop, map, refl, sym, ap, subst, ◌∙◌}
+use Rattle.sel_ternary.proofs.Common.{arith, get_or, length-append, type_of, Shape, of_null, of_struct, shape_list, Value, Column, field, joined_items, part_at}
+use Rattle.sel_ternary.proofs.Common.{exceeded_taken}
+use Rattle.sel_bits.specs.declared.faults.Limit.{Limit}
+use Rattle.sel_arrow.specs.Rows.{buffers_held, types_of_each, buffers_of_each}
+use Rattle.sel_arrow.specs.declared.column.Column.TheVariants.{Struct', LargeList', FixedSizeList'}
+use Rattle.std.proofs.Common.{inr}
 use Rattle.std.specs.Bool.{⊤}
 use Rattle.std.proofs.Math.Seq.{take-append_seam, drop-append_seam}
-use Rattle.sel_bits.specs.declared.faults.Limit.{Limit}
-use Rattle.sel_arrow.specs.Rows.{type_of, types_of_each, buffers_held, buffers_of_each}
-use Rattle.sel_arrow.specs.Shape.{Shape, Shapes, no_shapes, next_shape, of_null, of_large_binary, of_binary_view, of_utf8_view, of_large_list, of_fixed_size_list, of_struct, shape_list}
-use Rattle.sel_arrow.specs.Value.{Value}
-use Rattle.sel_arrow.specs.declared.column.Column.{Column, Row_of-Column, end_of-Column, more_of-Column}
-use Rattle.sel_arrow.specs.declared.column.Column.TheVariants.{LargeList', FixedSizeList', Struct'}
-use Rattle.sel_gather.specs.Children.{child, columns_in, field, joined_items, part_at}
-use Rattle.sel_gather.specs.Need.{buffer_count, buffers_joined, ExceedsBuffers, exceeded_taken, exceeded_in_fields}
+use Rattle.sel_arrow.specs.Shape.{Shapes, no_shapes, next_shape, of_large_binary, of_binary_view, of_utf8_view, of_large_list, of_fixed_size_list}
+use Rattle.sel_arrow.specs.declared.column.Column.{Row_of-Column, end_of-Column, more_of-Column}
+use Rattle.sel_gather.specs.Children.{child, columns_in}
+use Rattle.sel_gather.specs.Need.{buffer_count, buffers_joined, ExceedsBuffers, exceeded_in_fields}
+use Rattle.sel_ternary.specs.WordKernels.{first_count, has_word_kernel}
 
 -- The number of view columns in a column of this type.
 abbrev mutual
@@ -46,54 +49,38 @@ pub record Like (s : Shape) (c d : Column) : Type 0 where
 -- The same of two lists of columns, pairwise.
 abbrev pub AllLike : Shape → List Column → List Column → Type 0
 AllLike s [] [] = ⊤
-AllLike s [] (d ∷ ds) = ⊥
-AllLike s (c ∷ cs) [] = ⊥
 AllLike s (c ∷ cs) (d ∷ ds) = Like s c d × AllLike s cs ds
+AllLike s cs ds = ⊥
 
 mapped : (s t : Shape) (f : Column → Column) → ((c d : Column) → Like s c d → Like t (f c) (f d)) → (cs ds : List Column) → AllLike s cs ds → AllLike t (map f cs) (map f ds)
 mapped s t f each [] [] like = tt
-mapped s t f each [] (d ∷ ds) like = absurd like
-mapped s t f each (c ∷ cs) [] like = absurd like
 mapped s t f each (c ∷ cs) (d ∷ ds) like = (each c d like.0, mapped s t f each cs ds like.1)
+mapped s t f each cs ds like = absurd like
 
 -- ---- view columns
 
-abbrev is_viewed : Shape → Bool
-is_viewed of_binary_view = true
-is_viewed of_utf8_view = true
-is_viewed s = false
+pub held_count : (c : Column) → has_word_kernel (type_of c) ≡ true → first_count (buffers_held c) ≡ buffer_count c
+held_count (LargeList' offsets p values validity) is = absurd cc
+held_count (FixedSizeList' size len p values validity) is = absurd cc
+held_count (Struct' len n fields validity) is = absurd cc
+held_count c is = refl
 
-abbrev first_count : List (List (List ℕ)) → ℕ
-first_count [] = 0
-first_count (buffers ∷ others) = length buffers
-
-count_held : (c : Column) → is_viewed (type_of c) ≡ true → buffer_count c ≡ first_count (buffers_held c)
-count_held (LargeList' offsets p values validity) is = absurd cc
-count_held (FixedSizeList' size len p values validity) is = absurd cc
-count_held (Struct' len n fields validity) is = absurd cc
-count_held c is = refl
-
-joined : (s : Shape) → is_viewed s ≡ true → (cs ds : List Column) → AllLike s cs ds → buffers_joined cs ≡ buffers_joined ds
+joined : (s : Shape) → has_word_kernel s ≡ true → (cs ds : List Column) → AllLike s cs ds → buffers_joined cs ≡ buffers_joined ds
 joined s viewed [] [] like = refl
-joined s viewed [] (d ∷ ds) like = absurd like
-joined s viewed (c ∷ cs) [] like = absurd like
 joined s viewed (c ∷ cs) (d ∷ ds) like =
-    let one = count_held c (ap is_viewed like.0.first ∙ viewed) ∙ ap first_count like.0.held ∙ sym (count_held d (ap is_viewed like.0.second ∙ viewed)) in
+    let one = sym (held_count c (ap has_word_kernel like.0.first ∙ viewed)) ∙ ap first_count like.0.held ∙ held_count d (ap has_word_kernel like.0.second ∙ viewed) in
     ap (λ n. n + buffers_joined cs) one ∙ ap (λ n. buffer_count d + n) (joined s viewed cs ds like.1)
+joined s viewed cs ds like = absurd like
 
 -- ---- children
 
 pub list_child : (c : Column) (s : Shape) → type_of c ≡ of_large_list s → (type_of (child c) ≡ s) × (buffers_held (child c) ≡ buffers_held c)
 list_child (LargeList' offsets p values validity) s is = (cc, refl)
-list_child (FixedSizeList' size len p values validity) s is = absurd cc
-list_child (Struct' len n fields validity) s is = absurd cc
-list_child c s is = absurd cc
+list_child c s is = absurd (cc is)
 
 pub block_child : (c : Column) (s : Shape) (w : ℕ) → type_of c ≡ of_fixed_size_list s w → (type_of (child c) ≡ s) × (buffers_held (child c) ≡ buffers_held c)
-block_child (LargeList' offsets p values validity) s w is = absurd cc
 block_child (FixedSizeList' size len p values validity) s w is = (cc, refl)
-block_child (Struct' len n fields validity) s w is = absurd cc
-block_child c s w is = absurd cc
+block_child c s w is = absurd (cc is)
 
 lists_like : (s : Shape) (c d : Column) → Like (of_large_list s) c d → Like s (child c) (child d)
 lists_like s c d like =
@@ -115,7 +102,7 @@ piece k no_shapes held = []
 piece zero (next_shape s ss) held = take (leaves s) held
 piece (suc k) (next_shape s ss) held = piece k ss (drop (leaves s) held)
 
-fields_long : (n : _) (row : Row_of-Column n) → length (shape_list (types_of_each row)) ≡ length (columns_in row)
+pub fields_long : (n : _) (row : Row_of-Column n) → length (shape_list (types_of_each row)) ≡ length (columns_in row)
 fields_long n end_of-Column = refl
 fields_long n (more_of-Column column columns) = ap suc (fields_long _ columns)
 
@@ -131,15 +118,13 @@ row_piece n (more_of-Column column columns) (suc k) d below =
 
 field_piece : (c : Column) (ss : Shapes) → type_of c ≡ of_struct ss → (k : ℕ) → k < length (shape_list ss) →
     (type_of (field k c) ≡ get_or (shape_list ss) k of_null) × (buffers_held (field k c) ≡ piece k ss (buffers_held c))
-field_piece (LargeList' offsets p values validity) ss is k below = absurd cc
-field_piece (FixedSizeList' size len p values validity) ss is k below = absurd cc
 field_piece (Struct' len n fields validity) ss is k below =
     let same : types_of_each fields ≡ ss = cc in
     let long = fields_long _ fields in
     let there : k < length (shape_list (types_of_each fields)) = subst (λ (ts : Shapes). k < length (shape_list ts)) (sym same) below in
     let found = row_piece _ fields k (Struct' len n fields validity) (omega (arith, there, long)) in
     (found.0 ∙ ap (λ (ts : Shapes). get_or (shape_list ts) k of_null) same, found.1 ∙ ap (λ (ts : Shapes). piece k ts (buffers_of_each fields)) same)
-field_piece c ss is k below = absurd cc
+field_piece c ss is k below = absurd (cc is)
 
 fields_like : (ss : Shapes) (k : ℕ) → k < length (shape_list ss) → (c d : Column) → Like (of_struct ss) c d → Like (get_or (shape_list ss) k of_null) (field k c) (field k d)
 fields_like ss k below c d like =
@@ -180,8 +165,6 @@ mutual
 -- Columns of the same types with the same data buffers.
 pub likes : (s : Shape) (cs ds : List Column) → All (λ c. type_of c ≡ s) cs → map type_of cs ≡ map type_of ds → map buffers_held cs ≡ map buffers_held ds → AllLike s cs ds
 likes s [] [] of types held = tt
-likes s [] (d ∷ ds) of types held = absurd (cc types)
-likes s (c ∷ cs) [] of types held = absurd (cc types)
 likes s (c ∷ cs) (d ∷ ds) of types held =
     let first : type_of c ≡ s = of 0 c (omega arith) in
     let one : type_of c ≡ type_of d = cc types in
@@ -189,10 +172,10 @@ likes s (c ∷ cs) (d ∷ ds) of types held =
     let two : buffers_held c ≡ buffers_held d = cc held in
     let others : map buffers_held cs ≡ map buffers_held ds = cc held in
     (record { first = first; second = sym one ∙ first; held = two }, likes s cs ds (λ k e below. of (suc k) e (omega (arith, below))) more others)
+likes s cs ds of types held = absurd (cc types)
 
 -- The relation is symmetric.
 pub turned : (s : Shape) (cs ds : List Column) → AllLike s cs ds → AllLike s ds cs
 turned s [] [] like = tt
-turned s [] (d ∷ ds) like = absurd like
-turned s (c ∷ cs) [] like = absurd like
 turned s (c ∷ cs) (d ∷ ds) like = (record { first = like.0.second; second = like.0.first; held = sym like.0.held }, turned s cs ds like.1)
+turned s cs ds like = absurd like

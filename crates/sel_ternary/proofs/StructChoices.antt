@@ -1,37 +1,30 @@
 -- If-then-else of struct columns without a validity, field by field.
-use Rattle.std.proofs.Common.{◌≡◌, All, ℕ, zero, suc, ◌<◌, ◌≤◌, Bool, true, List, [], ◌∷◌, length, map, replicate, Option, Some, None, refl, ap, sym, subst, ◌∙◌, arith, get_or}
+use Rattle.sel_ternary.proofs.Common.{◌≡◌, All, ℕ, zero, suc, ◌<◌, ◌≤◌, Bool, true, List, [], ◌∷◌, length, map, replicate, Option, Some, None, refl, ap, sym}
+use Rattle.sel_ternary.proofs.Common.{subst, ◌∙◌, arith, get_or, rows, type_of, well_formed, Shape, of_null, of_struct, shape_list, Value, Null, Column}
+use Rattle.sel_ternary.proofs.Common.{length-rows, field, part_at, ExceedsNone, IsLimitOrMemory, exceeded_taken, pick, refused_more, size_of, chosen_rows}
+use Rattle.sel_bits.specs.declared.faults.PolarsError.{PolarsError}
+use Rattle.sel_ternary.specs.ChosenPicks.{chosen_picks}
+use Rattle.sel_arrow.specs.Rows.{buffers_held, rows_of_each, types_of_each}
+use Rattle.sel_arrow.specs.declared.column.Column.TheVariants.{Struct'}
 use Rattle.std.specs.List.{range_with_len}
 use Rattle.std.proofs.lemmas.List.Elements.{All-head, All-tail}
-use Rattle.sel_bits.specs.declared.faults.Limit.{Limit}
-use Rattle.sel_bits.specs.declared.faults.PolarsError.{PolarsError}
 use Rattle.sel_arrow.specs.Nested.{struct_at}
-use Rattle.sel_arrow.specs.Rows.{rows, rows_of_each, type_of, types_of_each, buffers_held, well_formed}
-use Rattle.sel_arrow.specs.Shape.{Shape, Shapes, no_shapes, next_shape, of_null, of_struct, shape_list}
-use Rattle.sel_arrow.specs.Value.{Value, Null, is_valid, validities}
-use Rattle.sel_arrow.specs.declared.column.Column.{Column, Row_of-Column, end_of-Column, more_of-Column}
-use Rattle.sel_arrow.specs.declared.column.Column.TheVariants.{Struct'}
-use Rattle.sel_arrow.proofs.NestedRows.{length-rows}
-use Rattle.sel_gather.specs.Children.{columns_in, field, fields_of, part_at}
-use Rattle.sel_gather.specs.Need.{ExceedsNone, IsLimitOrMemory, exceeded_taken}
-use Rattle.sel_gather.specs.Picks.{found, pick, PickFits}
+use Rattle.sel_arrow.specs.Shape.{Shapes, no_shapes, next_shape}
+use Rattle.sel_arrow.specs.Value.{is_valid, validities}
+use Rattle.sel_gather.specs.Children.{fields_of}
+use Rattle.sel_gather.specs.Picks.{found, PickFits}
 use Rattle.sel_gather.specs.Plans.{IsPicked}
-use Rattle.sel_gather.proofs.Below.{refused_more}
-use Rattle.sel_gather.proofs.Depths.{size_of, sizes_of}
+use Rattle.sel_gather.proofs.Depths.{sizes_of}
 use Rattle.sel_gather.proofs.Layouts.{rows_tuples}
 use Rattle.sel_gather.proofs.Rebuilt.{IsTuple, picked_all}
 use Rattle.sel_gather.proofs.RunLists.{length-pick}
 use Rattle.sel_gather.proofs.TupleRows.{field_row, field_type, field_formed}
-use Rattle.sel_ternary.specs.Chosen.{chosen_rows, SideFits}
-use Rattle.sel_ternary.specs.ChosenPicks.{chosen_picks}
+use Rattle.sel_ternary.specs.Chosen.{SideFits}
 use Rattle.sel_ternary.specs.Structs.{is_bare}
 use Rattle.sel_ternary.proofs.ChosenPicks.{choice_fits, choice_picked, chosen_long, chosen_picked}
-use Rattle.sel_ternary.proofs.SameNeeds.{same_needs}
+use Rattle.sel_ternary.proofs.SameNeeds.{AllLike, fields_long, same_needs, turned}
 
 -- ---- the types of the fields
-
-count_of : (n : _) (row : Row_of-Column n) → length (columns_in row) ≡ length (shape_list (types_of_each row))
-count_of n end_of-Column = refl
-count_of n (more_of-Column c rest) = ap suc (count_of _ rest)
 
 abbrev pub shapes_in : Column → Shapes
 shapes_in (Struct' len n fields validity) = types_of_each fields
@@ -42,7 +35,7 @@ bare_type (Struct' len n fields None) is = refl
 bare_type c is = absurd (cc is)
 
 pub bare_count : (c : Column) → is_bare c ≡ true → length (fields_of c) ≡ length (shape_list (shapes_in c))
-bare_count (Struct' len n fields None) is = count_of _ fields
+bare_count (Struct' len n fields None) is = sym (fields_long _ fields)
 bare_count c is = absurd (cc is)
 
 abbrev shapes_below : Shape → Shapes
@@ -167,11 +160,23 @@ module _ (x y : Column) (t f : Bool) (bits : List Bool) (true_bare : is_bare x �
 
 -- ---- copies of the fields
 
+-- A column with the rows, the type and the data buffers of another one.
+pub record IsCopy (a c : Column) : Type 0 where
+  pub same_rows : rows a ≡ rows c
+  pub same_type : type_of a ≡ type_of c
+  pub same_held : buffers_held a ≡ buffers_held c
+
+pub copy_of : (a b c : Column) → rows a ≡ rows b → type_of a ≡ type_of b → buffers_held a ≡ buffers_held b → b ≡ c → IsCopy a c
+copy_of a b c same_rows same_type same_held is = record { same_rows = same_rows ∙ ap rows is; same_type = same_type ∙ ap type_of is; same_held = same_held ∙ ap buffers_held is }
+
 module _ (x y : Column) (t f : Bool) (bits : List Bool) (true_bare : is_bare x ≡ true) (false_bare : is_bare y ≡ true) (same : type_of x ≡ type_of y)
     (true_side : SideFits t (length (rows x)) (length bits)) (false_side : SideFits f (length (rows y)) (length bits))
     (j : ℕ) (h : j < length (fields_of x)) (true_formed : well_formed x ≡ true) (false_formed : well_formed y ≡ true) where
   abbrev ss : Shapes
   ss = shapes_in x
+
+  abbrev chosen_part : List Value
+  chosen_part = map (part_at j) (chosen_rows t f bits (rows x) (rows y))
 
   true_type : type_of x ≡ of_struct ss
   true_type = bare_type x true_bare
@@ -191,42 +196,33 @@ module _ (x y : Column) (t f : Bool) (bits : List Bool) (true_bare : is_bare x �
   types_alike : type_of (field j y) ≡ type_of (field j x)
   types_alike = field_type y ss j of_null false_type there ∙ sym (field_type x ss j of_null true_type there)
 
-  module _ (a b : Column) (first_rows : rows a ≡ rows (field j x)) (second_rows : rows b ≡ rows (field j y)) (first_type : type_of a ≡ type_of (field j x)) (second_type : type_of b ≡ type_of (field j y))
-      (first_held : buffers_held a ≡ buffers_held (field j x)) (second_held : buffers_held b ≡ buffers_held (field j y)) where
+  module _ (a b : Column) (first : IsCopy a (field j x)) (second : IsCopy b (field j y)) where
     pub copies_alike : type_of a ≡ type_of b
-    copies_alike = first_type ∙ sym types_alike ∙ sym second_type
+    copies_alike = first.same_type ∙ sym types_alike ∙ sym second.same_type
 
     pub copy_true_side : SideFits t (length (rows a)) (length bits)
-    copy_true_side = subst (λ (l : List Value). SideFits t (length l) (length bits)) (sym first_rows) (field_true_side x y t f bits true_bare false_bare ss true_type false_type true_side false_side j there true_formed false_formed)
+    copy_true_side = subst (λ (l : List Value). SideFits t (length l) (length bits)) (sym first.same_rows) (field_true_side x y t f bits true_bare false_bare ss true_type false_type true_side false_side j there true_formed false_formed)
 
     pub copy_false_side : SideFits f (length (rows b)) (length bits)
-    copy_false_side = subst (λ (l : List Value). SideFits f (length l) (length bits)) (sym second_rows) (field_false_side x y t f bits true_bare false_bare ss true_type false_type true_side false_side j there true_formed false_formed)
+    copy_false_side = subst (λ (l : List Value). SideFits f (length l) (length bits)) (sym second.same_rows) (field_false_side x y t f bits true_bare false_bare ss true_type false_type true_side false_side j there true_formed false_formed)
 
-    pub copies_chosen : chosen_rows t f bits (rows a) (rows b) ≡ map (part_at j) (chosen_rows t f bits (rows x) (rows y))
+    pub copies_chosen : chosen_rows t f bits (rows a) (rows b) ≡ chosen_part
     copies_chosen =
-        ap (λ l. chosen_rows t f bits l (rows b)) first_rows ∙ ap (λ l. chosen_rows t f bits (rows (field j x)) l) second_rows
+        (λ i. chosen_rows t f bits (first.same_rows i) (second.same_rows i))
         ∙ field_chosen x y t f bits true_bare false_bare ss true_type false_type true_side false_side j there true_formed false_formed
 
-    -- Rows exceed the same limits with copies of the columns.
-    there_like : (vs : List Value) (limit : Limit) → exceeded_taken (type_of a) (a ∷ b ∷ []) vs limit → exceeded_taken (type_of (field j x)) (field j x ∷ field j y ∷ []) vs limit
-    there_like vs limit past =
-        same_needs (type_of (field j x)) (a ∷ b ∷ []) (field j x ∷ field j y ∷ [])
-        (record { first = first_type; second = refl; held = first_held }, (record { first = second_type ∙ types_alike; second = types_alike; held = second_held }, tt)) vs limit
-        (subst (λ s. exceeded_taken s (a ∷ b ∷ []) vs limit) first_type past)
+    -- The rows exceed the same limits with copies of the columns.
+    copied : AllLike (type_of (field j x)) (a ∷ b ∷ []) (field j x ∷ field j y ∷ [])
+    copied = (
+      record { first = first.same_type; second = refl; held = first.same_held },
+      (record { first = second.same_type ∙ types_alike; second = types_alike; held = second.same_held }, tt),
+    )
 
-    back_like : (vs : List Value) (limit : Limit) → exceeded_taken (type_of (field j x)) (field j x ∷ field j y ∷ []) vs limit → exceeded_taken (type_of a) (a ∷ b ∷ []) vs limit
-    back_like vs limit past =
-        subst (λ s. exceeded_taken s (a ∷ b ∷ []) vs limit) (sym first_type)
-        (same_needs (type_of (field j x)) (field j x ∷ field j y ∷ []) (a ∷ b ∷ [])
-        (record { first = refl; second = first_type; held = sym first_held }, (record { first = types_alike; second = second_type ∙ types_alike; held = sym second_held }, tt)) vs limit past)
-
-    pub copies_pass : ExceedsNone (exceeded_taken (type_of a) (a ∷ b ∷ []) (chosen_rows t f bits (rows a) (rows b))) →
-        ExceedsNone (exceeded_taken (type_of (field j x)) (field j x ∷ field j y ∷ []) (map (part_at j) (chosen_rows t f bits (rows x) (rows y))))
+    pub copies_pass : ExceedsNone (exceeded_taken (type_of a) (a ∷ b ∷ []) (chosen_rows t f bits (rows a) (rows b))) → ExceedsNone (exceeded_taken (type_of (field j x)) (field j x ∷ field j y ∷ []) chosen_part)
     copies_pass none limit past =
-        none limit (back_like (chosen_rows t f bits (rows a) (rows b)) limit (subst (λ l. exceeded_taken (type_of (field j x)) (field j x ∷ field j y ∷ []) l limit) (sym copies_chosen) past))
+        none limit (rw (first.same_type, copies_chosen) (same_needs (type_of (field j x)) (field j x ∷ field j y ∷ []) (a ∷ b ∷ []) (turned (type_of (field j x)) (a ∷ b ∷ []) (field j x ∷ field j y ∷ []) copied) chosen_part limit past))
 
     pub copies_refused : (fault : PolarsError) → IsLimitOrMemory (exceeded_taken (type_of a) (a ∷ b ∷ []) (chosen_rows t f bits (rows a) (rows b))) fault →
-        IsLimitOrMemory (exceeded_taken (type_of (field j x)) (field j x ∷ field j y ∷ []) (map (part_at j) (chosen_rows t f bits (rows x) (rows y)))) fault
+        IsLimitOrMemory (exceeded_taken (type_of (field j x)) (field j x ∷ field j y ∷ []) chosen_part) fault
     copies_refused fault refused =
-        refused_more _ _ fault
-        (λ limit past. subst (λ l. exceeded_taken (type_of (field j x)) (field j x ∷ field j y ∷ []) l limit) copies_chosen (there_like (chosen_rows t f bits (rows a) (rows b)) limit past)) refused
+        refused_more _ _ fault (λ limit past. same_needs (type_of (field j x)) (a ∷ b ∷ []) (field j x ∷ field j y ∷ []) copied chosen_part limit (rw (first.same_type, copies_chosen) at past)) refused

@@ -1,7 +1,14 @@
 -- The columns whose if-then-else has a kernel by the words of the mask, for its internal steps.
-use Rattle.std.specs.Prelude.{ℕ, Bool, true, false, List, [], ◌∷◌, length}
+use Rattle.std.specs.Prelude.{◌≡◌, ℕ, Bool, true, false, List, [], ◌∷◌, Option, Result, length}
+use Rattle.std.specs.Prelude.{IfErr, IfOk, IfSome}
+use Rattle.sel_bits.specs.declared.faults.PolarsError.{PolarsError}
+use Rattle.sel_arrow.specs.Rows.{rows, type_of}
 use Rattle.sel_arrow.specs.Shape.{Shape, of_null, of_large_binary, of_large_list}
 use Rattle.sel_arrow.specs.Shape.{of_fixed_size_list, of_struct}
+use Rattle.sel_arrow.specs.Value.{Value}
+use Rattle.sel_arrow.specs.declared.array_ref.ArrayRef.{ArrayRef}
+use Rattle.sel_arrow.specs.declared.column.Column.{Column}
+use Rattle.sel_gather.specs.Need.{ExceedsNone, IsLimitOrMemory, exceeded_taken}
 
 -- Whether columns of this type have such a kernel.
 abbrev pub has_word_kernel : Shape → Bool
@@ -17,3 +24,13 @@ has_word_kernel s = true
 abbrev pub first_count : List (List (List ℕ)) → ℕ
 first_count [] = 0
 first_count (buffers ∷ others) = length buffers
+
+-- A column of this type with these rows of these columns, which exceed no limit, or no column; or an
+-- error: out of memory, or a limit that they exceed.
+pub record ChoosesSome (result : Result (Option ArrayRef) PolarsError) (shape : Shape)
+    (columns : List Column) (values : List Value) : Type 0 where
+  pub rows : IfOk result (λ made. IfSome made (λ chosen. rows chosen.column ≡ values))
+  pub dtype : IfOk result (λ made. IfSome made (λ chosen. type_of chosen.column ≡ shape))
+  pub within : IfOk result
+      (λ made. IfSome made (λ chosen. ExceedsNone (exceeded_taken shape columns values)))
+  pub refusal : IfErr result (IsLimitOrMemory (exceeded_taken shape columns values))

@@ -1,6 +1,6 @@
 //! If-then-else for columns of any type.
 
-ghost use Rattle.std.specs.Prelude.{◌≡◌, ◌≤◌, ◌<◌, ◌∷◌, [], All, length, map, true, IfOk, IfErr, IfSome};
+ghost use Rattle.std.specs.Prelude.{◌≡◌, ◌≤◌, ◌<◌, ◌∷◌, [], All, length, map, true, IfOk, IfErr};
 ghost use Rattle.sel_bits.specs.Limits.{max_buffers, max_rows};
 ghost use Rattle.sel_arrow.specs.Rows.{rows, type_of, IsField};
 ghost use Rattle.sel_arrow.specs.Shape.{of_struct, shapes_of};
@@ -9,9 +9,10 @@ ghost use Rattle.sel_ternary.specs.Choose.{choose, broadcast_true, broadcast_fal
 ghost use Rattle.sel_ternary.specs.Chosen.{chosen_rows, first_row, SideFits};
 ghost use Rattle.sel_ternary.specs.ChosenPicks.{bit_pick, chosen_picks, place_on};
 ghost use Rattle.sel_ternary.specs.Structs.{is_bare};
+ghost use Rattle.sel_ternary.specs.WordKernels.{ChoosesSome};
 ghost use Rattle.sel_gather.specs.Children.{field, fields_of, part_at};
 ghost use Rattle.sel_gather.specs.Gathers.{Collects, GathersFrom};
-ghost use Rattle.sel_gather.specs.Need.{buffer_count, exceeded_in_fields, exceeded_taken, ExceedsNone, IsLimitOrMemory};
+ghost use Rattle.sel_gather.specs.Need.{buffer_count, exceeded_in_fields, ExceedsNone, IsLimitOrMemory};
 ghost use Rattle.sel_gather.specs.Steps.{parts_of};
 
 use crate::if_then_else::by_words::choose_by_words;
@@ -26,6 +27,7 @@ use sel_bits::bitmap::Bitmap;
 use sel_bits::faults::{Limit, PolarsError, PolarsResult};
 use sel_gather::copy::collect_runs;
 use sel_gather::gather::collect_rising;
+use sel_gather::match_number_types;
 use sel_gather::row_refs::{Places, Walk};
 use sel_gather::runs::Run;
 use std::alloc::Global;
@@ -37,6 +39,7 @@ use std::alloc::Global;
 ///
 /// # Errors
 /// `OutOfMemory`; `SizeLimit` if the result would exceed a limit.
+#[tactic(auto, using(crate::proofs::ListChoices::few_bits))]
 pub fn if_then_else_any(
     alloc: Global,
     mask: &Bitmap,
@@ -61,6 +64,7 @@ pub fn if_then_else_any(
 ///
 /// # Errors
 /// `OutOfMemory`; `SizeLimit` if the result would exceed a limit.
+#[tactic(auto, using(crate::proofs::ListChoices::few_bits))]
 pub fn if_then_else_any_broadcast_true(
     alloc: Global,
     mask: &Bitmap,
@@ -86,6 +90,7 @@ pub fn if_then_else_any_broadcast_true(
 ///
 /// # Errors
 /// `OutOfMemory`; `SizeLimit` if the result would exceed a limit.
+#[tactic(auto, using(crate::proofs::ListChoices::few_bits))]
 pub fn if_then_else_any_broadcast_false(
     alloc: Global,
     mask: &Bitmap,
@@ -343,64 +348,28 @@ fn word_choice(
     requires false_side { SideFits false_column (length (rows if_false.now.column))
         (length mask.now.bits) }
     requires few { length mask.now.bits ≤ max_rows }
-    ensures rows { IfOk result (λ made. IfSome made (λ chosen. rows chosen.column ≡
-        chosen_rows true_column false_column mask.now.bits (rows if_true.now.column)
-        (rows if_false.now.column))) }
-    ensures dtype { IfOk result (λ made. IfSome made (λ chosen.
-        type_of chosen.column ≡ type_of if_true.now.column)) }
-    ensures within { IfOk result (λ made. IfSome made (λ _. ExceedsNone (exceeded_taken
-        (type_of if_true.now.column) (if_true.now.column ∷ if_false.now.column ∷ [])
+    ensures { ChoosesSome result (type_of if_true.now.column)
+        (if_true.now.column ∷ if_false.now.column ∷ [])
         (chosen_rows true_column false_column mask.now.bits (rows if_true.now.column)
-        (rows if_false.now.column))))) }
-    ensures refusal { IfErr result (IsLimitOrMemory (exceeded_taken (type_of if_true.now.column)
-        (if_true.now.column ∷ if_false.now.column ∷ []) (chosen_rows true_column false_column
-        mask.now.bits (rows if_true.now.column) (rows if_false.now.column)))) }
+        (rows if_false.now.column)) }
 {
     if buffers_in(if_true.as_column()) + buffers_in(if_false.as_column()) > MOST_BUFFERS {
         return Err(PolarsError::SizeLimit(Limit::Buffers));
     }
-    let (first, second) = (if_true, if_false);
-    let (columns, others) = (true_column, false_column);
-    match if_true.as_column() {
-        Column::Boolean(_) => {
-            choose_by_words::<BooleanArray>(alloc, mask, first, second, columns, others)
-        }
-        Column::Int8(_) => {
-            choose_by_words::<PrimitiveArray<i8>>(alloc, mask, first, second, columns, others)
-        }
-        Column::Int16(_) => {
-            choose_by_words::<PrimitiveArray<i16>>(alloc, mask, first, second, columns, others)
-        }
-        Column::Int32(_) => {
-            choose_by_words::<PrimitiveArray<i32>>(alloc, mask, first, second, columns, others)
-        }
-        Column::Int64(_) => {
-            choose_by_words::<PrimitiveArray<i64>>(alloc, mask, first, second, columns, others)
-        }
-        Column::Int128(_) => {
-            choose_by_words::<PrimitiveArray<i128>>(alloc, mask, first, second, columns, others)
-        }
-        Column::UInt8(_) => {
-            choose_by_words::<PrimitiveArray<u8>>(alloc, mask, first, second, columns, others)
-        }
-        Column::UInt16(_) => {
-            choose_by_words::<PrimitiveArray<u16>>(alloc, mask, first, second, columns, others)
-        }
-        Column::UInt32(_) => {
-            choose_by_words::<PrimitiveArray<u32>>(alloc, mask, first, second, columns, others)
-        }
-        Column::UInt64(_) => {
-            choose_by_words::<PrimitiveArray<u64>>(alloc, mask, first, second, columns, others)
-        }
-        Column::UInt128(_) => {
-            choose_by_words::<PrimitiveArray<u128>>(alloc, mask, first, second, columns, others)
-        }
-        Column::BinaryView(_) => {
-            choose_by_words::<BinaryViewArray>(alloc, mask, first, second, columns, others)
-        }
-        Column::Utf8View(_) => {
-            choose_by_words::<Utf8ViewArray>(alloc, mask, first, second, columns, others)
-        }
+    macro_rules! choose {
+        ($array:ty) => {
+            choose_by_words::<$array>(alloc, mask, if_true, if_false, true_column, false_column)
+        };
+    }
+    macro_rules! choose_numbers {
+        ($number:ty) => {
+            choose!(PrimitiveArray<$number>)
+        };
+    }
+    match_number_types! { if_true.as_column(), choose_numbers,
+        Column::Boolean(_) => choose!(BooleanArray),
+        Column::BinaryView(_) => choose!(BinaryViewArray),
+        Column::Utf8View(_) => choose!(Utf8ViewArray),
         _ => Ok(None),
     }
 }
@@ -419,6 +388,7 @@ fn buffers_in(column: &Column) -> usize
 
 /// Returns the if-then-else of columns of any type, by row references. If its flag is false, a
 /// column has one row, which is broadcast.
+#[tactic(auto, using(crate::proofs::ChosenPicks::choices))]
 pub(crate) fn picked_choice(
     alloc: Global,
     mask: &Bitmap,
@@ -456,6 +426,7 @@ struct MaskPlaces<'a> {
     ghost few: { length mask.now.bits ≤ max_rows },
 }
 
+#[tactic(auto, using(crate::proofs::ChosenPicks::picks))]
 impl Places for MaskPlaces<'_> {
     ghost picks = { λ places. chosen_picks places.true_column places.false_column 0
         places.mask.now.bits };

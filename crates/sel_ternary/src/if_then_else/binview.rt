@@ -31,6 +31,7 @@ use std::alloc::Global;
 /// `OutOfMemory`; `SizeLimit(Buffers)` for more than 4,294,967,295 data buffers;
 /// `SizeLimit(ViewBytes)` for a scalar of more than 4,294,967,295 bytes; `SizeLimit(Rows)` for two
 /// scalars and a mask of more than 4,294,967,295 bits.
+#[tactic(auto, using(crate::proofs::Validities::sides))]
 impl IfThenElseKernel for BinaryViewArray {
     ghost use Rattle.std.specs.Prelude.{◌≡◌, ⊤};
 

@@ -90,6 +90,7 @@ pub(crate) fn choose_columns<T: ChooseLanes>(
 }
 
 /// Returns if-then-else of an integer and a column's values, or `OutOfMemory`.
+#[tactic(auto, using(crate::proofs::Parts::broadcasts))]
 pub(crate) fn choose_scalar_or_column<T: ChooseLanes>(
     alloc: Global,
     mask: &Bitmap,
@@ -107,6 +108,7 @@ pub(crate) fn choose_scalar_or_column<T: ChooseLanes>(
 }
 
 /// Returns if-then-else of a column's values and an integer, or `OutOfMemory`.
+#[tactic(auto, using(crate::proofs::Parts::broadcasts))]
 pub(crate) fn choose_column_or_scalar<T: ChooseLanes>(
     alloc: Global,
     mask: &Bitmap,
@@ -124,6 +126,7 @@ pub(crate) fn choose_column_or_scalar<T: ChooseLanes>(
 }
 
 /// Returns if-then-else of two integers, or `OutOfMemory`.
+#[tactic(auto, using(crate::proofs::Parts::broadcasts))]
 pub(crate) fn choose_scalars<T: ChooseLanes>(
     alloc: Global,
     mask: &Bitmap,

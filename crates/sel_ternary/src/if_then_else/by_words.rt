@@ -201,6 +201,7 @@ fn choose_arrays<A: WordKernel>(
 }
 
 // Returns the if-then-else of a row, which may be null, and a column.
+#[tactic(auto, using(crate::proofs::WordKernels::null_rows))]
 fn row_or_column<A: WordKernel>(
     alloc: Global,
     mask: &Bitmap,
@@ -225,6 +226,7 @@ fn row_or_column<A: WordKernel>(
 }
 
 // Returns the if-then-else of a column and a row, which may be null.
+#[tactic(auto, using(crate::proofs::WordKernels::null_rows))]
 fn column_or_row<A: WordKernel>(
     alloc: Global,
     mask: &Bitmap,
@@ -249,6 +251,7 @@ fn column_or_row<A: WordKernel>(
 
 // Returns the if-then-else of two rows, or none if both are null. If one is null, the other one is
 // repeated.
+#[tactic(auto, using(crate::proofs::WordKernels::null_rows))]
 fn row_or_row<A: WordKernel>(
     alloc: Global,
     mask: &Bitmap,

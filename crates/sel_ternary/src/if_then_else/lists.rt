@@ -130,6 +130,7 @@ impl Lists for FixedSizeListArray {
 }
 
 /// Returns the if-then-else of two columns.
+#[tactic(auto, using(crate::proofs::ListChoices::few_bits))]
 pub(crate) fn choose_lists<L: Lists>(
     alloc: Global,
     mask: &Bitmap,
@@ -155,6 +156,7 @@ pub(crate) fn choose_lists<L: Lists>(
 }
 
 /// Returns the if-then-else of one list and a column.
+#[tactic(auto, using(crate::proofs::ListChoices::few_bits))]
 pub(crate) fn choose_one_or_lists<L: Lists>(
     alloc: Global,
     mask: &Bitmap,
@@ -181,6 +183,7 @@ pub(crate) fn choose_one_or_lists<L: Lists>(
 }
 
 /// Returns the if-then-else of a column and one list.
+#[tactic(auto, using(crate::proofs::ListChoices::few_bits))]
 pub(crate) fn choose_lists_or_one<L: Lists>(
     alloc: Global,
     mask: &Bitmap,
@@ -207,6 +210,7 @@ pub(crate) fn choose_lists_or_one<L: Lists>(
 }
 
 /// Returns the if-then-else of two lists.
+#[tactic(auto, using(crate::proofs::Validities::sides))]
 pub(crate) fn choose_ones<L: Lists>(
     alloc: Global,
     mask: &Bitmap,

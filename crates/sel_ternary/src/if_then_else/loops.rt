@@ -61,6 +61,7 @@ struct OneTrue<'a, T> {
     if_false: &'a [T],
 }
 
+#[tactic(auto, using(crate::proofs::Parts::parts))]
 impl<T: Copy> BlockChoice for OneTrue<'_, T> {
     ghost use Rattle.std.specs.Prelude.{length, replicate};
 
@@ -83,6 +84,7 @@ struct OneFalse<'a, T> {
     if_false: T,
 }
 
+#[tactic(auto, using(crate::proofs::Parts::parts))]
 impl<T: Copy> BlockChoice for OneFalse<'_, T> {
     ghost use Rattle.std.specs.Prelude.{length, replicate};
 
@@ -106,6 +108,7 @@ struct OfTwo<T> {
     len: usize,
 }
 
+#[tactic(auto, using(crate::proofs::Parts::parts))]
 impl<T: Copy> BlockChoice for OfTwo<T> {
     ghost use Rattle.std.specs.Prelude.{replicate};
 
@@ -173,6 +176,7 @@ pub fn if_then_else_words<T: Copy>(
 }
 
 /// Returns if-then-else of a scalar and a slice, or `OutOfMemory`.
+#[tactic(auto, using(crate::proofs::Parts::broadcasts))]
 pub(crate) fn choose_one_true<T: Copy>(
     alloc: Global,
     mask: &Bitmap,
@@ -191,6 +195,7 @@ pub(crate) fn choose_one_true<T: Copy>(
 }
 
 /// Returns if-then-else of a slice and a scalar, or `OutOfMemory`.
+#[tactic(auto, using(crate::proofs::Parts::broadcasts))]
 pub(crate) fn choose_one_false<T: Copy>(
     alloc: Global,
     mask: &Bitmap,
@@ -209,6 +214,7 @@ pub(crate) fn choose_one_false<T: Copy>(
 }
 
 /// Returns if-then-else of two scalars, or `OutOfMemory`.
+#[tactic(auto, using(crate::proofs::Parts::broadcasts))]
 pub(crate) fn choose_two<T: Copy>(
     alloc: Global,
     mask: &Bitmap,

@@ -24,6 +24,7 @@ use std::alloc::Global;
 const MOST_VIEW_BYTES: usize = 4_294_967_295;
 
 /// Returns if-then-else of two columns, or `OutOfMemory`, or `SizeLimit` for data buffers.
+#[tactic(auto, using(crate::proofs::Validities::sides))]
 pub(crate) fn choose_columns(
     alloc: Global,
     mask: &Bitmap,
@@ -65,6 +66,7 @@ pub(crate) fn choose_columns(
 }
 
 /// Returns if-then-else of a byte scalar and a column, or `OutOfMemory` or `SizeLimit`.
+#[tactic(auto, using(crate::proofs::Validities::sides))]
 pub(crate) fn choose_bytes_true(
     alloc: Global,
     mask: &Bitmap,
@@ -98,6 +100,7 @@ pub(crate) fn choose_bytes_true(
 }
 
 /// Returns if-then-else of a column and a byte scalar, or `OutOfMemory` or `SizeLimit`.
+#[tactic(auto, using(crate::proofs::Validities::sides))]
 pub(crate) fn choose_bytes_false(
     alloc: Global,
     mask: &Bitmap,

@@ -24,6 +24,17 @@ use sel_bits::bitmap::Bitmap;
 use sel_bits::faults::PolarsResult;
 use std::alloc::Global;
 
+/// Returns the value of a column of one row, which is not null.
+macro_rules! only_value {
+    ($column:ident) => {{
+        let Some(value) = $column.get(0) else {
+            unreachable!()
+        };
+        value
+    }};
+}
+
+#[tactic(auto, using(crate::proofs::Validities::sides))]
 impl<T: ArrowPrimitive + ChooseLanes> WordKernel for PrimitiveArray<T> {
     fn choose_columns(
         alloc: Global,
@@ -40,9 +51,7 @@ impl<T: ArrowPrimitive + ChooseLanes> WordKernel for PrimitiveArray<T> {
         if_true: &Self,
         if_false: &Self,
     ) -> PolarsResult<Self> {
-        let Some(value) = if_true.get(0) else {
-            unreachable!()
-        };
+        let value = only_value!(if_true);
         Self::if_then_else_broadcast_true(alloc, mask, &value, if_false)
     }
 
@@ -52,9 +61,7 @@ impl<T: ArrowPrimitive + ChooseLanes> WordKernel for PrimitiveArray<T> {
         if_true: &Self,
         if_false: &Self,
     ) -> PolarsResult<Self> {
-        let Some(value) = if_false.get(0) else {
-            unreachable!()
-        };
+        let value = only_value!(if_false);
         Self::if_then_else_broadcast_false(alloc, mask, if_true, &value)
     }
 
@@ -64,12 +71,7 @@ impl<T: ArrowPrimitive + ChooseLanes> WordKernel for PrimitiveArray<T> {
         if_true: &Self,
         if_false: &Self,
     ) -> PolarsResult<Self> {
-        let Some(first) = if_true.get(0) else {
-            unreachable!()
-        };
-        let Some(second) = if_false.get(0) else {
-            unreachable!()
-        };
+        let (first, second) = (only_value!(if_true), only_value!(if_false));
         Self::if_then_else_broadcast_both(alloc, T::column_dtype(), mask, &first, &second)
     }
 
@@ -79,6 +81,7 @@ impl<T: ArrowPrimitive + ChooseLanes> WordKernel for PrimitiveArray<T> {
     }
 }
 
+#[tactic(auto, using(crate::proofs::Validities::sides))]
 impl WordKernel for BooleanArray {
     fn choose_columns(
         alloc: Global,
@@ -95,9 +98,7 @@ impl WordKernel for BooleanArray {
         if_true: &Self,
         if_false: &Self,
     ) -> PolarsResult<Self> {
-        let Some(value) = if_true.get(0) else {
-            unreachable!()
-        };
+        let value = only_value!(if_true);
         BooleanArray::if_then_else_broadcast_true(alloc, mask, &value, if_false)
     }
 
@@ -107,9 +108,7 @@ impl WordKernel for BooleanArray {
         if_true: &Self,
         if_false: &Self,
     ) -> PolarsResult<Self> {
-        let Some(value) = if_false.get(0) else {
-            unreachable!()
-        };
+        let value = only_value!(if_false);
         BooleanArray::if_then_else_broadcast_false(alloc, mask, if_true, &value)
     }
 
@@ -119,12 +118,7 @@ impl WordKernel for BooleanArray {
         if_true: &Self,
         if_false: &Self,
     ) -> PolarsResult<Self> {
-        let Some(first) = if_true.get(0) else {
-            unreachable!()
-        };
-        let Some(second) = if_false.get(0) else {
-            unreachable!()
-        };
+        let (first, second) = (only_value!(if_true), only_value!(if_false));
         let dtype = ArrowDataType::Boolean;
         BooleanArray::if_then_else_broadcast_both(alloc, dtype, mask, &first, &second)
     }
@@ -136,6 +130,7 @@ impl WordKernel for BooleanArray {
 }
 
 /// The data buffers of a result are those of its columns, and those of its rows as scalars.
+#[tactic(auto, using(crate::proofs::Validities::sides))]
 impl WordKernel for BinaryViewArray {
     fn choose_columns(
         alloc: Global,
@@ -189,6 +184,7 @@ impl WordKernel for BinaryViewArray {
     }
 }
 
+#[tactic(auto, using(crate::proofs::WordKernels::word_texts))]
 impl WordKernel for Utf8ViewArray {
     fn choose_columns(
         alloc: Global,

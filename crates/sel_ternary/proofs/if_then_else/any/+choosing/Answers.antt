@@ -1,23 +1,19 @@
-use Rattle.std.proofs.Common.{◌≡◌, ◌∙◌, ◌<◌, ◌+◌, ◌++◌, ◌∷◌, [], All, ap, sym, subst, map, length, get_or, take, replicate, arith, rules, true, None}
-use Rattle.std.proofs.lemmas.List.{length-map, take_all, take_more, map-append}
+use Rattle.sel_ternary.proofs.Common.{◌≡◌, ◌∙◌, ◌<◌, ◌+◌, ◌++◌, ◌∷◌, [], All, ap, sym, subst, map, length, get_or, take, replicate, arith, rules, true, None}
+use Rattle.sel_ternary.proofs.Common.{length-map, take_all, err_from_is_err_and, rows, type_of, well_formed, of_null, of_struct, shape_list, Null, length-rows}
+use Rattle.sel_ternary.proofs.Common.{field, part_at, IsLimitOrMemory, ExceedsNone, exceeded_taken, refused_more, size_of, chosen_rows}
+use Rattle.std.proofs.lemmas.List.{take_more, map-append}
 use Rattle.std.proofs.lemmas.List.Elements.{All-push}
-use Rattle.std.proofs.lemmas.Result.{err_from_is_err_and}
-use Rattle.sel_arrow.specs.Rows.{rows, row_count, type_of, buffers_held, well_formed, IsField}
-use Rattle.sel_arrow.specs.Shape.{of_null, of_struct, shapes_of, shape_list}
-use Rattle.sel_arrow.specs.Value.{Null}
-use Rattle.sel_arrow.proofs.NestedRows.{length-rows}
+use Rattle.sel_arrow.specs.Rows.{row_count, IsField}
+use Rattle.sel_arrow.specs.Shape.{shapes_of}
 use Rattle.sel_arrow.proofs.Trees.{rows-Struct, fields_make}
 use Rattle.sel_arrow.proofs.Types.{type_of-Struct}
-use Rattle.sel_gather.specs.Children.{field, part_at}
-use Rattle.sel_gather.specs.Need.{IsLimitOrMemory, ExceedsNone, exceeded_taken}
 use Rattle.sel_gather.specs.Steps.{parts_of}
-use Rattle.sel_gather.proofs.Below.{listed_shapes, refused_more, past_at, parts_more}
-use Rattle.sel_gather.proofs.Depths.{size_of}
+use Rattle.sel_gather.proofs.Below.{listed_shapes, past_at, parts_more}
 use Rattle.sel_gather.proofs.Rebuilt.{IsTuple, tuples_rebuilt}
 use Rattle.sel_gather.proofs.TupleRows.{field_type}
 use Rattle.sel_gather.proofs.Within.{fields_pass, one_more_passes}
-use Rattle.sel_ternary.specs.Chosen.{chosen_rows}
-use Rattle.sel_ternary.proofs.StructChoices.{bare_count, same_shapes, field_size, chosen_count, chosen_valid, chosen_tuples, first_formed, second_formed, copies_alike, copy_true_side, copy_false_side, copies_chosen, copies_pass, copies_refused}
+use Rattle.sel_ternary.proofs.StructChoices.{bare_count, same_shapes, field_size, chosen_count, chosen_valid, chosen_tuples, first_formed, second_formed}
+use Rattle.sel_ternary.proofs.StructChoices.{copy_of, copies_alike, copy_true_side, copy_false_side, copies_chosen, copies_pass, copies_refused}
 use Rattle.sel_ternary.proofs.if_then_else.any.+choosing.Goals as goal
 
 -- ---- the fields, one by one
@@ -115,87 +111,45 @@ struct_choice-field_choices-requires t c =
 
 pub field_choice-try_clone-requires : goal.field_choice-try_clone-requires
 field_choice-try_clone-requires t c =
-    let first = c.args.if_true.now.column in
-    let second = c.args.if_false.now.column in
-    let at_first = c.field_of.ensures ∙ ap (field c.args.j) c.as_column.ensures.column in
-    ap well_formed at_first ∙ first_formed first second c.args.true_column c.args.false_column c.args.mask.now.bits c.requires.true_bare c.requires.false_bare c.requires.alike c.requires.true_side c.requires.false_side c.args.j c.requires.inside c.args.if_true.now.formed c.args.if_false.now.formed
+    ap well_formed (c.field_of.ensures ∙ ap (field c.args.j) c.as_column.ensures.column)
+    ∙ first_formed c.args.if_true.now.column c.args.if_false.now.column c.args.true_column c.args.false_column c.args.mask.now.bits c.requires.true_bare c.requires.false_bare c.requires.alike c.requires.true_side c.requires.false_side c.args.j c.requires.inside c.args.if_true.now.formed c.args.if_false.now.formed
 
 pub field_choice-try_clone-requires-2 : goal.field_choice-try_clone-requires-2
 field_choice-try_clone-requires-2 t c =
-    let first = c.args.if_true.now.column in
-    let second = c.args.if_false.now.column in
-    let at_second = c.field_of-2.ensures ∙ ap (field c.args.j) c.as_column-2.ensures.column in
-    ap well_formed at_second ∙ second_formed first second c.args.true_column c.args.false_column c.args.mask.now.bits c.requires.true_bare c.requires.false_bare c.requires.alike c.requires.true_side c.requires.false_side c.args.j c.requires.inside c.args.if_true.now.formed c.args.if_false.now.formed
+    ap well_formed (c.field_of-2.ensures ∙ ap (field c.args.j) c.as_column-2.ensures.column)
+    ∙ second_formed c.args.if_true.now.column c.args.if_false.now.column c.args.true_column c.args.false_column c.args.mask.now.bits c.requires.true_bare c.requires.false_bare c.requires.alike c.requires.true_side c.requires.false_side c.args.j c.requires.inside c.args.if_true.now.formed c.args.if_false.now.formed
 
 pub field_choice-choice-requires : goal.field_choice-choice-requires
 field_choice-choice-requires t c =
-    let first = c.args.if_true.now.column in
-    let second = c.args.if_false.now.column in
-    let at_first = c.field_of.ensures ∙ ap (field c.args.j) c.as_column.ensures.column in
-    let at_second = c.field_of-2.ensures ∙ ap (field c.args.j) c.as_column-2.ensures.column in
-    let a = c.in_ok-column.column in
-    let b = c.in_ok-column-2.column in
-    let first_rows = c.in_ok-column.ensures.rows ∙ ap rows at_first in
-    let second_rows = c.in_ok-column-2.ensures.rows ∙ ap rows at_second in
-    let first_type = c.in_ok-column.ensures.dtype ∙ ap type_of at_first in
-    let second_type = c.in_ok-column-2.ensures.dtype ∙ ap type_of at_second in
-    let first_held = c.in_ok-column.ensures.buffers ∙ ap buffers_held at_first in
-    let second_held = c.in_ok-column-2.ensures.buffers ∙ ap buffers_held at_second in
-    let smaller = field_size first c.args.j c.requires.true_bare c.requires.inside in
-    let size = ap size_of first_type in (
-      omega (arith, c.decreases, smaller, size),
-      (
-        copies_alike first second c.args.true_column c.args.false_column c.args.mask.now.bits c.requires.true_bare c.requires.false_bare c.requires.alike c.requires.true_side c.requires.false_side c.args.j c.requires.inside c.args.if_true.now.formed c.args.if_false.now.formed a b first_rows second_rows first_type second_type first_held second_held,
-        (
-          copy_true_side first second c.args.true_column c.args.false_column c.args.mask.now.bits c.requires.true_bare c.requires.false_bare c.requires.alike c.requires.true_side c.requires.false_side c.args.j c.requires.inside c.args.if_true.now.formed c.args.if_false.now.formed a b first_rows second_rows first_type second_type first_held second_held,
-          (copy_false_side first second c.args.true_column c.args.false_column c.args.mask.now.bits c.requires.true_bare c.requires.false_bare c.requires.alike c.requires.true_side c.requires.false_side c.args.j c.requires.inside c.args.if_true.now.formed c.args.if_false.now.formed a b first_rows second_rows first_type second_type first_held second_held, c.requires.few),
-        ),
-      ),
+    let first = copy_of c.in_ok-column.column _ (field c.args.j c.args.if_true.now.column) c.in_ok-column.ensures.rows c.in_ok-column.ensures.dtype c.in_ok-column.ensures.buffers (c.field_of.ensures ∙ ap (field c.args.j) c.as_column.ensures.column) in
+    let second = copy_of c.in_ok-column-2.column _ (field c.args.j c.args.if_false.now.column) c.in_ok-column-2.ensures.rows c.in_ok-column-2.ensures.dtype c.in_ok-column-2.ensures.buffers (c.field_of-2.ensures ∙ ap (field c.args.j) c.as_column-2.ensures.column) in
+    let smaller = field_size c.args.if_true.now.column c.args.j c.requires.true_bare c.requires.inside in (
+      omega (arith, c.decreases, smaller, ap size_of first.same_type),
+      (copies_alike c.args.if_true.now.column c.args.if_false.now.column c.args.true_column c.args.false_column c.args.mask.now.bits c.requires.true_bare c.requires.false_bare c.requires.alike c.requires.true_side c.requires.false_side c.args.j c.requires.inside c.args.if_true.now.formed c.args.if_false.now.formed _ _ first second, (copy_true_side c.args.if_true.now.column c.args.if_false.now.column c.args.true_column c.args.false_column c.args.mask.now.bits c.requires.true_bare c.requires.false_bare c.requires.alike c.requires.true_side c.requires.false_side c.args.j c.requires.inside c.args.if_true.now.formed c.args.if_false.now.formed _ _ first second, (copy_false_side c.args.if_true.now.column c.args.if_false.now.column c.args.true_column c.args.false_column c.args.mask.now.bits c.requires.true_bare c.requires.false_bare c.requires.alike c.requires.true_side c.requires.false_side c.args.j c.requires.inside c.args.if_true.now.formed c.args.if_false.now.formed _ _ first second, c.requires.few))),
     )
 
 pub field_choice-returns-in_err-column-3 : goal.field_choice-returns-in_err-column-3
 field_choice-returns-in_err-column-3 t c =
-    let first = c.args.if_true.now.column in
-    let second = c.args.if_false.now.column in
-    let at_first = c.field_of.ensures ∙ ap (field c.args.j) c.as_column.ensures.column in
-    let at_second = c.field_of-2.ensures ∙ ap (field c.args.j) c.as_column-2.ensures.column in
-    let a = c.in_ok-column.column in
-    let b = c.in_ok-column-2.column in
-    let first_rows = c.in_ok-column.ensures.rows ∙ ap rows at_first in
-    let second_rows = c.in_ok-column-2.ensures.rows ∙ ap rows at_second in
-    let first_type = c.in_ok-column.ensures.dtype ∙ ap type_of at_first in
-    let second_type = c.in_ok-column-2.ensures.dtype ∙ ap type_of at_second in
-    let first_held = c.in_ok-column.ensures.buffers ∙ ap buffers_held at_first in
-    let second_held = c.in_ok-column-2.ensures.buffers ∙ ap buffers_held at_second in
+    let first = copy_of c.in_ok-column.column _ (field c.args.j c.args.if_true.now.column) c.in_ok-column.ensures.rows c.in_ok-column.ensures.dtype c.in_ok-column.ensures.buffers (c.field_of.ensures ∙ ap (field c.args.j) c.as_column.ensures.column) in
+    let second = copy_of c.in_ok-column-2.column _ (field c.args.j c.args.if_false.now.column) c.in_ok-column-2.ensures.rows c.in_ok-column-2.ensures.dtype c.in_ok-column-2.ensures.buffers (c.field_of-2.ensures ∙ ap (field c.args.j) c.as_column-2.ensures.column) in
+    let p = err_from_is_err_and c.from_residual-in_err-column-3.result c.from_residual-in_err-column-3.ensures.1 in
     record {
       rows = search rules;
       dtype = search rules;
       formed = search rules;
       within = search rules;
-      refusal =
-          let p = err_from_is_err_and c.from_residual-in_err-column-3.result c.from_residual-in_err-column-3.ensures.1 in
-          rw (p.1, p.2) (copies_refused first second c.args.true_column c.args.false_column c.args.mask.now.bits c.requires.true_bare c.requires.false_bare c.requires.alike c.requires.true_side c.requires.false_side c.args.j c.requires.inside c.args.if_true.now.formed c.args.if_false.now.formed a b first_rows second_rows first_type second_type first_held second_held c.in_err-column-3.field-0.0 c.in_err-column-3.ensures.refusal);
+      refusal = rw (p.1, p.2) (copies_refused c.args.if_true.now.column c.args.if_false.now.column c.args.true_column c.args.false_column c.args.mask.now.bits c.requires.true_bare c.requires.false_bare c.requires.alike c.requires.true_side c.requires.false_side c.args.j c.requires.inside c.args.if_true.now.formed c.args.if_false.now.formed _ _ first second c.in_err-column-3.field-0.0 c.in_err-column-3.ensures.refusal);
     }
 
 pub field_choice-returns : goal.field_choice-returns
 field_choice-returns t c =
-    let first = c.args.if_true.now.column in
-    let second = c.args.if_false.now.column in
-    let at_first = c.field_of.ensures ∙ ap (field c.args.j) c.as_column.ensures.column in
-    let at_second = c.field_of-2.ensures ∙ ap (field c.args.j) c.as_column-2.ensures.column in
-    let a = c.in_ok-column.column in
-    let b = c.in_ok-column-2.column in
-    let first_rows = c.in_ok-column.ensures.rows ∙ ap rows at_first in
-    let second_rows = c.in_ok-column-2.ensures.rows ∙ ap rows at_second in
-    let first_type = c.in_ok-column.ensures.dtype ∙ ap type_of at_first in
-    let second_type = c.in_ok-column-2.ensures.dtype ∙ ap type_of at_second in
-    let first_held = c.in_ok-column.ensures.buffers ∙ ap buffers_held at_first in
-    let second_held = c.in_ok-column-2.ensures.buffers ∙ ap buffers_held at_second in
+    let first = copy_of c.in_ok-column.column _ (field c.args.j c.args.if_true.now.column) c.in_ok-column.ensures.rows c.in_ok-column.ensures.dtype c.in_ok-column.ensures.buffers (c.field_of.ensures ∙ ap (field c.args.j) c.as_column.ensures.column) in
+    let second = copy_of c.in_ok-column-2.column _ (field c.args.j c.args.if_false.now.column) c.in_ok-column-2.ensures.rows c.in_ok-column-2.ensures.dtype c.in_ok-column-2.ensures.buffers (c.field_of-2.ensures ∙ ap (field c.args.j) c.as_column-2.ensures.column) in
     record {
-      rows = c.in_ok-column-3.ensures.rows ∙ copies_chosen first second c.args.true_column c.args.false_column c.args.mask.now.bits c.requires.true_bare c.requires.false_bare c.requires.alike c.requires.true_side c.requires.false_side c.args.j c.requires.inside c.args.if_true.now.formed c.args.if_false.now.formed a b first_rows second_rows first_type second_type first_held second_held;
-      dtype = c.in_ok-column-3.ensures.dtype ∙ first_type;
+      rows = c.in_ok-column-3.ensures.rows ∙ copies_chosen c.args.if_true.now.column c.args.if_false.now.column c.args.true_column c.args.false_column c.args.mask.now.bits c.requires.true_bare c.requires.false_bare c.requires.alike c.requires.true_side c.requires.false_side c.args.j c.requires.inside c.args.if_true.now.formed c.args.if_false.now.formed _ _ first second;
+      dtype = c.in_ok-column-3.ensures.dtype ∙ first.same_type;
       formed = c.in_ok-column-3.field-0.formed;
-      within = copies_pass first second c.args.true_column c.args.false_column c.args.mask.now.bits c.requires.true_bare c.requires.false_bare c.requires.alike c.requires.true_side c.requires.false_side c.args.j c.requires.inside c.args.if_true.now.formed c.args.if_false.now.formed a b first_rows second_rows first_type second_type first_held second_held c.in_ok-column-3.ensures.within;
+      within = copies_pass c.args.if_true.now.column c.args.if_false.now.column c.args.true_column c.args.false_column c.args.mask.now.bits c.requires.true_bare c.requires.false_bare c.requires.alike c.requires.true_side c.requires.false_side c.args.j c.requires.inside c.args.if_true.now.formed c.args.if_false.now.formed _ _ first second c.in_ok-column-3.ensures.within;
       refusal = search rules;
     }
 

@@ -1,12 +1,8 @@
 -- Each recursive call has a smaller type; the fields so far are chosen.
-use Rattle.std.proofs.Common.{◌≡◌, ℕ, ◌+◌, ◌*◌, ◌<◌, [], ◌∷◌, All, length, map, take, get_or}
-use Rattle.sel_arrow.specs.Rows.{rows, type_of, IsField}
-use Rattle.sel_arrow.specs.Shape.{of_null}
-use Rattle.sel_gather.specs.Children.{field, part_at}
-use Rattle.sel_gather.specs.Need.{ExceedsNone, exceeded_taken}
+use Rattle.sel_ternary.proofs.Common.{◌≡◌, ℕ, ◌+◌, ◌*◌, ◌<◌, [], ◌∷◌, All, length, map, take, get_or, rows, type_of, of_null, field, part_at, ExceedsNone}
+use Rattle.sel_ternary.proofs.Common.{exceeded_taken, size_of, chosen_rows}
+use Rattle.sel_arrow.specs.Rows.{IsField}
 use Rattle.sel_gather.specs.Steps.{parts_of}
-use Rattle.sel_gather.proofs.Depths.{size_of}
-use Rattle.sel_ternary.specs.Chosen.{chosen_rows}
 use Rattle.sel_ternary.proofs.if_then_else.any.+choosing.Given as goal
 
 abbrev pub decreases-choice : goal.decreases-choice

@@ -1,4 +1,4 @@
-use Rattle.std.proofs.Common.{rules}
+use Rattle.sel_ternary.proofs.Common.{rules}
 use Rattle.sel_gather.proofs.FieldsOf.{field_found, field_missing}
 use Rattle.sel_ternary.proofs.if_then_else.any.field_of.Goals as goal
 

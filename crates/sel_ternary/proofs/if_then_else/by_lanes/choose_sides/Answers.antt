@@ -1,8 +1,4 @@
-use Rattle.std.proofs.Common.{◌≡◌, ◌∙◌, length, take, drop, sym, ap, arith, []}
-use Rattle.sel_bits.specs.Reading.{WordReading, reached}
-use Rattle.sel_bits.specs.Words.{bits}
-use Rattle.sel_bits.proofs.WordsOf.{length_part}
-use Rattle.sel_ternary.specs.Choose.{choose}
+use Rattle.sel_ternary.proofs.Common.{◌≡◌, ◌∙◌, length, take, drop, sym, ap, arith, [], WordReading, reached, bits, length_part, choose}
 use Rattle.sel_ternary.proofs.Blocks.{word_bits, word_end, word_within}
 use Rattle.sel_ternary.proofs.Chosen.{AsLong}
 use Rattle.sel_ternary.proofs.Lanes.{filled_length, filled_next}
@@ -43,5 +39,5 @@ loop-word-preserved g c =
     record {
       source = ap (λ (r : WordReading). r.source) next.after ∙ was.source;
       here = word_end n mask long.mask c.loop-word.words at was.source was.here next.some count next.count ∙ ap reached (sym next.after);
-      filled = filled_next n mask.bits ts fs long [] _ at c.loop-word.out was.filled count c.push_word.new.out _ le c.push_word.ensures.items c.push_word.ensures.capacity (λ i. choose (marks i) (c.part-trues.ensures i) (c.part-falses.ensures i));
+      filled = filled_next n mask.bits ts fs long [] _ at c.loop-word.out was.filled count c.push_word.new.out _ c.push_word.ensures.items c.push_word.ensures.capacity (λ i. choose (marks i) (c.part-trues.ensures i) (c.part-falses.ensures i));
     }

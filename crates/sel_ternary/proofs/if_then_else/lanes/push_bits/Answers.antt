@@ -1,8 +1,5 @@
-use Rattle.std.proofs.Common.{◌≡◌, length, refl, sym, arith}
-use Rattle.std.specs.Prelude.{if◌then◌else◌}
-use Rattle.sel_bits.specs.Words.{bits, is_set}
-use Rattle.sel_bits.proofs.Packs.{length_bits}
-use Rattle.sel_ternary.proofs.Chosen.{AsLong, bit_takes_first, bit_takes_second, row_block}
+use Rattle.sel_ternary.proofs.Common.{◌≡◌, length, refl, sym, arith, if◌then◌else◌, bits, is_set}
+use Rattle.sel_ternary.proofs.Chosen.{bit_takes_first, bit_takes_second, row_block, word_long}
 use Rattle.sel_ternary.proofs.Lanes.{filled_all, filled_length, filled_next, filled_none}
 use Rattle.sel_ternary.proofs.if_then_else.lanes.push_bits.Goals as goal
 use Rattle.sel_ternary.proofs.if_then_else.lanes.push_bits.Goals.{then-mask-i-eq1, else-mask-i-eq1}
@@ -12,10 +9,7 @@ loop-i-init g c = filled_none (bits (length c.args.if_true.now) c.args.mask) c.a
 
 pub push_reserved-requires : goal.push_reserved-requires
 push_reserved-requires g c =
-    let ts = c.args.if_true.now in
-    let ms = bits (length ts) c.args.mask in
-    let long : AsLong (length ts) ms ts c.args.if_false.now = record { mask = length_bits (length ts) c.args.mask; trues = refl; falses = c.requires.alike } in
-    let size = filled_length (length ts) ms ts c.args.if_false.now long c.args.out.now.items _ c.loop-i.i c.loop-i.out c.loop-i.invariant (omega (arith, c.loop-i-test.true)) in
+    let size = filled_length _ _ _ _ (word_long c.args.mask c.args.if_true.now c.args.if_false.now c.requires.alike) c.args.out.now.items _ c.loop-i.i c.loop-i.out c.loop-i.invariant (omega (arith, c.loop-i-test.true)) in
     omega (arith, size, c.loop-i.invariant.room, c.loop-i-test.true, c.requires.room, c.loop-i.out.ok, c.args.out.now.ok)
 
 pub loop-i-preserved : goal.loop-i-preserved
@@ -25,8 +19,6 @@ loop-i-preserved g c =
     let mask = c.args.mask in
     let i = c.loop-i.i in
     let x = c.if-mask-i-eq1.push_reserved in
-    let ms = bits (length ts) mask in
-    let long : AsLong (length ts) ms ts fs = record { mask = length_bits (length ts) mask; trues = refl; falses = c.requires.alike } in
     let x_is : x ≡ (if is_set mask i then c.index-if_true-i.result else c.index-if_false-i.result) =
     elim c.if-mask-i-eq1.branch [
       | then-mask-i-eq1 w ↦ bit_takes_first mask i _ _ x w.if-mask-i-eq1.true w.push_reserved-is
@@ -34,12 +26,8 @@ loop-i-preserved g c =
     ]
     in
     let block = row_block (length ts) mask ts fs i _ _ x refl c.requires.alike c.loop-i-test.true c.index-if_true-i.is c.index-if_false-i.is x_is in
-    filled_next (length ts) ms ts fs long c.args.out.now.items _ i c.loop-i.out c.loop-i.invariant 1 c.push_reserved.new.self _ (omega (arith, c.loop-i-test.true))
-    c.push_reserved.ensures.items c.push_reserved.ensures.capacity (sym block)
+    filled_next _ _ _ _ (word_long mask ts fs c.requires.alike) c.args.out.now.items _ i c.loop-i.out c.loop-i.invariant 1 c.push_reserved.new.self _ c.push_reserved.ensures.items c.push_reserved.ensures.capacity (sym block)
 
 pub returns-clause-items : goal.returns-clause-items
 returns-clause-items g c =
-    let ts = c.args.if_true.now in
-    let ms = bits (length ts) c.args.mask in
-    let long : AsLong (length ts) ms ts c.args.if_false.now = record { mask = length_bits (length ts) c.args.mask; trues = refl; falses = c.requires.alike } in
-    filled_all (length ts) ms ts c.args.if_false.now long c.args.out.now.items _ c.loop-i.i c.loop-i.out c.loop-i.invariant (omega (arith, c.loop-i-test.false, c.loop-i.auto.i-end))
+    filled_all _ _ _ _ (word_long c.args.mask c.args.if_true.now c.args.if_false.now c.requires.alike) c.args.out.now.items _ c.loop-i.i c.loop-i.out c.loop-i.invariant (omega (arith, c.loop-i-test.false, c.loop-i.auto.i-end))

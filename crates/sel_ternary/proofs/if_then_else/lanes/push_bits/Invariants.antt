@@ -1,7 +1,6 @@
-use Rattle.std.proofs.Common.{length}
-use Rattle.std.specs.Vec.{vec_capacity}
-use Rattle.sel_bits.specs.Words.{bits}
-use Rattle.sel_ternary.proofs.Lanes.{IsFilled, chosen_to}
+use Rattle.sel_ternary.proofs.Common.{length, vec_capacity, bits}
+use Rattle.sel_ternary.proofs.Lanes.{IsFilled}
+use Rattle.sel_ternary.proofs.Chosen.{chosen_to}
 use Rattle.sel_ternary.proofs.if_then_else.lanes.push_bits.Given as goal
 
 abbrev pub invariant-loop-i : goal.invariant-loop-i

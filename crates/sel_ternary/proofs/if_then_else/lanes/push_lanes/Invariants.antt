@@ -1,5 +1,4 @@
-use Rattle.std.proofs.Common.{take}
-use Rattle.std.specs.Vec.{vec_capacity}
+use Rattle.sel_ternary.proofs.Common.{take, vec_capacity}
 use Rattle.sel_ternary.proofs.Lanes.{IsFilled}
 use Rattle.sel_ternary.proofs.if_then_else.lanes.push_lanes.Given as goal
 

@@ -1,5 +1,4 @@
-use Rattle.std.proofs.Common.{◌≡◌, ℕ, ◌<◌, pos, get_or, w32}
-use Rattle.std.specs.Int.{cast_signed, cast_unsigned}
+use Rattle.sel_ternary.proofs.Common.{◌≡◌, ℕ, ◌<◌, pos, get_or, w32, cast_signed, cast_unsigned}
 use Rattle.sel_ternary.proofs.if_then_else.lanes.show_range_32.Given as goal
 
 abbrev pub invariant-loop-i : goal.invariant-loop-i

@@ -1,6 +1,4 @@
-use Rattle.std.proofs.Common.{◌≡◌, pos, arith, w64}
-use Rattle.std.specs.Int.{cast_signed, cast_unsigned}
-use Rattle.std.proofs.lemmas.Simd.{Each1-from_get_or}
+use Rattle.sel_ternary.proofs.Common.{◌≡◌, pos, arith, w64, cast_signed, cast_unsigned, Each1-from_get_or}
 use Rattle.sel_ternary.proofs.if_then_else.lanes.show_range_64.Goals as goal
 
 pub returns : goal.returns

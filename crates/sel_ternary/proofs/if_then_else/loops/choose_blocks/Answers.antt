@@ -1,4 +1,4 @@
-use Rattle.std.proofs.Common.{◌≡◌, ◌+◌, ◌-◌, length, take, drop, arith}
+use Rattle.sel_ternary.proofs.Common.{◌≡◌, ◌+◌, ◌-◌, length, take, drop, arith}
 use Rattle.std.proofs.lemmas.List.{length-take, length-drop}
 use Rattle.sel_ternary.proofs.Blocks.{begun_next, begun_within}
 use Rattle.sel_ternary.proofs.Chosen.{AsLong}

@@ -1,4 +1,4 @@
-use Rattle.std.proofs.Common.{◌-◌, length}
+use Rattle.sel_ternary.proofs.Common.{◌-◌, length}
 use Rattle.sel_ternary.proofs.Blocks.{IsBegun}
 use Rattle.sel_ternary.proofs.if_then_else.loops.choose_blocks.Given as goal
 

@@ -1,7 +1,4 @@
-use Rattle.std.proofs.Common.{◌≡◌, length, replicate, refl, arith}
-use Rattle.std.proofs.lemmas.List.{length-replicate}
-use Rattle.std.specs.Prelude.{if◌then◌else◌}
-use Rattle.sel_bits.specs.Words.{is_set}
+use Rattle.sel_ternary.proofs.Common.{◌≡◌, length, replicate, refl, arith, length-replicate, if◌then◌else◌, is_set}
 use Rattle.sel_ternary.proofs.Chosen.{bit_takes_first, bit_takes_second, all_rows_of_two, chosen_row, repeated_at}
 use Rattle.sel_ternary.proofs.if_then_else.scalar.if_then_else_broadcast_both_scalar_rest.Goals as goal
 use Rattle.sel_ternary.proofs.if_then_else.scalar.if_then_else_broadcast_both_scalar_rest.Goals.{then-mask-i-eq1, else-mask-i-eq1}

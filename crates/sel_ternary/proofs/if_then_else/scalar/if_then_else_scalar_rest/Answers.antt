@@ -1,6 +1,4 @@
-use Rattle.std.proofs.Common.{◌≡◌, length, refl, arith}
-use Rattle.std.specs.Prelude.{if◌then◌else◌}
-use Rattle.sel_bits.specs.Words.{is_set}
+use Rattle.sel_ternary.proofs.Common.{◌≡◌, length, refl, arith, if◌then◌else◌, is_set}
 use Rattle.sel_ternary.proofs.Chosen.{bit_takes_first, bit_takes_second, all_rows, chosen_row}
 use Rattle.sel_ternary.proofs.if_then_else.scalar.if_then_else_scalar_rest.Goals as goal
 use Rattle.sel_ternary.proofs.if_then_else.scalar.if_then_else_scalar_rest.Goals.{then-mask-i-eq1, else-mask-i-eq1}

@@ -1,13 +1,9 @@
-use Rattle.std.proofs.Common.{◌≡◌, ◌∙◌, length, map, get_or, refl, arith}
-use Rattle.std.specs.Prelude.{if◌then◌else◌}
-use Rattle.std.proofs.lemmas.List.{length-map}
-use Rattle.sel_arrow.specs.declared.view.View.{View}
-use Rattle.sel_bits.specs.Words.{is_set}
-use Rattle.sel_ternary.specs.ViewSides.{raised}
+use Rattle.sel_ternary.proofs.Common.{◌≡◌, ◌∙◌, length, map, get_or, refl, arith, if◌then◌else◌, length-map, View, is_set, raised}
 use Rattle.sel_ternary.proofs.Chosen.{bit_takes_first, bit_takes_second, all_rows, chosen_mapped}
 use Rattle.sel_ternary.proofs.Placed.{far_rises, inline_stays}
 use Rattle.sel_ternary.proofs.if_then_else.view.if_then_else_view_rest.Goals as goal
-use Rattle.sel_ternary.proofs.if_then_else.view.if_then_else_view_rest.Goals.{then-mask-i-eq1, else-mask-i-eq1+then-other-le-INLINE_BYTES, else-mask-i-eq1+else-other-le-INLINE_BYTES}
+use Rattle.sel_ternary.proofs.if_then_else.view.if_then_else_view_rest.Goals.{then-mask-i-eq1, else-mask-i-eq1+then-other-le-INLINE_BYTES}
+use Rattle.sel_ternary.proofs.if_then_else.view.if_then_else_view_rest.Goals.{else-mask-i-eq1+else-other-le-INLINE_BYTES}
 
 pub loop-i-preserved : goal.loop-i-preserved
 loop-i-preserved c =

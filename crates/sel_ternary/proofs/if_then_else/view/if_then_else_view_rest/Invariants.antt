@@ -1,6 +1,4 @@
-use Rattle.std.proofs.Common.{length, map}
-use Rattle.sel_bits.specs.Words.{bits}
-use Rattle.sel_ternary.specs.ViewSides.{raised}
+use Rattle.sel_ternary.proofs.Common.{length, map, bits, raised}
 use Rattle.sel_ternary.proofs.Chosen.{IsChosen}
 use Rattle.sel_ternary.proofs.if_then_else.view.if_then_else_view_rest.Given as goal
 

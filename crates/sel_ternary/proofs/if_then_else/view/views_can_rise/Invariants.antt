@@ -1,6 +1,4 @@
-use Rattle.std.proofs.Common.{◌≡◌, true, take}
-use Rattle.std.specs.List.{list_all}
-use Rattle.sel_ternary.specs.ViewSides.{can_rise}
+use Rattle.sel_ternary.proofs.Common.{◌≡◌, true, take, list_all, can_rise}
 use Rattle.sel_ternary.proofs.if_then_else.view.views_can_rise.Given as goal
 
 abbrev pub invariant-loop-view : goal.invariant-loop-view

@@ -1,26 +1,8 @@
-use Rattle.std.proofs.Common.{◌≡◌, ◌∙◌, ◌++◌, ◌+◌, subst, length, map, ap, arith, None}
-use Rattle.std.specs.List.{list_all}
-use Rattle.std.proofs.lemmas.List.{length-append}
-use Rattle.std.proofs.lemmas.Result.{err_from_is_err_and}
-use Rattle.sel_arrow.specs.Masked.{masked}
-use Rattle.sel_arrow.specs.Views.{is_placed, view_of, view_value}
-use Rattle.sel_ternary.specs.Choose.{broadcast_false}
-use Rattle.sel_ternary.specs.Sides.{IsLimitOrMemory}
-use Rattle.sel_gather.specs.Need.{ExceedsNone}
-use Rattle.sel_ternary.specs.Validity.{chosen_validity}
-use Rattle.sel_ternary.specs.ViewSides.{scalar_buffers, ExceedsViews}
+use Rattle.sel_ternary.proofs.Common.{◌≡◌, ◌∙◌, ◌++◌, ◌+◌, subst, length, map, ap, arith, None, list_all, length-append, err_from_is_err_and, masked, is_placed}
+use Rattle.sel_ternary.proofs.Common.{view_value, broadcast_false, IsLimitOrMemory, ExceedsNone, chosen_validity, scalar_buffers, ExceedsViews}
 use Rattle.sel_ternary.proofs.JoinedViews.{or_one_placed, or_one_rows}
 use Rattle.sel_ternary.proofs.Validities.{choice_covers, length-choose_or_one, no_validity, side_covers, side_long}
 use Rattle.sel_ternary.proofs.if_then_else.view_columns.choose_bytes_false.Goals as goal
-
-pub if_then_else_validity-requires-clause-true_side : goal.if_then_else_validity-requires-clause-true_side
-if_then_else_validity-requires-clause-true_side c =
-    let a = c.args.if_true.now in
-    let ms = c.args.mask.now.bits in
-    side_covers ms a.views a.validity _ a.validity_fits (side_long (view_value a.buffers) ms a.views a.validity c.requires) c.as_ref.ensures.value
-
-pub choose_one_false-requires : goal.choose_one_false-requires
-choose_one_false-requires c = let a = c.args.if_true.now in ap length c.as_slice.ensures ∙ side_long (view_value a.buffers) c.args.mask.now.bits a.views a.validity c.requires
 
 pub invariant_of-result : goal.invariant_of-result
 invariant_of-result c =
@@ -29,15 +11,14 @@ invariant_of-result c =
     let ms = c.args.mask.now.bits in
     let p = side_long (view_value a.buffers) ms a.views a.validity c.requires in
     let x = c.new_from_bytes-view.result in
-    let is_x : x ≡ view_of bytes (length a.buffers) 0 = c.new_from_bytes-view.ensures.view ∙ ap (λ k. view_of bytes k 0) c.len-before.ensures in
     let joined : c.in_ok-buffers.buffers ≡ a.buffers ++ scalar_buffers bytes = c.in_ok-buffers.ensures.buffers ∙ (λ i. c.as_slice-2.ensures i ++ (c.deref.ensures.value ∙ c.in_ok-scalar.ensures.buffers) i) in
     let out : c.in_ok-views-2.views ≡ broadcast_false ms a.views x = c.in_ok-views-2.ensures.items ∙ c.in_ok-views.ensures.items ∙ ap (λ l. broadcast_false ms l x) c.as_slice.ensures in
     let long : length c.in_ok-views-2.views ≡ length ms = ap length out ∙ length-choose_or_one ms a.views x p in
     record {
       rows_fit = omega (arith, long, p, a.rows_fit);
       buffers_fit = omega (arith, ap length joined, length-append a.buffers (scalar_buffers bytes), c.in_ok-check_limits.ensures.buffers, c.len-before.ensures, c.count_of_scalar.ensures.count);
-      validity_fits = choice_covers ms _ None c.in_ok-validity.validity c.in_ok-views-2.views long (side_covers ms a.views a.validity _ a.validity_fits p c.as_ref.ensures.value) (no_validity (length ms)) c.in_ok-validity.ensures.value;
-      placed = ap (λ bs. list_all (is_placed bs) c.in_ok-views-2.views) joined ∙ or_one_placed a.buffers a.views a.placed bytes x is_x c.new_from_bytes-view.ensures.inline ms c.in_ok-views-2.views out;
+      validity_fits = choice_covers ms _ None c.in_ok-validity.validity c.in_ok-views-2.views long (side_covers (view_value a.buffers) ms a.views a.validity _ a.validity_fits c.requires c.as_ref.ensures.value) (no_validity (length ms)) c.in_ok-validity.ensures.value;
+      placed = ap (λ bs. list_all (is_placed bs) c.in_ok-views-2.views) joined ∙ or_one_placed a.buffers a.views a.placed bytes x _ c.new_from_bytes-view.ensures.view c.len-before.ensures c.new_from_bytes-view.ensures.inline ms c.in_ok-views-2.views out;
     }
 
 pub returns-clause-rows : goal.returns-clause-rows
@@ -45,13 +26,11 @@ returns-clause-rows c =
     let a = c.args.if_true.now in
     let bytes = c.args.if_false.now in
     let ms = c.args.mask.now.bits in
-    let p = side_long (view_value a.buffers) ms a.views a.validity c.requires in
     let x = c.new_from_bytes-view.result in
-    let is_x : x ≡ view_of bytes (length a.buffers) 0 = c.new_from_bytes-view.ensures.view ∙ ap (λ k. view_of bytes k 0) c.len-before.ensures in
     let joined : c.in_ok-buffers.buffers ≡ a.buffers ++ scalar_buffers bytes = c.in_ok-buffers.ensures.buffers ∙ (λ i. c.as_slice-2.ensures i ++ (c.deref.ensures.value ∙ c.in_ok-scalar.ensures.buffers) i) in
     let out : c.in_ok-views-2.views ≡ broadcast_false ms a.views x = c.in_ok-views-2.ensures.items ∙ c.in_ok-views.ensures.items ∙ ap (λ l. broadcast_false ms l x) c.as_slice.ensures in
     ap (λ bs. masked c.in_ok-validity.validity (map (view_value bs) c.in_ok-views-2.views)) joined
-    ∙ or_one_rows a.buffers a.views a.placed bytes x is_x c.new_from_bytes-view.ensures.inline ms c.in_ok-views-2.views a.validity c.in_ok-validity.validity out p a.validity_fits
+    ∙ or_one_rows a.buffers a.views a.placed bytes x _ c.new_from_bytes-view.ensures.view c.len-before.ensures c.new_from_bytes-view.ensures.inline ms c.in_ok-views-2.views a.validity c.in_ok-validity.validity out c.requires a.validity_fits
     (c.in_ok-validity.ensures.value ∙ ap (λ v. chosen_validity ms v None) c.as_ref.ensures.value)
 
 pub returns-clause-buffers : goal.returns-clause-buffers
@@ -63,5 +42,4 @@ returns-clause-within c = subst ExceedsNone (λ i. ExceedsViews ((c.len-before.e
 pub returns-in_err-check_limits-clause-refusal : goal.returns-in_err-check_limits-clause-refusal
 returns-in_err-check_limits-clause-refusal c =
     let p = err_from_is_err_and c.from_residual.result c.from_residual.ensures.1 in
-    let fault = c.in_err-check_limits.field-0.0 in
-    rw (p.1, p.2) (subst (λ past. IsLimitOrMemory past fault) (λ i. ExceedsViews ((c.len-before.ensures i) + (c.count_of_scalar.ensures.count i)) (length c.args.if_false.now)) c.in_err-check_limits.ensures.refusal)
+    rw (p.1, p.2) (subst (λ past. IsLimitOrMemory past c.in_err-check_limits.field-0.0) (λ i. ExceedsViews ((c.len-before.ensures i) + (c.count_of_scalar.ensures.count i)) (length c.args.if_false.now)) c.in_err-check_limits.ensures.refusal)

@@ -1,40 +1,12 @@
-use Rattle.std.proofs.Common.{◌≡◌, ◌∙◌, ◌+◌, ◌≤◌, ◌++◌, length, map, ap, arith}
-use Rattle.std.specs.List.{list_all}
-use Rattle.std.proofs.lemmas.List.{length-append, length-map}
+use Rattle.sel_ternary.proofs.Common.{◌≡◌, ◌∙◌, ◌+◌, ◌≤◌, ◌++◌, length, map, ap, arith, list_all, length-append, length-map, masked, is_placed, view_value}
+use Rattle.sel_ternary.proofs.Common.{View, choose, chosen_validity, raised}
 use Rattle.sel_bits.specs.Limits.{max_buffers}
-use Rattle.sel_arrow.specs.Masked.{masked}
-use Rattle.sel_arrow.specs.Views.{is_placed, view_value}
-use Rattle.sel_arrow.specs.declared.view.View.{View}
-use Rattle.sel_ternary.specs.Choose.{choose}
-use Rattle.sel_ternary.specs.Validity.{chosen_validity}
-use Rattle.sel_ternary.specs.ViewSides.{all_rise, raised}
+use Rattle.sel_ternary.specs.ViewSides.{all_rise}
 use Rattle.sel_ternary.proofs.Chosen.{length-choose}
 use Rattle.sel_ternary.proofs.JoinedViews.{both_placed, both_rows}
 use Rattle.sel_ternary.proofs.Placed.{views_rise}
 use Rattle.sel_ternary.proofs.Validities.{choice_covers, side_covers, side_long}
 use Rattle.sel_ternary.proofs.if_then_else.view_columns.choose_columns.Goals as goal
-
-pub if_then_else_validity-requires-clause-true_side : goal.if_then_else_validity-requires-clause-true_side
-if_then_else_validity-requires-clause-true_side c =
-    let a = c.args.if_true.now in
-    let ms = c.args.mask.now.bits in
-    side_covers ms a.views a.validity _ a.validity_fits (side_long (view_value a.buffers) ms a.views a.validity c.requires.true_side) c.as_ref.ensures.value
-
-pub if_then_else_validity-requires-clause-false_side : goal.if_then_else_validity-requires-clause-false_side
-if_then_else_validity-requires-clause-false_side c =
-    let b = c.args.if_false.now in
-    let ms = c.args.mask.now.bits in
-    side_covers ms b.views b.validity _ b.validity_fits (side_long (view_value b.buffers) ms b.views b.validity c.requires.false_side) c.as_ref-2.ensures.value
-
-pub choose_views-requires-clause-true_side : goal.choose_views-requires-clause-true_side
-choose_views-requires-clause-true_side c =
-    let a = c.args.if_true.now in
-    ap length c.as_slice-trues.ensures ∙ side_long (view_value a.buffers) c.args.mask.now.bits a.views a.validity c.requires.true_side
-
-pub choose_views-requires-clause-false_side : goal.choose_views-requires-clause-false_side
-choose_views-requires-clause-false_side c =
-    let b = c.args.if_false.now in
-    ap length c.as_slice-falses.ensures ∙ side_long (view_value b.buffers) c.args.mask.now.bits b.views b.validity c.requires.false_side
 
 pub choose_views-requires-clause-rises : goal.choose_views-requires-clause-rises
 choose_views-requires-clause-rises c =
@@ -57,7 +29,7 @@ invariant_of-result c =
       rows_fit = omega (arith, long, p, a.rows_fit);
       buffers_fit = omega (arith, ap length joined, length-append a.buffers b.buffers, c.in_ok-check_limits.ensures.buffers, c.len-before.ensures, c.len.ensures);
       validity_fits = choice_covers ms _ _ c.in_ok-validity.validity c.in_ok-views-2.views long
-          (side_covers ms a.views a.validity _ a.validity_fits p c.as_ref.ensures.value) (side_covers ms b.views b.validity _ b.validity_fits q c.as_ref-2.ensures.value) c.in_ok-validity.ensures.value;
+          (side_covers (view_value a.buffers) ms a.views a.validity _ a.validity_fits c.requires.true_side c.as_ref.ensures.value) (side_covers (view_value b.buffers) ms b.views b.validity _ b.validity_fits c.requires.false_side c.as_ref-2.ensures.value) c.in_ok-validity.ensures.value;
       placed = ap (λ bs. list_all (is_placed bs) c.in_ok-views-2.views) joined ∙ both_placed a.buffers b.buffers a.views b.views a.placed b.placed ms c.in_ok-views-2.views out;
     }
 
@@ -66,11 +38,9 @@ returns-clause-rows c =
     let a = c.args.if_true.now in
     let b = c.args.if_false.now in
     let ms = c.args.mask.now.bits in
-    let p = side_long (view_value a.buffers) ms a.views a.validity c.requires.true_side in
-    let q = side_long (view_value b.buffers) ms b.views b.validity c.requires.false_side in
     let joined : c.in_ok-buffers.buffers ≡ a.buffers ++ b.buffers = c.in_ok-buffers.ensures.buffers ∙ (λ i. c.as_slice.ensures i ++ c.as_slice-2.ensures i) in
     let out : c.in_ok-views-2.views ≡ choose ms a.views (map (λ (view : View). raised view (length a.buffers)) b.views) =
     c.in_ok-views-2.ensures.items ∙ c.in_ok-views.ensures.items ∙ (λ i. choose ms (c.as_slice-trues.ensures i) (map (λ (view : View). raised view (c.len-before.ensures i)) (c.as_slice-falses.ensures i))) in
     ap (λ bs. masked c.in_ok-validity.validity (map (view_value bs) c.in_ok-views-2.views)) joined
-    ∙ both_rows a.buffers b.buffers a.views b.views a.placed b.placed ms c.in_ok-views-2.views out a.validity b.validity c.in_ok-validity.validity p q a.validity_fits b.validity_fits
+    ∙ both_rows a.buffers b.buffers a.views b.views a.placed b.placed ms c.in_ok-views-2.views out a.validity b.validity c.in_ok-validity.validity c.requires.true_side c.requires.false_side a.validity_fits b.validity_fits
     (c.in_ok-validity.ensures.value ∙ (λ i. chosen_validity ms (c.as_ref.ensures.value i) (c.as_ref-2.ensures.value i)))

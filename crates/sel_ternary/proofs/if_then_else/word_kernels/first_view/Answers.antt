@@ -1,5 +1,4 @@
-use Rattle.std.proofs.Common.{arith, length, ap}
-use Rattle.sel_arrow.specs.declared.view.View.{View}
+use Rattle.sel_ternary.proofs.Common.{arith, length, ap, View}
 use Rattle.sel_arrow.proofs.ViewRows.{length-view_rows}
 use Rattle.sel_ternary.proofs.WordKernels.{first_viewed}
 use Rattle.sel_ternary.proofs.if_then_else.word_kernels.first_view.Goals as goal

@@ -1,21 +1,6 @@
-use Rattle.std.proofs.Common.{◌≡◌, ◌∙◌, length, ap, arith, refl, None}
-use Rattle.sel_arrow.specs.Value.{Truth}
-use Rattle.sel_gather.proofs.Within.{few_rows_pass}
-use Rattle.sel_ternary.proofs.Validities.{length-choose_of_two, no_validity, rows_choose_of_two}
+use Rattle.sel_ternary.proofs.Common.{refl, None, Truth}
+use Rattle.sel_ternary.proofs.Validities.{rows_choose_of_two}
 use Rattle.sel_ternary.proofs.if_then_else.boolean.BooleanArrayIfThenElseKernel.if_then_else_broadcast_both.Goals as goal
-
-pub returns-then-len-gt-MOST_ROWS-clause-refusal : goal.returns-then-len-gt-MOST_ROWS-clause-refusal
-returns-then-len-gt-MOST_ROWS-clause-refusal c = omega (arith, length-choose_of_two c.args.mask.now.bits (Truth c.args.if_true.now) (Truth c.args.if_false.now))
-
-pub invariant_of-result : goal.invariant_of-result
-invariant_of-result c =
-    let ms = c.args.mask.now.bits in
-    let long : length c.in_ok-values.values.bits ≡ length ms = ap length c.in_ok-values.ensures.bits ∙ length-choose_of_two ms c.args.if_true.now c.args.if_false.now in
-    record { rows_fit = omega (arith, long); validity_fits = no_validity _ }
 
 pub returns-clause-rows : goal.returns-clause-rows
 returns-clause-rows c = rows_choose_of_two Truth c.args.mask.now.bits c.in_ok-values.values.bits None c.args.if_true.now c.args.if_false.now c.in_ok-values.ensures.bits refl
-
-pub returns-clause-within : goal.returns-clause-within
-returns-clause-within c =
-    few_rows_pass _ (omega (arith, length-choose_of_two c.args.mask.now.bits (Truth c.args.if_true.now) (Truth c.args.if_false.now), c.len.ensures, c.if-len-gt-MOST_ROWS.false))

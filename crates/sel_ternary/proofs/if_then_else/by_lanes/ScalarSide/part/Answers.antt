@@ -1,9 +1,7 @@
-use Rattle.std.proofs.Common.{◌∙◌, ap, sym, take}
+use Rattle.sel_ternary.proofs.Common.{◌∙◌, ap, sym, take, arith, ◌+◌, ◌≤◌, length-replicate}
 use Rattle.std.proofs.lemmas.List.{take-replicate}
 use Rattle.sel_ternary.proofs.Parts.{part_of_repeated}
 use Rattle.sel_ternary.proofs.if_then_else.by_lanes.ScalarSide.part.Goals as goal
-use Rattle.std.proofs.Common.{arith, ◌+◌, ◌≤◌}
-use Rattle.std.proofs.lemmas.List.{length-replicate}
 
 pub returns : goal.returns
 returns g c =

@@ -1,16 +1,9 @@
-use Rattle.std.proofs.Common.{◌≡◌, refl, Bool, true, false, w16}
-use Rattle.std.specs.Int.{cast_signed, cast_unsigned}
-use Rattle.std.specs.Simd.Lanes.{top}
-use Rattle.sel_ternary.specs.Lanes.{all_ones}
+use Rattle.sel_ternary.proofs.Common.{refl, w16, cast_signed, cast_unsigned, top}
 use Rattle.sel_ternary.proofs.Lanes.{signed_lanes}
 use Rattle.sel_ternary.proofs.if_then_else.lanes.I16ChooseLanes.push_16.Goals as goal
 
-keeps : (b : Bool) → top 15 (cast_unsigned w16 (all_ones b)) ≡ b
-keeps true = refl
-keeps false = refl
-
 pub returns-clause-items : goal.returns-clause-items
 returns-clause-items c =
-    signed_lanes (top 15) (cast_unsigned w16) keeps c.args.mask c.set_lanes_16.result c.set_lanes_16.ensures
+    signed_lanes (top 15) (cast_unsigned w16) refl refl c.args.mask c.set_lanes_16.result c.set_lanes_16.ensures
     (cast_unsigned w16) (cast_signed w16) c.args.if_true.now c.args.if_false.now _ _ c.requires.true_side c.requires.false_side
     c.show_range_16.ensures c.show_range_16-2.ensures c.push_lanes.ensures.items

@@ -1,16 +1,9 @@
-use Rattle.std.proofs.Common.{◌≡◌, refl, Bool, true, false, w32}
-use Rattle.std.specs.Int.{cast_signed, cast_unsigned}
-use Rattle.std.specs.Simd.Lanes.{top}
-use Rattle.sel_ternary.specs.Lanes.{all_ones}
+use Rattle.sel_ternary.proofs.Common.{refl, w32, cast_signed, cast_unsigned, top}
 use Rattle.sel_ternary.proofs.Lanes.{signed_lanes}
 use Rattle.sel_ternary.proofs.if_then_else.lanes.I32ChooseLanes.push_16.Goals as goal
 
-keeps : (b : Bool) → top 31 (cast_unsigned w32 (all_ones b)) ≡ b
-keeps true = refl
-keeps false = refl
-
 pub returns-clause-items : goal.returns-clause-items
 returns-clause-items c =
-    signed_lanes (top 31) (cast_unsigned w32) keeps c.args.mask c.set_lanes_32.result c.set_lanes_32.ensures
+    signed_lanes (top 31) (cast_unsigned w32) refl refl c.args.mask c.set_lanes_32.result c.set_lanes_32.ensures
     (cast_unsigned w32) (cast_signed w32) c.args.if_true.now c.args.if_false.now _ _ c.requires.true_side c.requires.false_side
     c.show_range_32.ensures c.show_range_32-2.ensures c.push_lanes.ensures.items

@@ -1,15 +1,8 @@
-use Rattle.std.proofs.Common.{◌≡◌, refl, Bool, true, false, w64}
-use Rattle.std.specs.Int.{cast_unsigned}
-use Rattle.std.specs.Simd.Lanes.{top}
-use Rattle.sel_ternary.specs.Lanes.{all_ones}
+use Rattle.sel_ternary.proofs.Common.{refl, w64, cast_unsigned, top}
 use Rattle.sel_ternary.proofs.Lanes.{unsigned_lanes}
 use Rattle.sel_ternary.proofs.if_then_else.lanes.U64ChooseLanes.push_16.Goals as goal
 
-keeps : (b : Bool) → top 63 (cast_unsigned w64 (all_ones b)) ≡ b
-keeps true = refl
-keeps false = refl
-
 pub returns-clause-items : goal.returns-clause-items
 returns-clause-items c =
-    unsigned_lanes (top 63) (cast_unsigned w64) keeps c.args.mask c.set_lanes_64.result c.set_lanes_64.ensures
+    unsigned_lanes (top 63) (cast_unsigned w64) refl refl c.args.mask c.set_lanes_64.result c.set_lanes_64.ensures
     c.args.if_true.now c.args.if_false.now _ _ c.requires.true_side c.requires.false_side c.push_lanes.ensures.items

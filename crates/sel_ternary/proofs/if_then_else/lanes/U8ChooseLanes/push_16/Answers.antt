@@ -1,15 +1,8 @@
-use Rattle.std.proofs.Common.{◌≡◌, refl, Bool, true, false, w8}
-use Rattle.std.specs.Int.{cast_unsigned}
-use Rattle.std.specs.Simd.Lanes.{top}
-use Rattle.sel_ternary.specs.Lanes.{all_ones}
+use Rattle.sel_ternary.proofs.Common.{refl, w8, cast_unsigned, top}
 use Rattle.sel_ternary.proofs.Lanes.{unsigned_lanes}
 use Rattle.sel_ternary.proofs.if_then_else.lanes.U8ChooseLanes.push_16.Goals as goal
 
-keeps : (b : Bool) → top 7 (cast_unsigned w8 (all_ones b)) ≡ b
-keeps true = refl
-keeps false = refl
-
 pub returns-clause-items : goal.returns-clause-items
 returns-clause-items c =
-    unsigned_lanes (top 7) (cast_unsigned w8) keeps c.args.mask c.set_lanes_8.result c.set_lanes_8.ensures
+    unsigned_lanes (top 7) (cast_unsigned w8) refl refl c.args.mask c.set_lanes_8.result c.set_lanes_8.ensures
     c.args.if_true.now c.args.if_false.now _ _ c.requires.true_side c.requires.false_side c.push_lanes.ensures.items

@@ -1,5 +1,4 @@
-use Rattle.std.proofs.Common.{ap, sym, ◌∙◌}
-use Rattle.sel_arrow.specs.Rows.{rows, well_formed}
+use Rattle.sel_ternary.proofs.Common.{ap, sym, ◌∙◌, rows, well_formed}
 use Rattle.sel_ternary.proofs.OneList.{one_block_formed}
 use Rattle.sel_ternary.proofs.if_then_else.lists.FixedSizeListArrayLists.of_one.Goals as goal
 

@@ -1,26 +1,13 @@
-use Rattle.std.proofs.Common.{◌∙◌, ℕ, ◌+◌, List, length, ap, inl, arith, subst}
+use Rattle.sel_ternary.proofs.Common.{◌∙◌, ℕ, ◌+◌, List, length, inl, arith, subst, Bytes, ExceedsNone, few_rows_pass, passes_neither, broadcast_both}
+use Rattle.sel_ternary.proofs.Common.{scalar_buffers, ExceedsViews}
+use Rattle.sel_gather.specs.Need.{ExceedsRows}
 use Rattle.std.specs.Prelude.{max, string_bytes}
-use Rattle.sel_arrow.specs.Texts.{all_text, is_text}
-use Rattle.sel_arrow.specs.Value.{Bytes}
-use Rattle.sel_arrow.proofs.Texts.{utf8_passes}
-use Rattle.sel_gather.specs.Need.{ExceedsRows, ExceedsNone}
-use Rattle.sel_gather.proofs.Within.{few_rows_pass, passes_neither}
-use Rattle.sel_ternary.specs.Choose.{broadcast_both}
-use Rattle.sel_ternary.specs.ViewSides.{scalar_buffers, ExceedsViews}
-use Rattle.sel_ternary.proofs.Placed.{all_chosen_of_two}
 use Rattle.sel_ternary.proofs.Validities.{length-choose_of_two}
 use Rattle.sel_ternary.proofs.if_then_else.utf8view.Utf8ViewArrayIfThenElseKernel.if_then_else_broadcast_both.Goals as goal
 
 pub returns-then-len-gt-MOST_ROWS-clause-refusal : goal.returns-then-len-gt-MOST_ROWS-clause-refusal
 returns-then-len-gt-MOST_ROWS-clause-refusal c =
     inl (omega (arith, length-choose_of_two c.args.mask.now.bits (Bytes (string_bytes c.args.if_true.now)) (Bytes (string_bytes c.args.if_false.now))))
-
-pub invariant_of-result : goal.invariant_of-result
-invariant_of-result c = record {
-  texts = ap all_text c.in_ok-bytes.ensures.rows
-      ∙ all_chosen_of_two is_text c.args.mask.now.bits (Bytes c.as_bytes-first.result.now) (Bytes c.as_bytes-second.result.now)
-      (utf8_passes c.as_bytes-first.result.now c.as_bytes-first.ensures.utf8) (utf8_passes c.as_bytes-second.result.now c.as_bytes-second.ensures.utf8);
-}
 
 pub returns-clause-within : goal.returns-clause-within
 returns-clause-within c =

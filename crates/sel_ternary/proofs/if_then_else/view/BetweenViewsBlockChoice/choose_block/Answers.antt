@@ -1,9 +1,5 @@
-use Rattle.std.proofs.Common.{◌≡◌, ◌+◌, ◌-◌, ◌∙◌, length, map, take, drop, ap, arith}
-use Rattle.sel_bits.specs.Words.{bits}
-use Rattle.sel_arrow.specs.declared.view.View.{View}
+use Rattle.sel_ternary.proofs.Common.{◌≡◌, ◌+◌, ◌-◌, ◌∙◌, length, map, take, drop, ap, arith, bits, View, choose, can_rise, raised}
 use Rattle.sel_arrow.proofs.Lists.{all_part}
-use Rattle.sel_ternary.specs.Choose.{choose}
-use Rattle.sel_ternary.specs.ViewSides.{can_rise, raised}
 use Rattle.sel_ternary.proofs.Placed.{map-part}
 use Rattle.sel_ternary.proofs.if_then_else.view.BetweenViewsBlockChoice.choose_block.Goals as goal
 
