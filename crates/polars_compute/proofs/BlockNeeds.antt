@@ -1,30 +1,14 @@
 -- The child of a fixed-size list column needs as many rows as the lists have entries, null or not.
-use Rattle.std.proofs.Common.{◌≡◌, ℕ, suc, ◌+◌, ◌-◌, ◌*◌, ◌≤◌, ◌<◌, ◌⊎◌, inl, inr, ⊎_elim, pos, true, false, Bool, All, List, [], ◌∷◌, length, take, drop, map, Option, Some, None, ap, sym, subst, ◌∙◌, arith, length-append, Box, Global}
+use Rattle.polars_compute.proofs.Common.{◌≡◌, ℕ, suc, ◌+◌, ◌*◌, ◌≤◌, ◌<◌, ◌⊎◌, inl, inr, ⊎_elim, pos, true, false, Bool, All, List, [], ◌∷◌, length, take, drop, map}
+use Rattle.polars_compute.proofs.Common.{Option, Some, None, ap, sym, subst, ◌∙◌, arith, length-append, Box, Global, cases_lt, mul-le, length-replicate, get_or_past}
+use Rattle.polars_compute.proofs.Common.{All-append, All-cons, All-head, All-map, All-nil, All-tail, Bits, Limit, hidden, masked, blocks, list_of, rows, type_of}
+use Rattle.polars_compute.proofs.Common.{well_formed, Shape, of_fixed_size_list, Value, Null, Number, Column, FixedSizeList, FixedSizeList', has_blocks, length-blocks}
+use Rattle.polars_compute.proofs.Common.{length-rows, length-part, items_in, joined_items, ExceedsRows, exceeded_limits, listed_values, exceeded_blocks, found, pick_of}
+use Rattle.polars_compute.proofs.Common.{take_rows, suc-mul}
 use Rattle.std.specs.Prelude.{⊤}
-use Rattle.std.specs.List.{slice_range}
-use Rattle.std.proofs.Math.Nat.{suc-mul}
-use Rattle.std.proofs.lemmas.Bool.{cases_lt}
-use Rattle.std.proofs.lemmas.Nat.{mul-le}
-use Rattle.std.proofs.lemmas.List.{length-replicate, get_or_past}
-use Rattle.std.proofs.lemmas.List.Elements.{All-append, All-cons, All-head, All-map, All-nil, All-replicate, All-tail, All-take, All-drop}
-use Rattle.std.proofs.lemmas.List.FromFn.{get_or-map-range_with_len}
-use Rattle.sel_bits.specs.Bits.{Bits}
-use Rattle.sel_bits.specs.declared.faults.Limit.{Limit}
-use Rattle.sel_arrow.specs.Masked.{hidden, masked}
-use Rattle.sel_arrow.specs.Nested.{blocks, list_of}
-use Rattle.sel_arrow.specs.Rows.{rows, type_of, well_formed}
-use Rattle.sel_arrow.specs.Shape.{Shape, of_fixed_size_list}
-use Rattle.sel_arrow.specs.Value.{Value, Null, Number}
-use Rattle.sel_arrow.specs.declared.column.Column.{Column, FixedSizeList}
-use Rattle.sel_arrow.specs.declared.column.Column.TheVariants.{FixedSizeList'}
-use Rattle.sel_arrow.proofs.NestedRows.{has_blocks, length-blocks, length-rows}
-use Rattle.sel_arrow.proofs.Rows.{length-part}
-use Rattle.sel_gather.specs.Children.{items_in, joined_items}
-use Rattle.sel_gather.specs.Need.{ExceedsRows, exceeded_limits}
-use Rattle.sel_gather.proofs.ItemRuns.{listed_values}
-use Rattle.polars_compute.specs.BareBlocks.{exceeded_blocks}
-use Rattle.polars_compute.specs.Pick.{found, pick_of, take_rows}
+use Rattle.std.proofs.lemmas.List.Elements.{All-replicate, All-take, All-drop}
 use Rattle.polars_compute.proofs.Takes.{length-pick}
+use Rattle.polars_compute.proofs.FilteredBlocks.{at_block}
 
 -- A fixed-size list row has as many child rows as the list size, and so has each of them, at each
 -- depth.
@@ -62,19 +46,13 @@ module _ (P : Value → Type 0) (null : P Null) where
 
 -- ---- the rows of a column
 
-block_shaped : (s : Shape) (size len k : ℕ) (xs : List Value) → length xs ≡ len * size → All (IsShaped s) xs → k < len → IsShaped (of_fixed_size_list s size) (list_of (slice_range xs (k * size) (k * size + size)))
-block_shaped s size len k xs fills all h =
-    let inside : k * size + size ≤ length xs = omega (arith, fills, suc-mul k size, mul-le (suc k) size len size (omega (arith, h)) (omega arith)) in
-    let long : k * size + size - k * size ≡ size = omega arith in
-    list_shaped s size (slice_range xs (k * size) (k * size + size))
-    (ap (λ n. length (take n (drop (k * size) xs))) long ∙ length-part xs (k * size) size inside)
-    (All-take (IsShaped s) (k * size + size - k * size) (drop (k * size) xs) (All-drop (IsShaped s) (k * size) xs all))
-
 blocks_shaped : (s : Shape) (size len : ℕ) (xs : List Value) → length xs ≡ len * size → All (IsShaped s) xs → All (λ l. IsShaped (of_fixed_size_list s size) (list_of l)) (blocks size len xs)
 blocks_shaped s size len xs fills all = λ k d h.
     let below : k < len = omega (arith, h, length-blocks size len xs) in
-    subst (λ l. IsShaped (of_fixed_size_list s size) (list_of l)) (sym (get_or-map-range_with_len (λ i. slice_range xs (i * size) (i * size + size)) 0 len k k d below (omega arith)))
-    (block_shaped s size len k xs fills all below)
+    let inside : k * size + size ≤ length xs = omega (arith, fills, suc-mul k size, mul-le (suc k) size len size (omega (arith, below)) (omega arith)) in
+    let part = drop (k * size) xs in
+    subst (λ l. IsShaped (of_fixed_size_list s size) (list_of l)) (sym (at_block size len xs k d below))
+    (list_shaped s size (take size part) (length-part xs (k * size) size inside) (All-take (IsShaped s) size part (All-drop (IsShaped s) (k * size) xs all)))
 
 pub rows_shaped : (c : Column) → well_formed c ≡ true → All (IsShaped (type_of c)) (rows c)
 rows_shaped (FixedSizeList' size len p values validity) formed =

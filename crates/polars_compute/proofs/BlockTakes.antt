@@ -1,30 +1,16 @@
 -- Blocks at indices.
-use Rattle.std.proofs.Common.{◌≡◌, ℕ, zero, suc, ◌+◌, ◌-◌, ◌*◌, ◌≤◌, ◌<◌, pos, negsuc, true, List, [], ◌∷◌, ◌++◌, length, take, drop, map, refl, ap, sym, subst, ◌∙◌, arith, get_or, append_assoc, length-append, ℤ, Option, Some, None, true≢false, ◌&&◌, is_none, Box, Global}
-use Rattle.std.specs.Prelude.{if◌then◌else◌}
-use Rattle.std.specs.List.{flat_map, slice_range}
-use Rattle.std.specs.Option.{ForSome}
-use Rattle.std.proofs.Math.Nat.{suc-mul, mul_assoc}
-use Rattle.std.proofs.Math.Seq.{take-append_seam, drop-append-add}
-use Rattle.std.proofs.lemmas.Bool.{leb-true, le-leb, ltb-true}
-use Rattle.std.proofs.lemmas.List.{length-replicate, take-append-drop}
-use Rattle.std.proofs.lemmas.List.Concat.{flat_map-append}
-use Rattle.std.proofs.lemmas.List.FromFn.{get_or-map-range_with_len}
-use Rattle.std.proofs.lemmas.Nat.{mul-le}
-use Rattle.sel_bits.specs.Bits.{Bits}
-use Rattle.sel_arrow.specs.Masked.{hidden, masked, number_rows, valid_at, Covers}
-use Rattle.sel_arrow.specs.Nested.{blocks, block_rows, list_of}
-use Rattle.sel_arrow.specs.Rows.{rows, row_count, well_formed}
-use Rattle.sel_arrow.specs.Value.{Value, Null, Number}
-use Rattle.sel_arrow.specs.declared.column.Column.{Column, FixedSizeList}
-use Rattle.sel_arrow.specs.declared.column.Column.TheVariants.{Int8, Int16, Int32, Int64, Int128, UInt8, UInt16, UInt32, UInt64, UInt128, FixedSizeList'}
-use Rattle.sel_arrow.proofs.Lists.{all_at, and_first, and_second, both}
+use Rattle.polars_compute.proofs.Common.{is_none, ◌≡◌, ℕ, zero, suc, ◌+◌, ◌-◌, ◌*◌, ◌≤◌, ◌<◌, pos, true, List, [], ◌∷◌, ◌++◌, length, take, drop, map, refl, ap, sym}
+use Rattle.polars_compute.proofs.Common.{subst, ◌∙◌, negsuc, arith, get_or, append_assoc, length-append, ℤ, Option, Some, None, true≢false, ◌&&◌, Box, Global}
+use Rattle.polars_compute.proofs.Common.{if◌then◌else◌, ForSome, take-append_seam, drop-append-add, leb-true, le-leb, ltb-true, length-replicate, take-append-drop}
+use Rattle.polars_compute.proofs.Common.{flat_map-append, mul-le, Bits, hidden, masked, number_rows, valid_at, Covers, blocks, block_rows, list_of, rows, row_count}
+use Rattle.polars_compute.proofs.Common.{well_formed, Value, Null, Number, Column, FixedSizeList, FixedSizeList', all_at, and_first, and_second, both, HasBlocks}
+use Rattle.polars_compute.proofs.Common.{has_blocks, length-blocks, length-rows, length-number_rows, length-part, block_items, is_block_within, blocks_within, is_bare}
+use Rattle.polars_compute.proofs.Common.{HoldsBlocks, all_within, found, is_within, pick_of, take_rows, valid_pick, flat_map, suc-mul, mul_assoc}
+use Rattle.sel_arrow.specs.declared.column.Column.TheVariants.{Int8, Int16, Int32, Int64, Int128, UInt8, UInt16, UInt32, UInt64, UInt128}
 use Rattle.sel_arrow.proofs.NestedParts.{part-block_rows}
-use Rattle.sel_arrow.proofs.NestedRows.{HasBlocks, has_blocks, length-blocks, length-rows}
-use Rattle.sel_arrow.proofs.Rows.{length-number_rows, length-part, part-mapped}
-use Rattle.polars_compute.specs.Blocks.{block_at, block_items, is_block_within, blocks_within, IsBeginning}
-use Rattle.polars_compute.specs.BareBlocks.{is_bare, HoldsBlocks}
-use Rattle.polars_compute.specs.Pick.{all_within, found, is_within, pick_of, take_rows}
-use Rattle.polars_compute.specs.ValidPicks.{valid_pick}
+use Rattle.sel_arrow.proofs.Rows.{part-mapped}
+use Rattle.polars_compute.specs.Blocks.{block_at, IsBeginning}
+use Rattle.polars_compute.proofs.FilteredBlocks.{at_block}
 use Rattle.polars_compute.proofs.Takes.{row_taken, validity_within}
 
 -- ---- one more block
@@ -55,19 +41,16 @@ block_size i size = omega arith
 length-block_at : {A : Type 0} (size : ℕ) (filler : A) (xs : List A) (v : Value) → is_block_within size (length xs) v ≡ true → length (block_at size filler xs v) ≡ size
 length-block_at size filler xs (Number (pos i)) h =
     ap (λ k. length (take k (drop (i * size) xs))) (block_size i size) ∙ length-part xs (i * size) size (block_ends size (length xs) i h)
-length-block_at size filler xs (Number (negsuc i)) h = length-replicate size filler
 length-block_at size filler xs v h = length-replicate size filler
 
 pub length-block_items : {A : Type 0} (size : ℕ) (filler : A) (xs : List A) (indices : List Value) → blocks_within size (length xs) indices ≡ true → length (block_items size filler xs indices) ≡ length indices * size
 length-block_items size filler xs [] h = omega arith
 length-block_items size filler xs (v ∷ indices) h =
-    let here = is_block_within size (length xs) v in
-    let there = blocks_within size (length xs) indices in
     omega (
       arith,
       length-append (block_at size filler xs v) (block_items size filler xs indices),
-      length-block_at size filler xs v (and_first here there h),
-      length-block_items size filler xs indices (and_second here there h),
+      length-block_at size filler xs v (and_first _ _ h),
+      length-block_items size filler xs indices (and_second _ _ h),
       suc-mul (length indices) size,
     )
 
@@ -83,12 +66,10 @@ block_of_items size filler xs (v ∷ indices) zero h lt =
 block_of_items size filler xs (v ∷ indices) (suc k) h lt =
     let block = block_at size filler xs v in
     let rest = block_items size filler xs indices in
-    let here = is_block_within size (length xs) v in
-    let there = blocks_within size (length xs) indices in
-    let long = length-block_at size filler xs v (and_first here there h) in
+    let long = length-block_at size filler xs v (and_first _ _ h) in
     let place : suc k * size ≡ length block + k * size = omega (arith, suc-mul k size, long) in
     ap (λ p. take size (drop p (block ++ rest))) place ∙ ap (take size) (drop-append-add block rest (k * size))
-    ∙ block_of_items size filler xs indices k (and_second here there h) (omega (arith, lt))
+    ∙ block_of_items size filler xs indices k (and_second _ _ h) (omega (arith, lt))
 
 -- ---- the blocks in each level of a taken column
 
@@ -143,9 +124,7 @@ level_block size width n m v is h = refl
 pub level_within : (size width n m : ℕ) (indices : List Value) → m ≡ n * width → blocks_within size n indices ≡ true → blocks_within (size * width) m indices ≡ true
 level_within size width n m [] is h = refl
 level_within size width n m (v ∷ indices) is h =
-    let here = is_block_within size n v in
-    let there = blocks_within size n indices in
-    both (is_block_within (size * width) m v) (blocks_within (size * width) m indices) (level_block size width n m v is (and_first here there h)) (level_within size width n m indices is (and_second here there h))
+    both (is_block_within (size * width) m v) (blocks_within (size * width) m indices) (level_block size width n m v is (and_first _ _ h)) (level_within size width n m indices is (and_second _ _ h))
 
 row_block : (width n m : ℕ) (v : Value) → m ≡ n * width → is_within n v ≡ true → is_block_within width m v ≡ true
 row_block width n m (Number (pos i)) is h =
@@ -158,9 +137,7 @@ row_block width n m v is h = refl
 pub rows_within : (width n m : ℕ) (indices : List Value) → m ≡ n * width → all_within n indices ≡ true → blocks_within width m indices ≡ true
 rows_within width n m [] is h = refl
 rows_within width n m (v ∷ indices) is h =
-    let here = is_within n v in
-    let there = all_within n indices in
-    both (is_block_within width m v) (blocks_within width m indices) (row_block width n m v is (and_first here there h)) (rows_within width n m indices is (and_second here there h))
+    both (is_block_within width m v) (blocks_within width m indices) (row_block width n m v is (and_first _ _ h)) (rows_within width n m indices is (and_second _ _ h))
 
 -- ---- a level of fixed-size lists
 
@@ -193,16 +170,8 @@ module _ (c : Column) (size width len m : ℕ) (values : Box Column Global) (val
 -- ---- the types of columns without validities at any depth
 
 pub bare_kinds : (c : Column) → is_bare c ≡ true
-    → ((x : _) → c ≡ Int8 x → ⊥)
-    → ((x : _) → c ≡ Int16 x → ⊥)
-    → ((x : _) → c ≡ Int32 x → ⊥)
-    → ((x : _) → c ≡ Int64 x → ⊥)
-    → ((x : _) → c ≡ Int128 x → ⊥)
-    → ((x : _) → c ≡ UInt8 x → ⊥)
-    → ((x : _) → c ≡ UInt16 x → ⊥)
-    → ((x : _) → c ≡ UInt32 x → ⊥)
-    → ((x : _) → c ≡ UInt64 x → ⊥)
-    → ((x : _) → c ≡ UInt128 x → ⊥)
+    → ((x : _) → c ≡ Int8 x → ⊥) → ((x : _) → c ≡ Int16 x → ⊥) → ((x : _) → c ≡ Int32 x → ⊥) → ((x : _) → c ≡ Int64 x → ⊥) → ((x : _) → c ≡ Int128 x → ⊥)
+    → ((x : _) → c ≡ UInt8 x → ⊥) → ((x : _) → c ≡ UInt16 x → ⊥) → ((x : _) → c ≡ UInt32 x → ⊥) → ((x : _) → c ≡ UInt64 x → ⊥) → ((x : _) → c ≡ UInt128 x → ⊥)
     → ((size len : ℕ) (values : Box Column Global) (validity : Option Bits) → c ≡ FixedSizeList size len values validity → ⊥) → ⊥
 bare_kinds (Int8 x) h other _ _ _ _ _ _ _ _ _ _ = other x refl
 bare_kinds (Int16 x) h _ other _ _ _ _ _ _ _ _ _ = other x refl
@@ -229,18 +198,11 @@ held_rows : {A : Type 0} (f : A → Value) → (validity : Option Bits) (xs ys :
     ((k i : ℕ) → k < length indices → get_or indices k Null ≡ Number (pos i) → get_or ys k d ≡ get_or xs i d) →
     hidden (map (valid_pick validity) (map pick_of indices)) (map f ys) ≡ take_rows (masked validity (map f xs)) indices
 held_rows f validity xs [] d [] covers long within same = refl
-held_rows f validity xs (y ∷ ys) d [] covers long within same = absurd (omega (arith, long))
-held_rows f validity xs [] d (index ∷ indices) covers long within same = absurd (omega (arith, long))
 held_rows f validity xs (y ∷ ys) d (index ∷ indices) covers long within same =
-    let here = and_first (is_within (length xs) index) (all_within (length xs) indices) within in
-    let there = and_second (is_within (length xs) index) (all_within (length xs) indices) within in
-    let row = same_row f validity xs d y index (λ i is. same 0 i (omega arith) is) ∙ row_taken f validity xs d index covers here in
-    let rest = held_rows f validity xs ys d indices covers (omega (arith, long)) there (λ k i h is. same (suc k) i (omega (arith, h)) is) in
+    let row = same_row f validity xs d y index (λ i is. same 0 i (omega arith) is) ∙ row_taken f validity xs d index covers (and_first _ _ within) in
+    let rest = held_rows f validity xs ys d indices covers (omega (arith, long)) (and_second _ _ within) (λ k i h is. same (suc k) i (omega (arith, h)) is) in
     (λ i. row i ∷ rest i)
-
-at_block : (size n : ℕ) (xs : List Value) (k : ℕ) → k < n → get_or (blocks size n xs) k [] ≡ take size (drop (k * size) xs)
-at_block size n xs k h =
-    get_or-map-range_with_len (λ i. slice_range xs (i * size) (i * size + size)) 0 n k k [] h (omega arith) ∙ ap (λ m. take m (drop (k * size) xs)) (block_size k size)
+held_rows f validity xs ys d indices covers long within same = absurd (omega (arith, long))
 
 -- ---- rows in bounds have blocks in bounds
 module _ (c : Column) (size len : ℕ) (values : Box Column Global) (validity : Option Bits) (indices : List Value) (is : c ≡ FixedSizeList size len values validity) (formed : well_formed c ≡ true)
@@ -271,7 +233,7 @@ blocks_taken c size len values validity is formed indices within bits valid ys h
     λ k i h at.
     let there : is_within (length (blocks size len child)) (Number (pos i)) ≡ true = ap (is_within (length (blocks size len child))) (sym at) ∙ all_at (is_within (length (blocks size len child))) indices k Null inside h in
     let below : i < len = omega (arith, ltb-true i (length (blocks size len child)) there, length-blocks size len child) in
-    at_block size n ys k h ∙ holds k i h at ∙ sym (at_block size len child i below) in
+    at_block size n ys k [] h ∙ holds k i h at ∙ sym (at_block size len child i [] below) in
     ap (λ l. hidden l (map list_of (blocks size n ys))) valid
     ∙ held_rows list_of validity (blocks size len child) (blocks size n ys) [] indices covers (length-blocks size n ys) inside same
     ∙ ap (λ l. take_rows l indices) (sym (ap rows is))

@@ -1,31 +1,22 @@
 -- The check of block indices equals a check of row indices.
-use Rattle.std.proofs.Common.{◌≡◌, ℕ, ◌+◌, ◌*◌, ◌/◌, ◌<◌, pos, negsuc, Bool, true, false, ◌&&◌, List, [], ◌∷◌, map, Option, Some, None, refl, sym, arith}
-use Rattle.std.specs.Prelude.{nat_lt, nat_le}
+use Rattle.polars_compute.proofs.Common.{◌≡◌, ℕ, ◌+◌, ◌*◌, ◌/◌, ◌<◌, pos, Bool, true, false, ◌&&◌, List, [], ◌∷◌, map, Option, Some, None, refl, sym, arith, nat_lt}
+use Rattle.polars_compute.proofs.Common.{nat_le, leb-true, le-leb, ltb-true, lt-ltb, Bits, hidden, number_rows, Value, Number, is_block_within, blocks_within, is_within}
+use Rattle.polars_compute.proofs.Common.{all_within}
 use Rattle.std.proofs.Math.Nat.{le-div_iff_mul-le}
-use Rattle.std.proofs.lemmas.Bool.{leb-true, le-leb, ltb-true, lt-ltb}
-use Rattle.sel_bits.specs.Bits.{Bits}
-use Rattle.sel_arrow.specs.Masked.{hidden, number_rows}
-use Rattle.sel_arrow.specs.Value.{Value, Number}
-use Rattle.polars_compute.specs.Blocks.{is_block_within, blocks_within}
-use Rattle.polars_compute.specs.Pick.{is_within, all_within}
 
 -- ---- blocks of size 0
 
 empty_block : (n i : ℕ) → is_block_within 0 n (Number (pos i)) ≡ true
 empty_block n i = le-leb ((i + 1) * 0) n (omega arith)
 
-empty_numbers : (n : ℕ) (xs : List ℕ) → blocks_within 0 n (map (λ x. Number (pos x)) xs) ≡ true
-empty_numbers n [] = refl
-empty_numbers n (x ∷ xs) = rw (empty_block n x) (empty_numbers n xs)
-
 empty_hidden : (n : ℕ) (bits : List Bool) (xs : List ℕ) → blocks_within 0 n (hidden bits (map (λ x. Number (pos x)) xs)) ≡ true
-empty_hidden n [] xs = empty_numbers n xs
-empty_hidden n (b ∷ bits) [] = refl
+empty_hidden n [] (x ∷ xs) = rw (empty_block n x) (empty_hidden n [] xs)
 empty_hidden n (true ∷ bits) (x ∷ xs) = rw (empty_block n x) (empty_hidden n bits xs)
 empty_hidden n (false ∷ bits) (x ∷ xs) = empty_hidden n bits xs
+empty_hidden n bits xs = refl
 
 pub empty_blocks : (n : ℕ) (xs : List ℕ) (validity : Option Bits) → blocks_within 0 n (number_rows pos xs validity) ≡ true
-empty_blocks n xs None = empty_numbers n xs
+empty_blocks n xs None = empty_hidden n [] xs
 empty_blocks n xs (Some v) = empty_hidden n v.bits xs
 
 -- ---- other blocks
@@ -44,7 +35,6 @@ block_test size n i some =
 
 value_test : (size n : ℕ) (v : Value) → 0 < size → is_within (n / size) v ≡ is_block_within size n v
 value_test size n (Number (pos i)) some = block_test size n i some
-value_test size n (Number (negsuc i)) some = refl
 value_test size n v some = refl
 
 pub blocks_test : (size n : ℕ) (indices : List Value) → 0 < size → all_within (n / size) indices ≡ blocks_within size n indices

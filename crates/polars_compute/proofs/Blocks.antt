@@ -1,39 +1,23 @@
 -- Elements of fixed-size lists.
-use Rattle.std.proofs.Common.{◌≡◌, ◌<◌, ◌≤◌, ◌+◌, ◌*◌, ℕ, ℤ, Bool, true, false, All, List, [], ◌∷◌, length, map, take, drop, get_or, None, refl, ap, sym, subst, ◌∙◌, arith}
-use Rattle.std.specs.Prelude.{◌&&◌, not, if◌then◌else◌}
-use Rattle.std.specs.List.{list_any, range_with_len}
-use Rattle.std.specs.Option.{option_map, is_none}
+use Rattle.polars_compute.proofs.Common.{◌≡◌, ◌<◌, ◌≤◌, ◌+◌, ◌*◌, ℕ, ℤ, Bool, true, false, All, List, [], ◌∷◌, length, map, take, drop, get_or, None, refl, ap, sym}
+use Rattle.polars_compute.proofs.Common.{subst, ◌∙◌, arith, ◌&&◌, not, if◌then◌else◌, list_any, range_with_len, list_any_at, fill_by_all, get_or-range_with_len}
+use Rattle.polars_compute.proofs.Common.{get_or-map-range_with_len, length-range_with_len, length-map-range_with_len, max_rows, PolarsError, ComputeError, Covers}
+use Rattle.polars_compute.proofs.Common.{valid_at, rows, type_of, Value, Null, Number, is_null, Column, has_blocks, length-rows, exceeded_limits, IsLimitOrMemory, pick}
+use Rattle.polars_compute.proofs.Common.{PickFits, IsPicked, listed_values, element_at, child_pick, place_of, fixed_get, at_each, entry_place, map-map, option_map}
+use Rattle.polars_compute.proofs.Common.{is_none}
+use Rattle.polars_compute.specs.Entries.{is_get_error, entry_of, lacks_entry, IsGetError}
+use Rattle.polars_compute.specs.Steps.{entry_places}
 use Rattle.std.proofs.lemmas.List.{get_or-replicate}
-use Rattle.std.proofs.lemmas.List.Folds.{list_any_at, list_any_none}
-use Rattle.std.proofs.lemmas.List.FromFn.{fill_by_all, get_or-range_with_len, get_or-map-range_with_len, length-range_with_len, length-map-range_with_len}
-use Rattle.sel_bits.specs.Limits.{max_rows}
-use Rattle.sel_bits.specs.declared.faults.PolarsError.{PolarsError}
-use Rattle.sel_bits.specs.declared.faults.PolarsError.TheVariants.{OutOfMemory, SizeLimit, ComputeError}
-use Rattle.sel_arrow.specs.Masked.{Covers, valid_at}
+use Rattle.std.proofs.lemmas.List.Folds.{list_any_none}
 use Rattle.sel_arrow.specs.NestedArrays.{block_column}
-use Rattle.sel_arrow.specs.Rows.{rows, type_of}
-use Rattle.sel_arrow.specs.Value.{Value, Null, Truth, Number, Bytes, Items, Tuple, is_null}
-use Rattle.sel_arrow.specs.declared.column.Column.{Column}
 use Rattle.sel_arrow.specs.declared.fixed_size_list.FixedSizeListArray.{FixedSizeListArray}
-use Rattle.sel_arrow.proofs.NestedRows.{has_blocks, length-rows}
-use Rattle.sel_gather.specs.Need.{exceeded_limits, IsLimitOrMemory}
-use Rattle.sel_gather.specs.Picks.{pick, PickFits}
-use Rattle.sel_gather.specs.Plans.{IsPicked}
-use Rattle.sel_gather.proofs.ItemRuns.{listed_values}
 use Rattle.sel_gather.proofs.ListParts.{OfBlock, block_null, block_row}
-use Rattle.polars_compute.specs.Elements.{element_at, child_pick}
-use Rattle.polars_compute.specs.Entries.{place_of, entry_of, lacks_entry, fixed_get, is_get_error, at_each, IsGetError}
-use Rattle.polars_compute.specs.Steps.{entry_place, entry_places}
-use Rattle.polars_compute.proofs.Offsets.{below_shifted, map_map, shifted}
+use Rattle.polars_compute.proofs.Offsets.{below_shifted, shifted}
 use Rattle.polars_compute.proofs.EntryPlaces.{mapped_at, mapped_count, picked, place_below, place_picked, places_fit, PlaceBelow}
 
 pub place_of_below : (w : ℕ) (v : Value) → PlaceBelow w (place_of w v)
 place_of_below w (Number index) = place_below index w
-place_of_below w Null = tt
-place_of_below w (Truth b) = tt
-place_of_below w (Bytes bytes) = tt
-place_of_below w (Items items) = tt
-place_of_below w (Tuple parts) = tt
+place_of_below w v = tt
 
 -- ---- a check of each of n positions
 
@@ -109,7 +93,7 @@ module _ (arr : FixedSizeListArray) where
   entries_got indices =
       let f = λ (k : ℕ). entry_place arr k (place_of arr.size (get_or indices k Null)) in
       let g = λ (k : ℕ). entry_of arr.size (get_or (rows column) k Null) (get_or indices k Null) in
-      picked below (entry_places arr indices) ∙ map_map (element_at below) f (range_with_len 0 arr.len)
+      picked below (entry_places arr indices) ∙ map-map (element_at below) f (range_with_len 0 arr.len)
       ∙ sym (fill_by_all (λ k. element_at below (f k)) (fixed_get (rows column) arr.size indices) arr.len Null
       (length-map-range_with_len g 0 (length (rows column)) ∙ long_rows)
       (λ k h. get_or-map-range_with_len g 0 (length (rows column)) k k Null (inside_rows k h) (omega arith) ∙ sym (entry_is (get_or indices k Null) k h)))
@@ -154,6 +138,5 @@ module _ (arr : FixedSizeListArray) where
   -- An error of the gather is permitted if no index is out of bounds.
   pub refused_so : (indices : List Value) (null_on_oob : Bool) (fault : PolarsError) → is_get_error null_on_oob arr indices ≡ false
       → IsLimitOrMemory (exceeded_limits (type_of arr.values.value) (fixed_get (rows column) arr.size indices)) fault → IsGetError null_on_oob arr indices fault
-  refused_so indices null_on_oob OutOfMemory e h = (e, h)
-  refused_so indices null_on_oob (SizeLimit limit) e h = (e, h)
   refused_so indices null_on_oob ComputeError e h = absurd h
+  refused_so indices null_on_oob fault e h = (e, h)

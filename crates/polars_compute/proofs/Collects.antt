@@ -1,9 +1,6 @@
 -- Building a binary column from its rows.
-use Rattle.std.proofs.Common.{◌≡◌, ℕ, ◌+◌, ◌≤◌, ◌<◌, List, ◌∷◌, length, drop, refl, ap, get_or, add-one, drop-cons}
-use Rattle.std.proofs.lemmas.List.{drop_all}
-use Rattle.sel_arrow.specs.Value.{Value, Null}
-use Rattle.polars_compute.specs.Need.{byte_count, bytes_needed}
-use Rattle.polars_compute.specs.JoinedBytes.{ends_from}
+use Rattle.polars_compute.proofs.Common.{◌≡◌, ℕ, ◌+◌, ◌≤◌, ◌<◌, List, ◌∷◌, length, drop, refl, ap, get_or, add-one, drop-cons, drop_all, Value, Null, byte_count}
+use Rattle.polars_compute.proofs.Common.{bytes_needed, ends_from}
 
 -- ---- one more row
 

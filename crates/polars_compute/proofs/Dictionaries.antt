@@ -1,19 +1,11 @@
 -- Keys and values of a dictionary without its null values.
-use Rattle.std.proofs.Common.{◌≡◌, ℕ, zero, suc, ◌+◌, ◌≤◌, ◌<◌, pos, Bool, true, false, List, [], ◌∷◌, length, map, take, get_or, Option, Some, None, refl, ap, sym, ◌∙◌, arith, cond, zero-add, add-one}
-use Rattle.std.specs.Prelude.{if◌then◌else◌, count_by, not, IfNone}
-use Rattle.std.specs.List.{range_with_len}
-use Rattle.std.proofs.lemmas.Bool.{ltb-true}
-use Rattle.std.proofs.lemmas.List.{length-map, get_or-map}
-use Rattle.std.proofs.lemmas.List.FromFn.{get_or-map-range_with_len, length-map-range_with_len}
-use Rattle.std.proofs.lemmas.List.Sums.{sum_by-cons}
-use Rattle.sel_bits.specs.Bits.{Bits, count_true}
-use Rattle.sel_arrow.specs.Masked.{hidden, masked, number_rows, Covers, valid_at}
-use Rattle.sel_arrow.specs.Value.{Value, Null, Number, is_valid, is_null, validities}
-use Rattle.sel_arrow.proofs.Lists.{and_first, and_second}
-use Rattle.sel_arrow.proofs.Rows.{masked_null, masked_valid}
-use Rattle.polars_compute.specs.Dictionary.{decode, rank, valid_values, key_of_valid, propagated_keys}
-use Rattle.polars_compute.specs.Pick.{found, pick_of, take_rows, is_within, all_within}
-use Rattle.polars_compute.specs.Select.{select}
+use Rattle.polars_compute.proofs.Common.{◌≡◌, ℕ, zero, suc, ◌+◌, ◌≤◌, ◌<◌, pos, Bool, true, false, List, [], ◌∷◌, length, map, take, get_or, Option, Some, None, refl, ap}
+use Rattle.polars_compute.proofs.Common.{sym, ◌∙◌, arith, cond, zero-add, add-one, if◌then◌else◌, count_by, not, IfNone, range_with_len, ltb-true, length-map, get_or-map}
+use Rattle.polars_compute.proofs.Common.{get_or-map-range_with_len, length-map-range_with_len, sum_by-cons, Bits, count_true, hidden, masked, number_rows, Covers}
+use Rattle.polars_compute.proofs.Common.{valid_at, Value, Null, Number, is_valid, is_null, validities, and_first, and_second, masked_null, masked_valid, decode, rank}
+use Rattle.polars_compute.proofs.Common.{valid_values, propagated_keys, found, pick_of, take_rows, is_within, all_within, select}
+use Rattle.polars_compute.specs.Dictionary.{key_of_valid}
+use Rattle.sel_gather.proofs.Rebuilt.{only_null}
 
 -- ---- the number of null rows
 
@@ -50,11 +42,10 @@ none_null (v ∷ vs) = one_kept (is_valid v) v vs refl (none_null vs)
 -- ---- rows without a null need no validity
 
 shown : {A : Type 0} (f : A → Value) → (bs : List Bool) (xs : List A) → count_by is_null (hidden bs (map f xs)) ≡ 0 → hidden bs (map f xs) ≡ map f xs
-shown f [] xs h = refl
-shown f (b ∷ bs) [] h = refl
 shown f (true ∷ bs) (x ∷ xs) h =
     ap (λ l. f x ∷ l) (shown f bs xs (let e = null_more (f x) (hidden bs (map f xs)) in omega (arith, e, h)))
 shown f (false ∷ bs) (x ∷ xs) h = let e = null_more Null (hidden bs (map f xs)) in absurd (omega (arith, e, h))
+shown f bs xs h = refl
 
 pub bare_rows : {A : Type 0} (f : A → Value) → (validity : Option Bits) (xs : List A) → count_by is_null (masked validity (map f xs)) ≡ 0 → map f xs ≡ masked validity (map f xs)
 bare_rows f None xs h = refl
@@ -65,10 +56,9 @@ bare_rows f (Some validity) xs h = sym (shown f validity.bits xs h)
 -- The validities of rows under a validity are its bits.
 told_bits : {A : Type 0} (f : A → Value) → ((x : A) → is_valid (f x) ≡ true) → (bs : List Bool) (xs : List A) → length bs ≡ length xs → validities (hidden bs (map f xs)) ≡ bs
 told_bits f valid [] [] long = refl
-told_bits f valid [] (x ∷ xs) long = absurd (omega arith)
-told_bits f valid (b ∷ bs) [] long = absurd (omega arith)
 told_bits f valid (true ∷ bs) (x ∷ xs) long = (λ i. valid x i ∷ told_bits f valid bs xs (omega arith) i)
 told_bits f valid (false ∷ bs) (x ∷ xs) long = ap (λ l. false ∷ l) (told_bits f valid bs xs (omega arith))
+told_bits f valid bs xs long = absurd (omega (arith, long))
 
 pub told_validity : {A : Type 0} (f : A → Value) → ((x : A) → is_valid (f x) ≡ true) → (old : Option Bits) (validity : Bits) (xs : List A) → old ≡ Some validity → Covers old (length xs) →
     validity.bits ≡ validities (masked old (map f xs))
@@ -146,9 +136,7 @@ module _ (vs : List Value) (ranks : List ℕ) (validity : Bits) (bits : validity
   pub keys_taken : (keys : List Value) → all_within (length vs) keys ≡ true → take_rows (number_rows pos ranks (Some validity)) keys ≡ propagated_keys keys vs
   keys_taken [] within = refl
   keys_taken (key ∷ keys) within =
-      let first = and_first (is_within (length vs) key) (all_within (length vs) keys) within in
-      let rest = and_second (is_within (length vs) key) (all_within (length vs) keys) within in
-      (λ i. each_key key first i ∷ keys_taken keys rest i)
+      (λ i. each_key key (and_first _ _ within) i ∷ keys_taken keys (and_second _ _ within) i)
 
 -- ---- if no value is null, the keys are unchanged
 
@@ -172,17 +160,12 @@ key_stays vs n none within =
 
 keys_hidden : (vs : List Value) (bs : List Bool) (xs : List ℕ) → count_by is_null vs ≡ 0 → all_within (length vs) (hidden bs (map (λ x. Number (pos x)) xs)) ≡ true →
     hidden bs (map (λ x. Number (pos x)) xs) ≡ propagated_keys (hidden bs (map (λ x. Number (pos x)) xs)) vs
-keys_hidden vs [] [] none within = refl
 keys_hidden vs [] (x ∷ xs) none within =
-    let first = and_first (is_within (length vs) (Number (pos x))) (all_within (length vs) (map (λ x. Number (pos x)) xs)) within in
-    let rest = and_second (is_within (length vs) (Number (pos x))) (all_within (length vs) (map (λ x. Number (pos x)) xs)) within in
-    (λ i. sym (key_stays vs x none first) i ∷ keys_hidden vs [] xs none rest i)
-keys_hidden vs (b ∷ bs) [] none within = refl
+    (λ i. sym (key_stays vs x none (and_first _ _ within)) i ∷ keys_hidden vs [] xs none (and_second _ _ within) i)
 keys_hidden vs (true ∷ bs) (x ∷ xs) none within =
-    let first = and_first (is_within (length vs) (Number (pos x))) (all_within (length vs) (hidden bs (map (λ x. Number (pos x)) xs))) within in
-    let rest = and_second (is_within (length vs) (Number (pos x))) (all_within (length vs) (hidden bs (map (λ x. Number (pos x)) xs))) within in
-    (λ i. sym (key_stays vs x none first) i ∷ keys_hidden vs bs xs none rest i)
+    (λ i. sym (key_stays vs x none (and_first _ _ within)) i ∷ keys_hidden vs bs xs none (and_second _ _ within) i)
 keys_hidden vs (false ∷ bs) (x ∷ xs) none within = ap (λ l. Null ∷ l) (keys_hidden vs bs xs none within)
+keys_hidden vs bs xs none within = refl
 
 pub keys_stay : (vs : List Value) (xs : List ℕ) (validity : Option Bits) → count_by is_null vs ≡ 0 → all_within (length vs) (number_rows pos xs validity) ≡ true →
     number_rows pos xs validity ≡ propagated_keys (number_rows pos xs validity) vs
@@ -197,10 +180,6 @@ values_stay (v ∷ vs) none =
     ap (λ l. v ∷ l) rest ∙ ap (λ b. select (v ∷ vs) (b ∷ validities vs)) (sym (no_null (is_valid v) v vs refl none))
 
 -- ---- each key refers to the same value as before
-
-null_is : (v : Value) → is_valid v ≡ false → v ≡ Null
-null_is Null e = refl
-null_is v e = cc
 
 -- With one more value at the front.
 behind : (b : Bool) (v : Value) (vs : List Value) (k : ℕ) → is_valid v ≡ b → get_or (valid_values vs) (rank vs k) Null ≡ get_or vs k Null →
@@ -223,7 +202,7 @@ rank_found (v ∷ vs) (suc k) inside valid = behind (is_valid v) v vs k refl (ra
 same_value : (b : Bool) (vs : List Value) (k : ℕ) → k < length vs → is_valid (get_or vs k Null) ≡ b →
     found Null (valid_values vs ∷ []) (pick_of (if b then Number (pos (rank vs k)) else Null)) ≡ get_or vs k Null
 same_value true vs k inside valid = rank_found vs k inside valid
-same_value false vs k inside valid = sym (null_is (get_or vs k Null) valid)
+same_value false vs k inside valid = sym (only_null (get_or vs k Null) valid)
 
 one_decoded : (vs : List Value) (key : Value) → is_within (length vs) key ≡ true → found Null (valid_values vs ∷ []) (pick_of (key_of_valid vs key)) ≡ found Null (vs ∷ []) (pick_of key)
 one_decoded vs (Number (pos k)) within = same_value (is_valid (get_or vs k Null)) vs k (ltb-true k (length vs) within) refl
@@ -232,6 +211,4 @@ one_decoded vs key within = refl
 pub propagation_decodes : (keys vs : List Value) → all_within (length vs) keys ≡ true → decode (propagated_keys keys vs) (valid_values vs) ≡ decode keys vs
 propagation_decodes [] vs within = refl
 propagation_decodes (key ∷ keys) vs within =
-    let first = and_first (is_within (length vs) key) (all_within (length vs) keys) within in
-    let rest = and_second (is_within (length vs) key) (all_within (length vs) keys) within in
-    (λ i. one_decoded vs key first i ∷ propagation_decodes keys vs rest i)
+    (λ i. one_decoded vs key (and_first _ _ within) i ∷ propagation_decodes keys vs (and_second _ _ within) i)

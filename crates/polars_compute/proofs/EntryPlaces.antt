@@ -1,16 +1,8 @@
 -- Rows of a single child at optional positions.
-use Rattle.std.proofs.Common.{◌≡◌, ◌<◌, ◌+◌, ◌-◌, ℕ, ℤ, pos, negsuc, Bool, true, false, All, List, [], ◌∷◌, ◌++◌, length, map, get_or, Option, Some, None, refl, ap, sym, subst, ◌∙◌, arith, Bor}
-use Rattle.std.specs.Prelude.{nat_lt, if◌then◌else◌, not, IfSome}
-use Rattle.std.specs.Option.{option_map, option_copied, is_some, is_none}
-use Rattle.std.specs.List.{range_with_len}
-use Rattle.std.proofs.lemmas.Bool.{ltb-true}
-use Rattle.std.proofs.lemmas.List.{length-map, map-append, get_or-map}
-use Rattle.std.proofs.lemmas.List.FromFn.{length-map-range_with_len, get_or-map-range_with_len, map-range_with_len_more}
-use Rattle.sel_bits.specs.Place.{place}
-use Rattle.sel_arrow.specs.Value.{Value, Null}
-use Rattle.sel_gather.specs.Picks.{pick, PickFits}
-use Rattle.sel_gather.specs.Plans.{IsPicked}
-use Rattle.polars_compute.specs.Elements.{element_at, child_pick}
+use Rattle.polars_compute.proofs.Common.{◌≡◌, ◌<◌, ◌+◌, ◌-◌, ℕ, ℤ, pos, negsuc, Bool, true, false, All, List, [], ◌∷◌, ◌++◌, length, map, get_or, Option, Some, None}
+use Rattle.polars_compute.proofs.Common.{refl, ap, sym, subst, ◌∙◌, arith, Bor, nat_lt, if◌then◌else◌, not, IfSome, range_with_len, ltb-true, length-map, map-append}
+use Rattle.polars_compute.proofs.Common.{get_or-map, length-map-range_with_len, get_or-map-range_with_len, map-range_with_len_more, place, Value, Null, pick, PickFits}
+use Rattle.polars_compute.proofs.Common.{IsPicked, element_at, child_pick, option_map, option_copied, is_some, is_none}
 
 -- ---- a loop over positions
 

@@ -1,25 +1,12 @@
 -- The blocks that a mask selects, and the values in them.
-use Rattle.std.proofs.Common.{◌≡◌, ℕ, zero, suc, ◌+◌, ◌-◌, ◌*◌, ◌≤◌, ◌<◌, Bool, true, false, List, [], ◌∷◌, ◌++◌, length, take, drop, map, get_or, Option, Box, Global, refl, ap, sym, ◌∙◌, subst, arith, length-append}
-use Rattle.std.specs.List.{flat_map, slice_range}
-use Rattle.std.specs.Simd.{first_chunks}
-use Rattle.std.specs.Option.{option_map}
-use Rattle.std.proofs.Math.Nat.{suc-mul}
-use Rattle.std.proofs.Math.Seq.{take-append_seam, drop-append-add}
-use Rattle.std.proofs.lemmas.List.{drop-drop, drop-map, ext_get_or, length-drop, length-map, length-take, map-append, take-map}
-use Rattle.std.proofs.lemmas.List.FromFn.{get_or-map-range_with_len}
-use Rattle.std.proofs.lemmas.Nat.{mul-le}
-use Rattle.sel_bits.specs.Bits.{Bits, count_true}
-use Rattle.sel_arrow.specs.Masked.{Covers}
-use Rattle.sel_arrow.specs.Nested.{blocks, block_rows, list_of}
-use Rattle.sel_arrow.specs.Rows.{rows, row_count, type_of, well_formed}
-use Rattle.sel_arrow.specs.Shape.{of_fixed_size_list}
-use Rattle.sel_arrow.specs.Value.{Value}
-use Rattle.sel_arrow.specs.declared.column.Column.{Column, FixedSizeList}
-use Rattle.sel_arrow.specs.declared.column.Column.TheVariants.{FixedSizeList'}
-use Rattle.sel_arrow.proofs.NestedRows.{HasBlocks, has_blocks, blocks_formed, length-blocks, length-rows}
-use Rattle.sel_filter.proofs.Selects.{few_kept, length-select}
+use Rattle.polars_compute.proofs.Common.{◌≡◌, ℕ, zero, suc, ◌+◌, ◌-◌, ◌*◌, ◌≤◌, ◌<◌, Bool, true, false, List, [], ◌∷◌, ◌++◌, length, take, drop, map, get_or, Option, Box}
+use Rattle.polars_compute.proofs.Common.{Global, refl, ap, sym, ◌∙◌, subst, arith, length-append, first_chunks, take-append_seam, drop-append-add, drop-drop, drop-map}
+use Rattle.polars_compute.proofs.Common.{ext_get_or, length-drop, length-map, length-take, map-append, take-map, get_or-map-range_with_len, mul-le, Bits, count_true}
+use Rattle.polars_compute.proofs.Common.{Covers, blocks, block_rows, list_of, rows, row_count, type_of, well_formed, of_fixed_size_list, Value, Column, FixedSizeList}
+use Rattle.polars_compute.proofs.Common.{FixedSizeList', HasBlocks, has_blocks, length-blocks, length-rows, few_kept, length-select, select, flat_map, slice_range}
+use Rattle.polars_compute.proofs.Common.{option_map, suc-mul}
+use Rattle.sel_arrow.proofs.NestedRows.{blocks_formed}
 use Rattle.polars_compute.specs.FixedSizeLists.{IsFixedSizeList}
-use Rattle.polars_compute.specs.Select.{select}
 use Rattle.polars_compute.proofs.Selects.{kept_covers, kept_rows, select-map}
 
 -- ---- blocks as consecutive chunks
@@ -40,14 +27,17 @@ get_chunk w (suc n) xs (suc k) h =
     let place : w + k * w ≡ suc k * w = omega (arith, suc-mul k w) in
     get_chunk w n (drop w xs) k (omega (arith, h)) ∙ ap (take w) (drop-drop (k * w) w xs ∙ ap (λ p. drop p xs) place)
 
+pub at_block : {A : Type 0} (size n : ℕ) (xs : List A) (k : ℕ) (d : List A) → k < n → get_or (blocks size n xs) k d ≡ take size (drop (k * size) xs)
+at_block size n xs k d h =
+    let width : (k * size + size) - k * size ≡ size = omega arith in
+    get_or-map-range_with_len (λ i. slice_range xs (i * size) (i * size + size)) 0 n k k d h (omega arith) ∙ ap (λ m. take m (drop (k * size) xs)) width
+
 pub chunks_are : {A : Type 0} (w n : ℕ) (xs : List A) → first_chunks w n xs ≡ blocks w n xs
 chunks_are w n xs =
     ext_get_or [] (first_chunks w n xs) (blocks w n xs) (length-chunks w n xs ∙ sym (length-blocks w n xs))
     (λ k h.
     let below : k < n = omega (arith, h, length-chunks w n xs) in
-    let width : (k * w + w) - k * w ≡ w = omega arith in
-    get_chunk w n xs k below
-    ∙ sym (get_or-map-range_with_len (λ i. slice_range xs (i * w) (i * w + w)) 0 n k k [] below (omega arith) ∙ ap (λ m. take m (drop (k * w) xs)) width))
+    get_chunk w n xs k below ∙ sym (at_block w n xs k [] below))
 
 mapped_chunks : {A B : Type 0} (f : A → B) (w n : ℕ) (xs : List A) → first_chunks w n (map f xs) ≡ map (map f) (first_chunks w n xs)
 mapped_chunks f w zero xs = refl
@@ -70,10 +60,9 @@ chunks_wide w (suc n) xs long =
     (omega (arith, length-take w xs, long, suc-mul n w), chunks_wide w n (drop w xs) (omega (arith, length-drop w xs, long, suc-mul n w)))
 
 select_wide : {A : Type 0} (w : ℕ) (xss : List (List A)) (ms : List Bool) → AllWide w xss → AllWide w (select xss ms)
-select_wide w [] ms wide = tt
-select_wide w (xs ∷ xss) [] wide = tt
 select_wide w (xs ∷ xss) (true ∷ ms) wide = (wide.0, select_wide w xss ms wide.1)
 select_wide w (xs ∷ xss) (false ∷ ms) wide = select_wide w xss ms wide.1
+select_wide w xss ms wide = tt
 
 mapped_wide : {A B : Type 0} (f : A → B) (w : ℕ) (xss : List (List A)) → AllWide w xss → AllWide w (map (map f) xss)
 mapped_wide f w [] wide = tt

@@ -1,36 +1,20 @@
 -- Horizontal flatten: the entries of each row, the row width, and the runs of row references.
-use Rattle.std.proofs.Common.{◌≡◌, ◌⊎◌, inl, inr, ℕ, zero, suc, ◌+◌, ◌*◌, ◌<◌, ◌≤◌, Bool, true, false, ◌&&◌, ◌||◌, ◌==◌, nat_lt, All, Bor, List, [], ◌∷◌, ◌++◌, length, take, drop, map, refl, sym, ap, subst, ◌∙◌, arith, get_or, drop-cons, length-append, Some, zero-add, add-one}
-use Rattle.std.specs.List.{flat_map, range_with_len}
-use Rattle.std.specs.Prelude.{if◌then◌else◌}
-use Rattle.std.proofs.lemmas.Bool.{ltb-true, eqb-true, eq-eqb}
-use Rattle.std.proofs.lemmas.Grind.{flat_map-append}
-use Rattle.std.proofs.lemmas.List.{append-nil, take_all, length-map, get_or-map}
-use Rattle.std.proofs.lemmas.List.Elements.{All-map}
-use Rattle.std.proofs.lemmas.Simd.{map-map}
-use Rattle.std.proofs.lemmas.Nat.{mul-le}
-use Rattle.sel_arrow.specs.Rows.{rows, type_of, IsWellFormed}
-use Rattle.sel_arrow.specs.declared.array_ref.ArrayRef.{ArrayRef}
-use Rattle.sel_arrow.specs.declared.column.Column.{Column}
-use Rattle.sel_arrow.specs.Value.{Null}
-use Rattle.sel_gather.specs.Picks.{pick}
-use Rattle.sel_gather.specs.Runs.{unrolled}
-use Rattle.sel_gather.specs.Sources.{first_type}
-use Rattle.sel_gather.specs.declared.runs.Run.{Run}
-use Rattle.sel_gather.proofs.RunLists.{pick_run}
-use Rattle.sel_arrow.proofs.Lists.{and_first, and_second}
-use Rattle.sel_arrow.proofs.Rows.{length-part}
-use Rattle.polars_compute.specs.Flatten.{flatten, flat_row, row_part, part_fits, parts_fit}
-use Rattle.polars_compute.specs.Widths.{row_width}
+use Rattle.polars_compute.proofs.Common.{◌≡◌, ◌⊎◌, inl, inr, ℕ, zero, suc, ◌+◌, ◌*◌, ◌<◌, ◌≤◌, Bool, true, false, ◌&&◌, ◌||◌, ◌==◌, nat_lt, All, Bor, List, [], ◌∷◌, ◌++◌}
+use Rattle.polars_compute.proofs.Common.{length, take, drop, map, refl, sym, ap, subst, ◌∙◌, arith, get_or, drop-cons, length-append, zero-add, add-one, range_with_len}
+use Rattle.polars_compute.proofs.Common.{if◌then◌else◌, ltb-true, eqb-true, eq-eqb, flat_map-append, append-nil, take_all, length-map, get_or-map, All-map, map-map}
+use Rattle.polars_compute.proofs.Common.{mul-le, rows, type_of, ArrayRef, Column, first_type, and_first, and_second, length-part, flatten, flat_row, row_part, part_fits}
+use Rattle.polars_compute.proofs.Common.{parts_fit, row_width, true≢false, flat_map}
+use Rattle.sel_arrow.specs.Rows.{IsWellFormed}
+use Rattle.std.proofs.lemmas.Bool.{false_from_ne_true}
 
 -- ---- lists that fit their widths
 
 -- There is a width for each list.
 pub widths_long : {A : Type 0} (h : ℕ) (xss : List (List A)) (ws : List ℕ) → parts_fit h xss ws ≡ true → length xss ≡ length ws
 widths_long h [] [] fit = refl
-widths_long h [] (w ∷ ws) fit = absurd cc
-widths_long h (xs ∷ xss) [] fit = absurd cc
 widths_long h (xs ∷ xss) (w ∷ ws) fit =
     ap suc (widths_long h xss ws (and_second (part_fits h (length xs) w) (parts_fit h xss ws) fit))
+widths_long h xss ws fit = absurd cc
 
 -- There are w entries for each of h rows, or for a single row, and w is not 0.
 abbrev pub Parts : ℕ → ℕ → ℕ → Type 0
@@ -42,8 +26,6 @@ either false b P Q p q h = inr (q h)
 
 pub part_at : {A : Type 0} (h : ℕ) (xss : List (List A)) (ws : List ℕ) (s : ℕ) → parts_fit h xss ws ≡ true → s < length ws → Parts h (length (get_or xss s [])) (get_or ws s 0)
 part_at h [] [] s fit inside = absurd (omega (arith, inside))
-part_at h [] (w ∷ ws) s fit inside = absurd cc
-part_at h (xs ∷ xss) [] s fit inside = absurd cc
 part_at h (xs ∷ xss) (w ∷ ws) zero fit inside =
     let one = and_first (part_fits h (length xs) w) (parts_fit h xss ws) fit in (
       ltb-true 0 w (and_first (nat_lt 0 w) ((length xs == w * h) || (length xs == w)) one),
@@ -51,28 +33,26 @@ part_at h (xs ∷ xss) (w ∷ ws) zero fit inside =
     )
 part_at h (xs ∷ xss) (w ∷ ws) (suc s) fit inside =
     part_at h xss ws s (and_second (part_fits h (length xs) w) (parts_fit h xss ws) fit) (omega (arith, inside))
+part_at h xss ws s fit inside = absurd cc
 
 -- One list, and the others.
 pub fit_from : {A : Type 0} (h : ℕ) (xss : List (List A)) (ws : List ℕ) (s : ℕ) → s < length xss → s < length ws →
     parts_fit h (drop s xss) (drop s ws) ≡ (part_fits h (length (get_or xss s [])) (get_or ws s 0) && parts_fit h (drop (s + 1) xss) (drop (s + 1) ws))
 fit_from h xss ws s there here = rw (add-one, drop-cons xss s [] there, drop-cons ws s 0 here) refl
 
+pub rows_at : (arrays : List ArrayRef) (s : ℕ) (a : ArrayRef) → s < length arrays → a ≡ get_or arrays s a → get_or (map (λ x. rows x.column) arrays) s [] ≡ rows a.column
+rows_at arrays s a inside is = get_or-map (λ (x : ArrayRef). rows x.column) arrays s a [] inside ∙ ap (λ (x : ArrayRef). rows x.column) (sym is)
+
 -- One column, and the others.
 pub one_fits : (h : ℕ) (arrays : List ArrayRef) (ws : List ℕ) (s : ℕ) (a : ArrayRef) (n : ℕ) → length arrays ≡ length ws → s < length ws → a ≡ get_or arrays s a → n ≡ length (rows a.column) →
     parts_fit h (drop s (map (λ a. rows a.column) arrays)) (drop s ws) ≡ (part_fits h n (get_or ws s 0) && parts_fit h (drop (s + 1) (map (λ a. rows a.column) arrays)) (drop (s + 1) ws))
 one_fits h arrays ws s a n paired inside is long =
     let there : s < length arrays = omega (arith, paired, inside) in
-    fit_from h (map (λ (x : ArrayRef). rows x.column) arrays) ws s (rw length-map there) inside
-    ∙ ap (λ l. part_fits h (length l) (get_or ws s 0) && parts_fit h (drop (s + 1) (map (λ (x : ArrayRef). rows x.column) arrays)) (drop (s + 1) ws)) (get_or-map (λ (x : ArrayRef). rows x.column) arrays s a [] there ∙ ap (λ (x : ArrayRef). rows x.column) (sym is))
-    ∙ ap (λ k. part_fits h k (get_or ws s 0) && parts_fit h (drop (s + 1) (map (λ (x : ArrayRef). rows x.column) arrays)) (drop (s + 1) ws)) (sym long)
+    rw (long, ← rows_at arrays s a there is) (fit_from h (map (λ (x : ArrayRef). rows x.column) arrays) ws s (rw length-map there) inside)
 
 -- Lists do not fit if their number differs from that of the widths.
 pub unpaired : {A : Type 0} (h : ℕ) (xss : List (List A)) (ws : List ℕ) → (length xss ≡ length ws → ⊥) → false ≡ parts_fit h xss ws
-unpaired h xss ws other = no_fit (parts_fit h xss ws) (λ fit. other (widths_long h xss ws fit))
-  where
-    no_fit : (b : Bool) → (b ≡ true → ⊥) → false ≡ b
-    no_fit true never = absurd (never refl)
-    no_fit false never = refl
+unpaired h xss ws other = sym (false_from_ne_true (parts_fit h xss ws) (λ fit. other (widths_long h xss ws fit)))
 
 -- ---- widths
 
@@ -92,12 +72,11 @@ width_room (w ∷ ws) (suc s) inside = let e = width_room ws s (omega (arith, in
 -- There are no more widths than entries in a row.
 pub width_count : {A : Type 0} (h : ℕ) (xss : List (List A)) (ws : List ℕ) → parts_fit h xss ws ≡ true → length ws ≤ row_width ws
 width_count h [] [] fit = omega arith
-width_count h [] (w ∷ ws) fit = absurd cc
-width_count h (xs ∷ xss) [] fit = absurd cc
 width_count h (xs ∷ xss) (w ∷ ws) fit =
     let some = (part_at h (xs ∷ xss) (w ∷ ws) 0 fit (omega arith)).0 in
     let e = width_count h xss ws (and_second (part_fits h (length xs) w) (parts_fit h xss ws) fit) in
     omega (arith, e, some)
+width_count h xss ws fit = absurd cc
 
 -- ---- all rows
 
@@ -126,10 +105,7 @@ row_inside r h n w inside long =
 -- A list that is not as long as its width has w entries for each row.
 pub many_of : (h n w : ℕ) → ((n ≡ w * h) ⊎ (n ≡ w)) → (n == w) ≡ false → n ≡ w * h
 many_of h n w (inl e) other = e
-many_of h n w (inr e) other = absurd (true_false (sym (eq-eqb n w e) ∙ other))
-  where
-    true_false : true ≡ false → ⊥
-    true_false h = cc
+many_of h n w (inr e) other = absurd (true≢false (sym (eq-eqb n w e) ∙ other))
 
 pub part_length : {A : Type 0} (r h : ℕ) (xs : List A) (w : ℕ) → r < h → Parts h (length xs) w → length (row_part r xs w) ≡ w
 part_length r h xs w inside fit = by_length (length xs == w) refl
@@ -140,13 +116,12 @@ part_length r h xs w inside fit = by_length (length xs == w) refl
 
 pub row_length : {A : Type 0} (r h : ℕ) (xss : List (List A)) (ws : List ℕ) → r < h → parts_fit h xss ws ≡ true → length (flat_row r xss ws) ≡ row_width ws
 row_length r h [] [] inside fit = refl
-row_length r h [] (w ∷ ws) inside fit = absurd cc
-row_length r h (xs ∷ xss) [] inside fit = absurd cc
 row_length r h (xs ∷ xss) (w ∷ ws) inside fit =
     let one = part_length r h xs w inside (part_at h (xs ∷ xss) (w ∷ ws) 0 fit (omega arith)) in
     let more = row_length r h xss ws inside (and_second (part_fits h (length xs) w) (parts_fit h xss ws) fit) in
     let both = length-append (row_part r xs w) (flat_row r xss ws) in
     omega (arith, one, more, both)
+row_length r h xss ws inside fit = absurd cc
 
 pub flat_length : {A : Type 0} (h n : ℕ) (xss : List (List A)) (ws : List ℕ) → n ≤ h → parts_fit h xss ws ≡ true → length (flatten xss ws n) ≡ n * row_width ws
 flat_length h zero xss ws inside fit = let none : 0 ≡ 0 * row_width ws = omega arith in none
@@ -188,22 +163,3 @@ as_sources cs arrays same some alike = record {
   formed = all_found IsWellFormed cs arrays same (λ k d below. (get_or arrays k d).formed);
   rows = sym (map-map rows (λ (c : Bor Column). c.now) cs) ∙ ap (map rows) same ∙ map-map rows (λ (a : ArrayRef). a.column) arrays;
 }
-
--- ---- one more part
-
-pub rows_at : (arrays : List ArrayRef) (s : ℕ) (a : ArrayRef) → s < length arrays → a ≡ get_or arrays s a → get_or (map (λ x. rows x.column) arrays) s [] ≡ rows a.column
-rows_at arrays s a inside is = get_or-map (λ (x : ArrayRef). rows x.column) arrays s a [] inside ∙ ap (λ (x : ArrayRef). rows x.column) (sym is)
-
--- The rows of the run of a part, which are in bounds.
-pub part_picked : (arrays : List ArrayRef) (s : ℕ) (a : ArrayRef) (run : Run) (r w : ℕ) → s < length arrays → a ≡ get_or arrays s a → run.source ≡ Some s → run.start + run.len ≤ length (rows a.column) →
-    take run.len (drop run.start (rows a.column)) ≡ row_part r (rows a.column) w → pick Null (map (λ x. rows x.column) arrays) (unrolled run) ≡ row_part r (get_or (map (λ x. rows x.column) arrays) s []) w
-part_picked arrays s a run r w inside is source within part =
-    let xs = rows_at arrays s a inside is in
-    pick_run Null (map (λ (x : ArrayRef). rows x.column) arrays) run s source (rw xs within) ∙ ap (λ l. take run.len (drop run.start l)) xs ∙ part ∙ ap (λ l. row_part r l w) (sym xs)
-
-rest_fits : {A : Type 0} (h : ℕ) (xss : List (List A)) (ws : List ℕ) (s : ℕ) → parts_fit h xss ws ≡ true → parts_fit h (drop s xss) (drop s ws) ≡ true
-rest_fits h xss ws zero fit = fit
-rest_fits h [] [] (suc s) fit = refl
-rest_fits h [] (w ∷ ws) (suc s) fit = absurd cc
-rest_fits h (xs ∷ xss) [] (suc s) fit = absurd cc
-rest_fits h (xs ∷ xss) (w ∷ ws) (suc s) fit = rest_fits h xss ws s (and_second (part_fits h (length xs) w) (parts_fit h xss ws) fit)

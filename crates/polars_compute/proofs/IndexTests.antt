@@ -1,14 +1,7 @@
 -- Indices in bounds.
-use Rattle.std.proofs.Common.{◌≡◌, ◌<◌, ◌∙◌, ℕ, ℤ, suc, pos, Bool, true, false, List, [], ◌∷◌, length, map, get_or, Option, refl, ap, sym, arith}
-use Rattle.std.proofs.lemmas.List.{length-map, get_or-map}
-use Rattle.std.proofs.lemmas.Bool.{lt-ltb}
-use Rattle.std.proofs.lemmas.List.Folds.{list_all-map}
-use Rattle.sel_bits.specs.Limits.{max_rows}
-use Rattle.sel_bits.specs.Bits.{Bits}
-use Rattle.sel_arrow.specs.Value.{Value, Null, Number}
-use Rattle.sel_arrow.specs.Masked.{masked, number_rows, Covers, valid_at}
-use Rattle.sel_arrow.proofs.Rows.{masked_null, masked_valid}
-use Rattle.polars_compute.specs.Pick.{is_within, all_below, all_within}
+use Rattle.polars_compute.proofs.Common.{◌≡◌, ◌<◌, ◌∙◌, ℕ, ℤ, suc, pos, Bool, true, false, List, [], ◌∷◌, length, map, get_or, Option, refl, ap, sym, arith, length-map}
+use Rattle.polars_compute.proofs.Common.{get_or-map, lt-ltb, list_all-map, max_rows, Bits, Value, Null, Number, masked, number_rows, Covers, valid_at, masked_null}
+use Rattle.polars_compute.proofs.Common.{masked_valid, is_within, all_below, all_within}
 
 by_validity : (b : Bool) (validity : Option Bits) (vs : List Value) (k n : ℕ) → valid_at validity k ≡ b → k < length vs → Covers validity (length vs)
     → is_within n (get_or vs k Null) ≡ true → is_within n (get_or (masked validity vs) k Null) ≡ true

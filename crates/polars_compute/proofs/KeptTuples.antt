@@ -1,20 +1,10 @@
 -- Filtered struct rows, field by field.
-use Rattle.std.proofs.Common.{◌≡◌, ℕ, ◌<◌, Bool, true, List, [], ◌∷◌, length, map, get_or, Option, All, Vec, Global, refl, ap, sym, subst, ◌∙◌, arith}
-use Rattle.std.specs.List.{range_with_len}
-use Rattle.std.specs.Option.{option_map}
-use Rattle.std.proofs.lemmas.List.{get_or-map}
-use Rattle.std.proofs.lemmas.List.Elements.{All-nil, All-cons, All-head, All-tail}
-use Rattle.std.proofs.lemmas.List.FromFn.{length-map-range_with_len, get_or-map-range_with_len, fill_by_all}
-use Rattle.sel_bits.specs.Bits.{Bits, count_true}
-use Rattle.sel_arrow.specs.Masked.{masked, Covers}
-use Rattle.sel_arrow.specs.Nested.{struct_at, struct_rows}
-use Rattle.sel_arrow.specs.Rows.{rows, well_formed, IsField}
-use Rattle.sel_arrow.specs.Value.{Value, Null, Tuple, values_of}
-use Rattle.sel_arrow.specs.declared.column.Column.{Column, Struct}
-use Rattle.sel_arrow.proofs.NestedRows.{length-rows}
-use Rattle.sel_arrow.proofs.Trees.{rows-Struct, has_fields, fields_make}
-use Rattle.sel_filter.proofs.Selects.{few_kept, length-select}
-use Rattle.polars_compute.specs.Select.{select, kept}
+use Rattle.polars_compute.proofs.Common.{map-map, ◌≡◌, ℕ, ◌<◌, Bool, true, List, [], ◌∷◌, length, map, get_or, Option, All, Vec, Global, refl, ap, sym, subst, ◌∙◌, arith}
+use Rattle.polars_compute.proofs.Common.{range_with_len, get_or-map, All-nil, All-cons, All-head, All-tail, length-map-range_with_len, get_or-map-range_with_len}
+use Rattle.polars_compute.proofs.Common.{fill_by_all, Bits, count_true, masked, Covers, struct_at, rows, well_formed, IsField, Value, Null, Column, Struct, length-rows}
+use Rattle.polars_compute.proofs.Common.{rows-Struct, has_fields, fields_make, few_kept, length-select, select, kept, option_map}
+use Rattle.sel_arrow.specs.Nested.{struct_rows}
+use Rattle.sel_arrow.specs.Value.{Tuple, values_of}
 use Rattle.polars_compute.proofs.KeptRuns.{count_kept}
 use Rattle.polars_compute.proofs.Places.{selected, kept_below}
 use Rattle.polars_compute.proofs.Selects.{select-masked, kept_covers}
@@ -72,13 +62,9 @@ pub kept_struct_rows : (n count : ℕ) (fields parts : Vec Column Global) (valid
 kept_struct_rows n count fields parts validity seen ms formed long counts made is =
     let has = has_fields n fields validity formed in
     rows-Struct count parts seen
-    ∙ ap (λ fs. struct_rows count fs seen) (made ∙ twice fields.items)
+    ∙ ap (λ fs. struct_rows count fs seen) (made ∙ sym (map-map (λ f. select f ms) rows fields.items))
     ∙ kept_tuples (map rows fields.items) n count validity seen ms long counts (field_lengths n ms fields.items long has.fields) has.covered is
     ∙ ap (λ vs. select vs ms) (sym (rows-Struct n fields validity))
-  where
-    twice : (cs : List Column) → map (kept_of ms) cs ≡ map (λ f. select f ms) (map rows cs)
-    twice [] = refl
-    twice (c ∷ cs) = ap (λ rest. kept_of ms c ∷ rest) (twice cs)
 
 pub kept_struct_formed : (n count : ℕ) (fields parts : Vec Column Global) (validity seen : Option Bits) (ms : List Bool) → well_formed (Struct n fields validity) ≡ true → n ≡ length ms → count ≡ count_true ms
     → All (IsField (count_true ms)) parts.items → option_map (λ v. v.bits) seen ≡ option_map (λ v. select v.bits ms) validity → well_formed (Struct count parts seen) ≡ true

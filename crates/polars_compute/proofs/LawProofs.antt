@@ -1,32 +1,22 @@
 -- The laws that relate filters, takes and if-then-else.
-use Rattle.std.proofs.Common.{◌≡◌, ℕ, zero, suc, pos, negsuc, true, false, List, [], ◌∷◌, map, get_or, Option, Some, None, refl, ap, sym, ◌∙◌, arith}
-use Rattle.std.specs.Prelude.{slice_get, option_and_then}
-use Rattle.std.proofs.lemmas.List.{length-map}
-use Rattle.sel_arrow.specs.Value.{Value, Null, Truth, Number, Bytes, Items, Tuple}
-use Rattle.polars_compute.specs.Select.{effective_mask, is_true, kept}
-use Rattle.polars_compute.specs.Pick.{found, pick, pick_of, place_pick}
+use Rattle.polars_compute.proofs.Common.{◌≡◌, ℕ, zero, suc, pos, true, false, List, [], ◌∷◌, map, get_or, Option, Some, None, refl, ap, sym, ◌∙◌, arith, slice_get}
+use Rattle.polars_compute.proofs.Common.{option_and_then, length-map, Value, Null, Number, effective_mask, is_true, kept, found, pick, pick_of, place_pick, map-map}
 use Rattle.polars_compute.specs.Laws.{composed, source_pick, SelectedRowsAreTaken, FilterIsTake, TakesCompose, KeepsThen, KeepsOtherwise}
 use Rattle.polars_compute.proofs.Places.{selected}
 
 -- ---- filters and takes
 
-at_places : {A : Type 0} → (d : A) (xs : List A) (places : List ℕ) → map (λ i. get_or xs i d) places ≡ pick d (xs ∷ []) (map place_pick places)
-at_places d xs [] = refl
-at_places d xs (place ∷ places) = ap (λ l. get_or xs place d ∷ l) (at_places d xs places)
-
 pub filter_is_take : (A : Type 0) → FilterIsTake A
-filter_is_take A d xs ms long = selected xs ms d long ∙ at_places d xs (kept ms)
+filter_is_take A d xs ms long = selected xs ms d long ∙ sym (map-map (found d (xs ∷ [])) place_pick (kept ms))
 
 -- Entry i of a gather is the entry at row reference i.
 picked_at : {A : Type 0} → (d : A) (xss : List (List A)) (ps : List (Option (ℕ × ℕ))) (i : ℕ) → get_or (pick d xss ps) i d ≡ found d xss (get_or ps i None)
-picked_at d xss [] i = refl
-picked_at d xss (p ∷ ps) zero = refl
 picked_at d xss (p ∷ ps) (suc i) = picked_at d xss ps i
+picked_at d xss ps i = refl
 
 found_again : {A : Type 0} → (d : A) (xss : List (List A)) (ps : List (Option (ℕ × ℕ))) (q : Option (ℕ × ℕ)) → found d (pick d xss ps ∷ []) q ≡ found d xss (found None (ps ∷ []) q)
-found_again d xss ps None = refl
 found_again d xss ps (Some (zero, i)) = picked_at d xss ps i
-found_again d xss ps (Some (suc s, i)) = refl
+found_again d xss ps q = refl
 
 pub takes_compose : (A : Type 0) → TakesCompose A
 takes_compose A d xss ps [] = refl
@@ -34,18 +24,12 @@ takes_compose A d xss ps (q ∷ qs) = (λ i. found_again d xss ps q i ∷ takes_
 
 -- A selected position as a row reference.
 place_at : (places : List ℕ) (i : ℕ) → get_or (map place_pick places) i None ≡ option_and_then place_pick (slice_get places i)
-place_at [] i = refl
-place_at (place ∷ places) zero = refl
 place_at (place ∷ places) (suc i) = place_at places i
+place_at places i = refl
 
 source_of : (places : List ℕ) (index : Value) → found None (map place_pick places ∷ []) (pick_of index) ≡ source_pick places index
 source_of places (Number (pos i)) = place_at places i
-source_of places (Number (negsuc i)) = refl
-source_of places Null = refl
-source_of places (Truth b) = refl
-source_of places (Bytes bytes) = refl
-source_of places (Items items) = refl
-source_of places (Tuple parts) = refl
+source_of places index = refl
 
 sources_of : (places : List ℕ) (indices : List Value) → composed (map place_pick places) (map pick_of indices) ≡ map (source_pick places) indices
 sources_of places [] = refl

@@ -3,6 +3,7 @@ pub mod BlockTakes
 pub mod BlockTests
 pub mod Blocks
 pub mod Collects
+pub mod Common
 pub mod Dictionaries
 pub mod EntryPlaces
 pub mod FilteredBlocks
@@ -26,4 +27,3 @@ pub mod TakenStructs
 pub mod Takes
 pub mod Units
 pub mod Weaving
-pub mod Withins

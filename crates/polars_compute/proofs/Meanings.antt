@@ -1,32 +1,17 @@
 -- The needs of columns with the same meaning, of filtered rows, and of the rows of a well-formed
 -- column.
-use Rattle.std.proofs.Common.{◌≡◌, ◌⊎◌, inl, inr, ℕ, ◌+◌, ◌≤◌, ◌<◌, pos, Bool, true, false, List, [], ◌∷◌, ◌++◌, length, map, replicate, refl, ap, sym, subst, ◌∙◌, arith, ◌<ℤ◌}
-use Rattle.std.proofs.lemmas.Bool.{cases_lt}
-use Rattle.std.proofs.lemmas.Int.{ints}
-use Rattle.std.proofs.lemmas.List.{length-map}
-use Rattle.sel_bits.specs.Limits.{max_rows}
-use Rattle.sel_bits.specs.declared.faults.Limit.{Limit}
-use Rattle.sel_bits.specs.declared.faults.Limit.TheVariants.{Rows as RowLimit, Bytes as ByteLimit}
-use Rattle.sel_bits.specs.declared.faults.Limit.TheVariants.{Buffers as BufferLimit, ViewBytes as ViewLimit}
-use Rattle.sel_arrow.specs.Nested.{list_of}
-use Rattle.sel_arrow.specs.Rows.{rows, type_of, well_formed}
-use Rattle.sel_arrow.specs.Shape.{Shape, Shapes, no_shapes, next_shape, of_large_binary, of_large_list, of_fixed_size_list, of_struct}
-use Rattle.sel_arrow.specs.Value.{Value, Null}
-use Rattle.sel_arrow.specs.declared.column.Column.{Column}
-use Rattle.sel_arrow.proofs.NestedRows.{length-rows}
+use Rattle.polars_compute.proofs.Common.{◌≡◌, ◌⊎◌, inl, inr, ℕ, ◌+◌, ◌≤◌, ◌<◌, pos, Bool, true, false, List, [], ◌∷◌, ◌++◌, length, map, replicate, refl, ap, sym, subst}
+use Rattle.polars_compute.proofs.Common.{◌∙◌, arith, ◌<ℤ◌, cases_lt, ints, length-map, max_rows, Limit, ByteLimit, list_of, rows, type_of, well_formed, Shape, Shapes}
+use Rattle.polars_compute.proofs.Common.{no_shapes, next_shape, of_large_binary, of_large_list, of_fixed_size_list, of_struct, Value, Null, Column, length-rows, flatten}
+use Rattle.polars_compute.proofs.Common.{items_in, joined_items, part_at, few_rows, fixed_get, list_get, oob, decode, propagated_keys, rank, valid_values, bytes_needed}
+use Rattle.polars_compute.proofs.Common.{ExceedsBytes, exceeded_limits, exceeded_in_parts, so_many_rows, so_many_bytes, need, need_of_parts, NoneAbove, pick, select}
+use Rattle.polars_compute.proofs.Common.{effective_mask, few_kept, few_rows_pass}
+use Rattle.sel_bits.specs.declared.faults.Limit.TheVariants.{Rows as RowLimit}
 use Rattle.sel_ternary.specs.Choose.{choose, broadcast_true, broadcast_false, broadcast_both}
-use Rattle.polars_compute.specs.Flatten.{flatten}
-use Rattle.sel_gather.specs.Children.{items_in, joined_items, part_at}
-use Rattle.sel_gather.proofs.ListParts.{few_rows}
 use Rattle.sel_gather.proofs.Thinned.{whole_fits}
-use Rattle.polars_compute.specs.Entries.{fixed_get, any_out_of_bounds}
-use Rattle.polars_compute.specs.Lists.{list_get, oob}
-use Rattle.polars_compute.specs.Dictionary.{decode, propagated_keys, rank, valid_values}
+use Rattle.polars_compute.specs.Entries.{any_out_of_bounds}
 use Rattle.polars_compute.specs.Meaning.{MeansTheSame, Alike, NeedsDecideLimits}
-use Rattle.polars_compute.specs.Need.{bytes_needed, ExceedsBytes, ExceedsRows, exceeded_limits, exceeded_in_parts, Needed, so_many_rows, so_many_bytes, need, need_of_parts, NoneGreater, NoneAbove}
-use Rattle.polars_compute.specs.Pick.{pick}
-use Rattle.polars_compute.specs.Select.{select, effective_mask}
-use Rattle.sel_filter.proofs.Selects.{few_kept}
+use Rattle.polars_compute.specs.Need.{Needed, NoneGreater}
 use Rattle.polars_compute.proofs.Selects.{select-map}
 
 -- ---- columns with the same type and the same rows
@@ -85,20 +70,15 @@ items_kept w (v ∷ vs) (true ∷ ms) = ap (λ l. items_in w v ++ l) (items_kept
 items_kept w (v ∷ vs) (false ∷ ms) = items_kept w vs ms ∙ sym (select_behind (items_in w v) (joined_items w vs) (spread w vs ms))
 
 bytes_kept : (vs : List Value) (ms : List Bool) → bytes_needed (select vs ms) ≤ bytes_needed vs
-bytes_kept [] ms = omega arith
-bytes_kept (v ∷ vs) [] = omega arith
 bytes_kept (v ∷ vs) (true ∷ ms) = let rest = bytes_kept vs ms in omega (arith, rest)
 bytes_kept (v ∷ vs) (false ∷ ms) = let rest = bytes_kept vs ms in omega (arith, rest)
+bytes_kept vs ms = omega arith
 
 greater-append : (ks bs cs ds : List Needed) → NoneGreater ks bs → NoneGreater cs ds → NoneGreater (ks ++ cs) (bs ++ ds)
 greater-append [] [] cs ds h k = k
-greater-append [] (b ∷ bs) cs ds h k = absurd h
-greater-append (so_many_rows m ∷ ks) [] cs ds h k = absurd h
-greater-append (so_many_bytes m ∷ ks) [] cs ds h k = absurd h
 greater-append (so_many_rows m ∷ ks) (so_many_rows n ∷ bs) cs ds h k = (h.0, greater-append ks bs cs ds h.1 k)
-greater-append (so_many_rows m ∷ ks) (so_many_bytes n ∷ bs) cs ds h k = absurd h
-greater-append (so_many_bytes m ∷ ks) (so_many_rows n ∷ bs) cs ds h k = absurd h
 greater-append (so_many_bytes m ∷ ks) (so_many_bytes n ∷ bs) cs ds h k = (h.0, greater-append ks bs cs ds h.1 k)
+greater-append ks bs cs ds h k = absurd h
 
 mutual
   pub kept_needs : (s : Shape) (vs : List Value) (ms : List Bool) → NoneGreater (need s (select vs ms)) (need s vs)
@@ -170,30 +150,19 @@ above-second (so_many_bytes n ∷ ks) bs h = above-second ks bs h.1
 
 rows_few : (s : Shape) (vs : List Value) → NoneAbove (need s vs) → length vs ≤ max_rows
 rows_few of_large_binary vs h = h.0
-rows_few (of_large_list s) vs h = h.0
-rows_few (of_fixed_size_list s w) vs h = h.0
-rows_few (of_struct ss) vs h = h.0
 rows_few s vs h = h.0
 
-not_rows : (n : ℕ) (limit : Limit) → n ≤ max_rows → ExceedsRows n limit → ⊥
-not_rows n RowLimit few e = omega (arith, few, e)
-not_rows n ByteLimit few e = e
-not_rows n BufferLimit few e = e
-not_rows n ViewLimit few e = e
-
 not_bytes : (vs : List Value) (limit : Limit) → bytes_needed vs ≤ 9223372036854775807 → ExceedsBytes (pos 9223372036854775807) vs limit → ⊥
-not_bytes vs RowLimit few e = e
 not_bytes vs ByteLimit few e = omega (ints, arith, few, e)
-not_bytes vs BufferLimit few e = e
-not_bytes vs ViewLimit few e = e
+not_bytes vs limit few e = e
 
 mutual
   -- Rows that need no more than the limits exceed none.
   below : (s : Shape) (vs : List Value) → NoneAbove (need s vs) → (limit : Limit) → exceeded_limits s vs limit → ⊥
   below of_large_binary vs h limit e = not_bytes vs limit h.1.0 e
-  below (of_large_list s) vs h limit (inl e) = not_rows (length (joined_items 0 vs)) limit (rows_few s (joined_items 0 vs) h.1) e
+  below (of_large_list s) vs h limit (inl e) = few_rows_pass (length (joined_items 0 vs)) (rows_few s (joined_items 0 vs) h.1) limit e
   below (of_large_list s) vs h limit (inr e) = below s (joined_items 0 vs) h.1 limit e
-  below (of_fixed_size_list s w) vs h limit (inl e) = not_rows (length (joined_items w vs)) limit (rows_few s (joined_items w vs) h.1) e
+  below (of_fixed_size_list s w) vs h limit (inl e) = few_rows_pass (length (joined_items w vs)) (rows_few s (joined_items w vs) h.1) limit e
   below (of_fixed_size_list s w) vs h limit (inr e) = below s (joined_items w vs) h.1 limit e
   below (of_struct ss) vs h limit e = below_parts ss 0 vs h.1 limit e
   below s vs h limit e = e

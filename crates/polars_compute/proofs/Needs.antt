@@ -1,12 +1,7 @@
 -- Filtered rows need no more than all rows, so they exceed no limit.
-use Rattle.std.proofs.Common.{◌≡◌, Bool, true, false, List, [], ◌∷◌, refl, ap, sym, subst}
-use Rattle.sel_bits.specs.declared.faults.Limit.{Limit}
-use Rattle.sel_arrow.specs.Rows.{rows, type_of, well_formed}
-use Rattle.sel_arrow.specs.Value.{Value}
-use Rattle.sel_arrow.specs.declared.column.Column.{Column}
+use Rattle.polars_compute.proofs.Common.{◌≡◌, Bool, true, false, List, [], ◌∷◌, refl, ap, sym, subst, Limit, rows, type_of, well_formed, Value, Column, exceeded_limits}
+use Rattle.polars_compute.proofs.Common.{select}
 use Rattle.sel_gather.proofs.Thinned.{Mark, skip, keep, draw, draw_none, drawn_fits}
-use Rattle.polars_compute.specs.Need.{exceeded_limits}
-use Rattle.polars_compute.specs.Select.{select}
 
 -- A mask as marks of the rows.
 abbrev marks_of : List Bool → List Mark

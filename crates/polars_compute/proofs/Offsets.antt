@@ -1,27 +1,14 @@
 -- Elements of lists with 64-bit offsets.
-use Rattle.std.proofs.Common.{◌≡◌, ◌<◌, ◌≤◌, ◌+◌, ◌-◌, ℕ, ℤ, pos, Bool, true, false, All, List, [], ◌∷◌, length, map, take, drop, get_or, Option, Some, None, Box, Global, refl, ap, sym, subst, ◌∙◌, arith}
-use Rattle.std.specs.Prelude.{if◌then◌else◌}
-use Rattle.std.specs.List.{list_any, range_with_len}
-use Rattle.std.specs.Option.{option_map, is_none, is_some, unwrap_or}
-use Rattle.std.proofs.lemmas.List.{length-map, length-take, length-drop, get_or-map, get_or-take, get_or-drop}
-use Rattle.std.proofs.lemmas.List.Folds.{list_any_at}
-use Rattle.std.proofs.lemmas.List.FromFn.{fill_by_all}
-use Rattle.sel_bits.specs.Limits.{max_rows}
-use Rattle.sel_bits.specs.Bits.{Bits}
-use Rattle.sel_bits.specs.Place.{place}
-use Rattle.sel_arrow.specs.Masked.{hidden, number_value, valid_at}
-use Rattle.sel_arrow.specs.Pieces.{rows_between}
-use Rattle.sel_arrow.specs.Rows.{rows, well_formed}
-use Rattle.sel_arrow.specs.Value.{Value, Null, Number}
-use Rattle.sel_arrow.specs.declared.column.Column.{Column, LargeList}
-use Rattle.sel_arrow.proofs.NestedRows.{has_lists, length-rows}
-use Rattle.sel_gather.specs.Picks.{pick, PickFits}
-use Rattle.sel_gather.specs.Plans.{IsPicked}
-use Rattle.sel_gather.proofs.ItemRuns.{listed_values}
+use Rattle.polars_compute.proofs.Common.{◌≡◌, ◌<◌, ◌≤◌, ◌+◌, ◌-◌, ℕ, ℤ, pos, Bool, true, false, All, List, [], ◌∷◌, length, map, take, drop, get_or, Option, Some, None}
+use Rattle.polars_compute.proofs.Common.{Box, Global, refl, ap, sym, subst, ◌∙◌, arith, if◌then◌else◌, list_any, range_with_len, length-map, length-take, length-drop}
+use Rattle.polars_compute.proofs.Common.{get_or-map, get_or-take, get_or-drop, list_any_at, fill_by_all, max_rows, Bits, place, hidden, number_value, valid_at}
+use Rattle.polars_compute.proofs.Common.{rows_between, rows, well_formed, Value, Null, Number, Column, LargeList, length-rows, pick, PickFits, IsPicked, listed_values}
+use Rattle.polars_compute.proofs.Common.{element_at, child_pick, list_get, lacks_place, child_place, places_in, map-map, option_map, is_none, is_some, unwrap_or}
+use Rattle.sel_arrow.proofs.NestedRows.{has_lists}
 use Rattle.sel_gather.proofs.ListParts.{list_null, list_row}
-use Rattle.polars_compute.specs.Elements.{element_at, child_pick}
-use Rattle.polars_compute.specs.Lists.{element_of, list_get, lacks_place, child_place, places_in}
+use Rattle.polars_compute.specs.Lists.{element_of}
 use Rattle.polars_compute.proofs.EntryPlaces.{mapped_at, mapped_count, picked, place_below, place_picked, places_fit, PlaceBelow}
+pub use Rattle.std.proofs.lemmas.Simd.{map-map as map_map}
 
 -- An element of a part.
 pub shifted : (ys : List Value) (s n : ℕ) (o : Option ℕ) → PlaceBelow n o → element_at ys (option_map (λ i. s + i) o) ≡ element_at (take n (drop s ys)) o
@@ -37,11 +24,6 @@ pub places_shown : (ps : List (Option ℕ)) → hidden (map is_some ps) (map (λ
 places_shown [] = refl
 places_shown (None ∷ ps) = ap (λ l. Null ∷ l) (places_shown ps)
 places_shown (Some i ∷ ps) = ap (λ l. Number (pos i) ∷ l) (places_shown ps)
-
--- The composition of two maps.
-pub map_map : {A B C : Type 0} (g : B → C) (f : A → B) (xs : List A) → map g (map f xs) ≡ map (λ x. g (f x)) xs
-map_map g f [] = refl
-map_map g f (x ∷ xs) = ap (λ l. g (f x) ∷ l) (map_map g f xs)
 
 module _ (offsets : List ℕ) (values : Box Column Global) (validity : Option Bits) (formed : well_formed (LargeList offsets values validity) ≡ true) (index : ℤ) where
   abbrev column : Column
@@ -104,7 +86,7 @@ module _ (offsets : List ℕ) (values : Box Column Global) (validity : Option Bi
       let ys = rows values.value in
       let n = rows_between offsets in
       let f = child_place offsets validity index in
-      picked ys (places_in offsets validity index) ∙ map_map (element_at ys) f (range_with_len 0 n)
+      picked ys (places_in offsets validity index) ∙ map-map (element_at ys) f (range_with_len 0 n)
       ∙ sym (fill_by_all (λ k. element_at ys (f k)) (list_get (rows column) index) n Null
       (length-map (rows column) (element_of index) ∙ length-rows column)
       (λ k h. get_or-map (element_of index) (rows column) k Null Null (inside_rows k h) ∙ sym (element_is k h)))

@@ -1,12 +1,8 @@
 -- The positions that a mask selects.
-use Rattle.std.proofs.Common.{◌≡◌, ℕ, zero, suc, ◌+◌, ◌<◌, Bool, true, false, List, [], ◌∷◌, ◌++◌, length, map, drop, get_or, Option, refl, ap, sym, ◌∙◌, arith, add-one, append_assoc}
-use Rattle.std.specs.List.{range_with_len}
-use Rattle.std.proofs.lemmas.List.{map-append}
-use Rattle.sel_bits.specs.Bits.{leading_ones, leading_zeros}
-use Rattle.sel_gather.specs.Runs.{picks_of}
-use Rattle.sel_gather.proofs.KeptBlocks.{Passes}
-use Rattle.polars_compute.specs.Pick.{place_pick}
-use Rattle.polars_compute.specs.Select.{select, kept, kept_from}
+use Rattle.polars_compute.proofs.Common.{◌≡◌, ℕ, zero, suc, ◌+◌, ◌<◌, Bool, true, false, List, [], ◌∷◌, ◌++◌, length, map, drop, get_or, Option, refl, ap, sym, ◌∙◌}
+use Rattle.polars_compute.proofs.Common.{arith, add-one, append_assoc, range_with_len, drop-drop, get_or-drop, map-append, leading_zeros, picks_of, Passes, place_pick}
+use Rattle.polars_compute.proofs.Common.{select, kept, kept_from}
+use Rattle.sel_bits.specs.Bits.{leading_ones}
 
 -- ---- several equal bits at once
 
@@ -52,26 +48,21 @@ kept_below ms k h = omega (arith, kept_from_below 0 ms k h)
 
 -- ---- the filtered rows are those at the positions
 
-first_dropped : {A : Type 0} → (all : List A) (x : A) (xs : List A) (n : ℕ) (d : A) → drop n all ≡ x ∷ xs → get_or all n d ≡ x
-first_dropped [] x xs zero d is = cc
-first_dropped [] x xs (suc n) d is = cc
-first_dropped (y ∷ all) x xs zero d is = cc
-first_dropped (y ∷ all) x xs (suc n) d is = first_dropped all x xs n d is
+pub first_dropped : {A : Type 0} → (all : List A) (x : A) (xs : List A) (n : ℕ) (d : A) → drop n all ≡ x ∷ xs → get_or all n d ≡ x
+first_dropped all x xs n d is =
+    let there : n ≡ n + 0 = omega arith in
+    ap (λ k. get_or all k d) there ∙ sym (get_or-drop n all 0 d) ∙ ap (λ l. get_or l 0 d) is
 
-rest_dropped : {A : Type 0} → (all : List A) (x : A) (xs : List A) (n : ℕ) → drop n all ≡ x ∷ xs → drop (suc n) all ≡ xs
-rest_dropped [] x xs zero is = cc
-rest_dropped [] x xs (suc n) is = cc
-rest_dropped (y ∷ all) x xs zero is = cc
-rest_dropped (y ∷ all) x xs (suc n) is = rest_dropped all x xs n is
+pub rest_dropped : {A : Type 0} → (all : List A) (x : A) (xs : List A) (n : ℕ) → drop n all ≡ x ∷ xs → drop (n + 1) all ≡ xs
+rest_dropped all x xs n is = sym (drop-drop 1 n all) ∙ ap (drop 1) is
 
 selected_from : {A : Type 0} → (all xs : List A) (ms : List Bool) (n : ℕ) (d : A) → drop n all ≡ xs → length xs ≡ length ms → select xs ms ≡ map (λ i. get_or all i d) (kept_from n ms)
 selected_from all [] [] n d is h = refl
-selected_from all [] (m ∷ ms) n d is h = absurd (omega arith)
-selected_from all (x ∷ xs) [] n d is h = absurd (omega arith)
 selected_from all (x ∷ xs) (true ∷ ms) n d is h =
     let first : get_or all n d ≡ x = first_dropped all x xs n d is in
-    cc (first, selected_from all xs ms (n + 1) d (rw add-one (rest_dropped all x xs n is)) (omega arith))
-selected_from all (x ∷ xs) (false ∷ ms) n d is h = selected_from all xs ms (n + 1) d (rw add-one (rest_dropped all x xs n is)) (omega arith)
+    cc (first, selected_from all xs ms (n + 1) d (rest_dropped all x xs n is) (omega arith))
+selected_from all (x ∷ xs) (false ∷ ms) n d is h = selected_from all xs ms (n + 1) d (rest_dropped all x xs n is) (omega arith)
+selected_from all xs ms n d is h = absurd (omega (arith, h))
 
 pub selected : {A : Type 0} → (xs : List A) (ms : List Bool) (d : A) → length xs ≡ length ms → select xs ms ≡ map (λ i. get_or xs i d) (kept ms)
 selected xs ms d h = selected_from xs xs ms 0 d refl h

@@ -1,20 +1,14 @@
 -- Rows in reverse order: a take of all rows, which needs as much as they do.
-use Rattle.std.proofs.Common.{◌≡◌, ℕ, zero, suc, ◌+◌, ◌<◌, ◌≤◌, pos, true, List, [], ◌∷◌, ◌++◌, length, length-append, map, append-nil, get_or, take, reverse, refl, ap, sym, subst, ◌∙◌, arith}
+use Rattle.polars_compute.proofs.Common.{◌≡◌, ℕ, zero, suc, ◌+◌, ◌≤◌, pos, true, List, [], ◌∷◌, ◌++◌, length, length-append, map, append-nil, get_or, take, reverse, refl}
+use Rattle.polars_compute.proofs.Common.{ap, sym, subst, ◌∙◌, arith, map-append, take_all, take_more, max_rows, rows, type_of, well_formed, Shape, Shapes, no_shapes}
+use Rattle.polars_compute.proofs.Common.{next_shape, of_large_binary, of_large_list, of_fixed_size_list, of_struct, Value, Null, Number, Column, length-rows}
+use Rattle.polars_compute.proofs.Common.{joined_items, part_at, few_rows, bytes_needed, ExceedsNone, exceeded_limits, so_many_rows, so_many_bytes, need, need_of_parts}
+use Rattle.polars_compute.proofs.Common.{NoneAbove, take_rows, all_within, last_to_first}
 use mathlib.Core.List.{reverse_aux}
-use Rattle.std.proofs.lemmas.List.{map-append, length-reverse, reverse-append, take_all, take_more}
-use Rattle.sel_bits.specs.Limits.{max_rows}
-use Rattle.sel_arrow.specs.Rows.{rows, type_of, well_formed}
-use Rattle.sel_arrow.specs.Shape.{Shape, Shapes, no_shapes, next_shape, of_large_binary, of_large_list, of_fixed_size_list, of_struct}
-use Rattle.sel_arrow.specs.Value.{Value, Null, Number}
-use Rattle.sel_arrow.specs.declared.column.Column.{Column}
-use Rattle.sel_arrow.proofs.NestedRows.{length-rows}
-use Rattle.sel_gather.specs.Children.{items_in, joined_items, part_at}
+use Rattle.std.proofs.lemmas.List.{length-reverse, reverse-append}
 use Rattle.sel_gather.proofs.ItemRuns.{joined-append}
-use Rattle.sel_gather.proofs.ListParts.{few_rows}
-use Rattle.polars_compute.specs.Need.{byte_count, bytes_needed, ExceedsNone, exceeded_limits, so_many_rows, so_many_bytes, need, need_of_parts, NoneAbove}
-use Rattle.polars_compute.specs.Pick.{pick, pick_of, take_rows, is_within, all_within}
-use Rattle.polars_compute.specs.Reverse.{last_to_first}
 use Rattle.polars_compute.proofs.Meanings.{needs_decide, needs_fit}
+use Rattle.sel_gather.proofs.JoinedRows.{needed-append}
 
 -- ---- the take
 
@@ -38,24 +32,10 @@ all_inside len (suc n) few = grind (arith, all_inside len n (omega (arith, few))
 -- ---- the needs
 
 swapped_lengths : (xs ys zs : List Value) → length (xs ++ (ys ++ zs)) ≡ length (ys ++ (xs ++ zs))
-swapped_lengths xs ys zs =
-    let one = length-append xs (ys ++ zs) in
-    let other = length-append ys (xs ++ zs) in
-    let first = length-append ys zs in
-    let second = length-append xs zs in
-    omega (arith, one, other, first, second)
-
-bytes-append : (xs ys : List Value) → bytes_needed (xs ++ ys) ≡ bytes_needed xs + bytes_needed ys
-bytes-append [] ys = omega arith
-bytes-append (x ∷ xs) ys = let rest = bytes-append xs ys in omega (arith, rest)
+swapped_lengths xs ys zs = simp length-append (omega arith)
 
 swapped_bytes : (xs ys zs : List Value) → bytes_needed (xs ++ (ys ++ zs)) ≡ bytes_needed (ys ++ (xs ++ zs))
-swapped_bytes xs ys zs =
-    let one = bytes-append xs (ys ++ zs) in
-    let other = bytes-append ys (xs ++ zs) in
-    let first = bytes-append ys zs in
-    let second = bytes-append xs zs in
-    omega (arith, one, other, first, second)
+swapped_bytes xs ys zs = simp needed-append (omega arith)
 
 joined_three : (w : ℕ) (xs ys zs : List Value) → joined_items w (xs ++ (ys ++ zs)) ≡ joined_items w xs ++ (joined_items w ys ++ joined_items w zs)
 joined_three w xs ys zs = joined-append w xs (ys ++ zs) ∙ ap (λ l. joined_items w xs ++ l) (joined-append w ys zs)
@@ -63,20 +43,22 @@ joined_three w xs ys zs = joined-append w xs (ys ++ zs) ∙ ap (λ l. joined_ite
 parts_three : (j : ℕ) (xs ys zs : List Value) → map (part_at j) (xs ++ (ys ++ zs)) ≡ map (part_at j) xs ++ (map (part_at j) ys ++ map (part_at j) zs)
 parts_three j xs ys zs = map-append (part_at j) xs (ys ++ zs) ∙ ap (λ l. map (part_at j) xs ++ l) (map-append (part_at j) ys zs)
 
+-- The needs of the children, which their order does not change.
+swapped_items : (s : Shape) (w : ℕ) (xs ys zs : List Value) → ((us vs ws : List Value) → need s (us ++ (vs ++ ws)) ≡ need s (vs ++ (us ++ ws))) →
+    so_many_rows (length (xs ++ (ys ++ zs))) ∷ need s (joined_items w (xs ++ (ys ++ zs))) ≡ so_many_rows (length (ys ++ (xs ++ zs))) ∷ need s (joined_items w (ys ++ (xs ++ zs)))
+swapped_items s w xs ys zs same =
+    ap (λ n. so_many_rows n ∷ need s (joined_items w (xs ++ (ys ++ zs)))) (swapped_lengths xs ys zs)
+    ∙ ap (λ l. so_many_rows (length (ys ++ (xs ++ zs))) ∷ l)
+    (ap (need s) (joined_three w xs ys zs) ∙ same (joined_items w xs) (joined_items w ys) (joined_items w zs) ∙ ap (need s) (sym (joined_three w ys xs zs)))
+
 mutual
   -- The order of rows does not change what they need.
   swapped : (s : Shape) (xs ys zs : List Value) → need s (xs ++ (ys ++ zs)) ≡ need s (ys ++ (xs ++ zs))
   swapped of_large_binary xs ys zs =
       ap (λ n. so_many_rows n ∷ so_many_bytes (bytes_needed (xs ++ (ys ++ zs))) ∷ []) (swapped_lengths xs ys zs)
       ∙ ap (λ n. so_many_rows (length (ys ++ (xs ++ zs))) ∷ so_many_bytes n ∷ []) (swapped_bytes xs ys zs)
-  swapped (of_large_list s) xs ys zs =
-      ap (λ n. so_many_rows n ∷ need s (joined_items 0 (xs ++ (ys ++ zs)))) (swapped_lengths xs ys zs)
-      ∙ ap (λ l. so_many_rows (length (ys ++ (xs ++ zs))) ∷ l)
-      (ap (need s) (joined_three 0 xs ys zs) ∙ swapped s (joined_items 0 xs) (joined_items 0 ys) (joined_items 0 zs) ∙ ap (need s) (sym (joined_three 0 ys xs zs)))
-  swapped (of_fixed_size_list s w) xs ys zs =
-      ap (λ n. so_many_rows n ∷ need s (joined_items w (xs ++ (ys ++ zs)))) (swapped_lengths xs ys zs)
-      ∙ ap (λ l. so_many_rows (length (ys ++ (xs ++ zs))) ∷ l)
-      (ap (need s) (joined_three w xs ys zs) ∙ swapped s (joined_items w xs) (joined_items w ys) (joined_items w zs) ∙ ap (need s) (sym (joined_three w ys xs zs)))
+  swapped (of_large_list s) xs ys zs = swapped_items s 0 xs ys zs (swapped s)
+  swapped (of_fixed_size_list s w) xs ys zs = swapped_items s w xs ys zs (swapped s)
   swapped (of_struct ss) xs ys zs =
       ap (λ n. so_many_rows n ∷ need_of_parts ss 0 (xs ++ (ys ++ zs))) (swapped_lengths xs ys zs)
       ∙ ap (λ l. so_many_rows (length (ys ++ (xs ++ zs))) ∷ l) (swapped_parts ss 0 xs ys zs)

@@ -1,24 +1,12 @@
 -- Rows of several columns, column by column.
-use Rattle.std.proofs.Common.{◌≡◌, ℕ, ◌+◌, ◌<◌, true, false, cond, List, [], ◌∷◌, ◌++◌, length, get_or, map, take, arith, refl, ap, sym, ◌∙◌}
-use Rattle.std.specs.Prelude.{◌==◌, ◌&&◌, count_by}
-use Rattle.std.specs.List.{list_all}
-use Rattle.std.proofs.lemmas.Bool.{ne_eqb}
+use Rattle.polars_compute.proofs.Common.{map-map, ◌≡◌, ℕ, ◌+◌, ◌<◌, true, false, cond, List, [], ◌∷◌, ◌++◌, length, get_or, map, take, arith, refl, ap, sym, ◌∙◌, ◌==◌}
+use Rattle.polars_compute.proofs.Common.{◌&&◌, count_by, list_all, ne_eqb, get_or-map, length-map, map-append, take_more, list_all-map, sum_by-cons, PolarsError}
+use Rattle.polars_compute.proofs.Common.{ComputeError, rows, type_of, Value, ArrayRef, all_at, and_first, rows_pass, IsLimitOrMemory, ExceedsNone, exceeded_limits}
+use Rattle.polars_compute.proofs.Common.{take_rows, all_within, select, effective_mask, is_true, length-select}
 use Rattle.std.proofs.lemmas.Bool.Decides.{Decides-eqb}
-use Rattle.std.proofs.lemmas.List.{get_or-map, length-map, map-append, take_more}
-use Rattle.std.proofs.lemmas.List.Folds.{list_all-map, list_all_at}
-use Rattle.std.proofs.lemmas.List.Sums.{sum_by-cons}
-use Rattle.sel_bits.specs.declared.faults.PolarsError.{PolarsError}
-use Rattle.sel_bits.specs.declared.faults.PolarsError.TheVariants.{OutOfMemory, SizeLimit, ComputeError}
-use Rattle.sel_arrow.specs.Rows.{rows, type_of}
+use Rattle.std.proofs.lemmas.List.Folds.{list_all_at}
+use Rattle.sel_bits.specs.declared.faults.PolarsError.TheVariants.{OutOfMemory, SizeLimit}
 use Rattle.sel_arrow.specs.Shape.{of_int64}
-use Rattle.sel_arrow.specs.Value.{Value}
-use Rattle.sel_arrow.specs.declared.array_ref.ArrayRef.{ArrayRef}
-use Rattle.sel_arrow.proofs.Lists.{all_at, and_first}
-use Rattle.sel_gather.proofs.Within.{rows_pass}
-use Rattle.polars_compute.specs.Need.{IsLimitOrMemory, ExceedsNone, exceeded_limits}
-use Rattle.polars_compute.specs.Pick.{take_rows, all_within}
-use Rattle.polars_compute.specs.Select.{select, effective_mask, is_true}
-use Rattle.sel_filter.proofs.Selects.{length-select}
 use Rattle.polars_compute.specs.SelectRows.{rows_of_arrays, type_of_each, select_rows_of, selection_fits, exceeded_selected}
 
 -- ---- what the precondition implies
@@ -62,8 +50,7 @@ mapped_step f g xs sel new i x taken h at made same so_far =
 
 pub rows_mapped : (mask indices : List Value) (columns : List ArrayRef) →
     map (λ c. take_rows (select (rows c.column) (effective_mask mask)) indices) columns ≡ select_rows_of (rows_of_arrays columns) mask indices
-rows_mapped mask indices [] = refl
-rows_mapped mask indices (c ∷ columns) = ap (λ l. take_rows (select (rows c.column) (effective_mask mask)) indices ∷ l) (rows_mapped mask indices columns)
+rows_mapped mask indices columns = sym (map-map (λ xs. take_rows (select xs (effective_mask mask)) indices) (λ (c : ArrayRef). rows c.column) columns)
 
 -- ---- errors
 

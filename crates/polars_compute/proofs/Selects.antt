@@ -1,68 +1,52 @@
 -- The rows that a mask selects.
-use Rattle.std.proofs.Common.{◌≡◌, ℕ, zero, suc, ◌+◌, ◌≤◌, ◌<◌, ℤ, Bool, true, false, List, [], ◌∷◌, length, map, drop, get_or, replicate, Option, Some, None, refl, ap, sym, subst, ◌∙◌, ◌++◌, arith, ◌-◌, take, ⊎_elim, add-one, cond, ◌&&◌}
-use Rattle.std.specs.Prelude.{if◌then◌else◌, count_by, reverse}
-use Rattle.std.proofs.lemmas.Bool.{cases_lt}
-use Rattle.std.specs.List.{list_all}
-use Rattle.std.specs.Option.{option_map}
-use Rattle.std.proofs.lemmas.List.{length-map, length-replicate, drop_all, append-nil, get_or_default, get_or_past, get_or-reverse, length-reverse, length-drop, length-take, take_all, take-append-drop}
-use Rattle.std.proofs.lemmas.List.Sums.{sum_by-cons, count_by-le-length}
-use Rattle.sel_bits.specs.Limits.{max_rows}
-use Rattle.sel_bits.specs.Bits.{Bits, zip_with, leading_zeros, trailing_zeros}
+use Rattle.polars_compute.proofs.Common.{◌≡◌, ℕ, zero, suc, ◌+◌, ◌≤◌, ◌<◌, ℤ, Bool, true, false, List, [], ◌∷◌, length, map, drop, get_or, replicate, Option, Some, None}
+use Rattle.polars_compute.proofs.Common.{refl, ap, sym, subst, ◌∙◌, ◌++◌, arith, ◌-◌, take, ⊎_elim, add-one, cond, ◌&&◌, if◌then◌else◌, count_by, reverse, cases_lt}
+use Rattle.polars_compute.proofs.Common.{list_all, length-map, length-replicate, append-nil, get_or_past, length-drop, length-take, take_all, take-append-drop}
+use Rattle.polars_compute.proofs.Common.{sum_by-cons, max_rows, Bits, zip_with, leading_zeros, Value, Null, Truth, Number, hidden, masked, number_rows, Covers}
+use Rattle.polars_compute.proofs.Common.{view_value, View, and_first, and_second, both, length-number_rows, length-truth_rows, length-view_rows, few_kept, length-select}
+use Rattle.polars_compute.proofs.Common.{select, effective_mask, is_true, IsRun, map-map, option_map, map-id}
+use Rattle.std.proofs.lemmas.List.{get_or-reverse}
+use Rattle.std.proofs.lemmas.List.Sums.{count_by-le-length}
+use Rattle.sel_bits.specs.Bits.{trailing_zeros}
 use Rattle.sel_bits.proofs.Zeros.{leading_le}
-use Rattle.sel_arrow.specs.Value.{Value, Null, Truth, Number}
-use Rattle.sel_arrow.specs.Masked.{hidden, masked, number_rows, bool_rows, Covers}
+use Rattle.sel_arrow.specs.Masked.{bool_rows}
 use Rattle.sel_arrow.specs.Columns.{null_rows}
-use Rattle.sel_arrow.specs.Views.{view_rows, view_value}
-use Rattle.sel_arrow.specs.declared.view.View.{View}
+use Rattle.sel_arrow.specs.Views.{view_rows}
 use Rattle.sel_arrow.specs.declared.null.NullArray.{NullArray}
-use Rattle.sel_arrow.proofs.Rows.{length-number_rows, length-truth_rows}
-use Rattle.sel_arrow.proofs.ViewRows.{length-view_rows}
-use Rattle.sel_filter.proofs.Selects.{all_kept, none_kept as nothing_kept, few_kept, as_many_kept, length-select, count_true-append, select_split}
-use Rattle.polars_compute.specs.Select.{select, effective_mask, is_true}
-use Rattle.polars_compute.specs.Trim.{KeepsAll, IsRun}
-
-both : (a b : Bool) → (a && b) ≡ true → (a ≡ true) × (b ≡ true)
-both true b e = (refl, e)
-both false b e = cc
-
-both_true : (a b : Bool) → a ≡ true → b ≡ true → (a && b) ≡ true
-both_true a b e f = rw (e, f) refl
+use Rattle.sel_filter.proofs.Selects.{all_kept, none_kept as nothing_kept, as_many_kept, count_true-append, select_split}
+use Rattle.polars_compute.specs.Trim.{KeepsAll}
 
 -- ---- rows under a validity
 
 pub select-map : {A B : Type 0} (f : A → B) → (xs : List A) (ms : List Bool) → select (map f xs) ms ≡ map f (select xs ms)
-select-map f [] ms = refl
-select-map f (x ∷ xs) [] = refl
 select-map f (x ∷ xs) (true ∷ ms) = ap (λ l. f x ∷ l) (select-map f xs ms)
 select-map f (x ∷ xs) (false ∷ ms) = select-map f xs ms
+select-map f xs ms = refl
 
 select-hidden : (bs : List Bool) (vs : List Value) (ms : List Bool) → length bs ≡ length vs → select (hidden bs vs) ms ≡ hidden (select bs ms) (select vs ms)
 select-hidden [] [] ms h = refl
-select-hidden [] (v ∷ vs) ms h = absurd (omega arith)
-select-hidden (b ∷ bs) [] ms h = absurd (omega arith)
 select-hidden (b ∷ bs) (v ∷ vs) [] h = refl
 select-hidden (b ∷ bs) (v ∷ vs) (true ∷ ms) h = ap (λ l. (if b then v else Null) ∷ l) (select-hidden bs vs ms (omega arith))
 select-hidden (b ∷ bs) (v ∷ vs) (false ∷ ms) h = select-hidden bs vs ms (omega arith)
+select-hidden bs vs ms h = absurd (omega (arith, h))
 
 pub select-masked : (validity kept : Option Bits) (vs : List Value) (ms : List Bool) → Covers validity (length vs)
     → option_map (λ v. v.bits) kept ≡ option_map (λ v. select v.bits ms) validity → masked kept (select vs ms) ≡ select (masked validity vs) ms
 select-masked None None vs ms covers is = refl
-select-masked None (Some kept) vs ms covers is = cc
-select-masked (Some validity) None vs ms covers is = cc
 select-masked (Some validity) (Some kept) vs ms covers is =
     let same : kept.bits ≡ select validity.bits ms = cc in
     ap (λ bs. hidden bs (select vs ms)) same ∙ sym (select-hidden validity.bits vs ms (covers validity refl))
+select-masked validity kept vs ms covers is = cc
 
 -- A filtered validity is as long as the filtered rows.
 pub kept_covers : {A : Type 0} → (validity kept : Option Bits) (xs : List A) (ms : List Bool) (n : ℕ) → Covers validity (length xs)
     → option_map (λ v. v.bits) kept ≡ option_map (λ v. select v.bits ms) validity → n ≡ length (select xs ms) → Covers kept n
 kept_covers None None xs ms n covers is count = λ v there. cc
-kept_covers None (Some kept) xs ms n covers is count = cc
-kept_covers (Some validity) None xs ms n covers is count = cc
 kept_covers (Some validity) (Some kept) xs ms n covers is count = λ v there.
     let same : kept.bits ≡ select validity.bits ms = cc in
     let here : kept ≡ v = cc in
     ap (λ (b : Bits). length b.bits) (sym here) ∙ ap (λ bs. length bs) same ∙ as_many_kept validity.bits xs ms (covers validity refl) ∙ sym count
+kept_covers validity kept xs ms n covers is count = cc
 
 -- The rows of a column with filtered values and a filtered validity are the filtered rows.
 pub kept_rows : {A : Type 0} (f : A → Value) → (validity kept : Option Bits) (xs ys : List A) (ms : List Bool) → Covers validity (length xs)
@@ -85,43 +69,38 @@ kept_view_rows buffers validity kept xs ys ms covers is made = kept_rows (view_v
 
 -- What holds for each element holds for each selected one.
 pub passed_kept : {A : Type 0} (p : A → Bool) → (xs : List A) (ms : List Bool) → list_all p xs ≡ true → list_all p (select xs ms) ≡ true
-passed_kept p [] ms all = refl
-passed_kept p (x ∷ xs) [] all = refl
-passed_kept p (x ∷ xs) (true ∷ ms) all = let parts = both (p x) (list_all p xs) all in both_true (p x) (list_all p (select xs ms)) parts.0 (passed_kept p xs ms parts.1)
-passed_kept p (x ∷ xs) (false ∷ ms) all = passed_kept p xs ms (both (p x) (list_all p xs) all).1
+passed_kept p (x ∷ xs) (true ∷ ms) all = both (p x) (list_all p (select xs ms)) (and_first (p x) (list_all p xs) all) (passed_kept p xs ms (and_second (p x) (list_all p xs) all))
+passed_kept p (x ∷ xs) (false ∷ ms) all = passed_kept p xs ms (and_second (p x) (list_all p xs) all)
+passed_kept p xs ms all = refl
 
 -- ---- rows under false bits at the ends
 
 -- The rows under the first bits, which are false, are not selected.
 pub front_dropped : {A : Type 0} → (xs : List A) (ms : List Bool) → length xs ≡ length ms → select (drop (leading_zeros ms) xs) (drop (leading_zeros ms) ms) ≡ select xs ms
 front_dropped [] [] h = refl
-front_dropped [] (m ∷ ms) h = absurd (omega arith)
-front_dropped (x ∷ xs) [] h = absurd (omega arith)
 front_dropped (x ∷ xs) (true ∷ ms) h = refl
 front_dropped (x ∷ xs) (false ∷ ms) h = rw add-one (front_dropped xs ms (omega arith))
+front_dropped xs ms h = absurd (omega (arith, h))
 
 false_front : (ms : List Bool) (i : ℕ) → i < leading_zeros ms → get_or ms i false ≡ false
-false_front [] i lt = refl
 false_front (true ∷ ms) i lt = absurd (omega arith)
-false_front (false ∷ ms) zero lt = refl
 false_front (false ∷ ms) (suc i) lt = false_front ms i (omega arith)
+false_front ms i lt = refl
 
 -- The bits from n on are false.
 abbrev EndsFalse : List Bool → ℕ → Type 0
 EndsFalse ms n = (i : ℕ) → n ≤ i → get_or ms i false ≡ false
 
 none_kept : {A : Type 0} → (xs : List A) (ms : List Bool) → EndsFalse ms 0 → select xs ms ≡ []
-none_kept [] ms ends = refl
-none_kept (x ∷ xs) [] ends = refl
 none_kept (x ∷ xs) (true ∷ ms) ends = let first = ends 0 (omega arith) in cc
 none_kept (x ∷ xs) (false ∷ ms) ends = none_kept xs ms (λ i le. ends (suc i) (omega arith))
+none_kept xs ms ends = refl
 
 front_kept : {A : Type 0} → (xs : List A) (ms : List Bool) (n : ℕ) → EndsFalse ms n → select (take n xs) (take n ms) ≡ select xs ms
 front_kept xs ms zero ends = sym (none_kept xs ms ends)
-front_kept [] ms (suc n) ends = refl
-front_kept (x ∷ xs) [] (suc n) ends = refl
 front_kept (x ∷ xs) (true ∷ ms) (suc n) ends = ap (λ l. x ∷ l) (front_kept xs ms n (λ i le. ends (suc i) (omega arith)))
 front_kept (x ∷ xs) (false ∷ ms) (suc n) ends = front_kept xs ms n (λ i le. ends (suc i) (omega arith))
+front_kept xs ms (suc n) ends = refl
 
 false_end : (ms : List Bool) → EndsFalse ms (length ms - trailing_zeros ms)
 false_end ms i le =
@@ -150,17 +129,14 @@ trimmed_within ms first rest leading trailing count t =
     let front = leading_le ms in
     let parts = ap (λ (l : List Bool). length l) t.first-is in
     let ends = ap (λ (l : List Bool). length l) t.rest-is in
-    let leads = t.leads in
-    let counts = t.counts in
-    omega (arith, front, parts, ends, leads, counts, length-drop leading ms, length-take (length first - trailing) first)
+    omega (arith, front, parts, ends, t.leads, t.counts, length-drop leading ms, length-take (length first - trailing) first)
 
 pub trimmed_kept : {A : Type 0} → (xs : List A) (ms first rest : List Bool) (leading trailing count : ℕ) → length xs ≡ length ms → IsTrimmed ms first rest leading trailing count
     → select (take count (drop leading xs)) rest ≡ select xs ms
 trimmed_kept {A} xs ms first rest leading trailing count long t =
     let ends = ap (λ (l : List Bool). length l) t.rest-is in
-    let counts = t.counts in
     let trails = t.trails in
-    let count-is : count ≡ length first - trailing_zeros first = omega (arith, ends, counts, trails, length-take (length first - trailing) first) in
+    let count-is : count ≡ length first - trailing_zeros first = omega (arith, ends, t.counts, trails, length-take (length first - trailing) first) in
     let rest-is : rest ≡ take (length first - trailing_zeros first) first = t.rest-is ∙ ap (λ n. take (length first - n) first) trails in
     (λ i. select (take (count-is i) (drop leading xs)) (rest-is i))
     ∙ end_dropped (drop leading xs) first
@@ -178,14 +154,13 @@ trimmed_part ms first rest leading trailing count t =
 
 replicate_kept : (n : ℕ) (ms : List Bool) → n ≡ length ms → replicate (count_by (λ b. b) ms) Null ≡ select (replicate n Null) ms
 replicate_kept zero [] h = refl
-replicate_kept zero (m ∷ ms) h = absurd (omega arith)
-replicate_kept (suc n) [] h = absurd (omega arith)
 replicate_kept (suc n) (true ∷ ms) h =
     let more : count_by (λ b. b) (true ∷ ms) ≡ suc (count_by (λ b. b) ms) = omega (arith, sum_by-cons (λ b. cond b 1 0) true ms) in
     ap (λ k. replicate k Null) more ∙ ap (λ l. Null ∷ l) (replicate_kept n ms (omega arith))
 replicate_kept (suc n) (false ∷ ms) h =
     let more : count_by (λ b. b) (false ∷ ms) ≡ count_by (λ b. b) ms = omega (arith, sum_by-cons (λ b. cond b 1 0) false ms) in
     ap (λ k. replicate k Null) more ∙ replicate_kept n ms (omega arith)
+replicate_kept n ms h = absurd (omega (arith, h))
 
 pub kept_null_rows : (column : NullArray) (n : ℕ) (ms : List Bool) → length (null_rows column) ≡ length ms → n ≡ count_by (λ b. b) ms → replicate n Null ≡ select (null_rows column) ms
 kept_null_rows column n ms long count =
@@ -205,13 +180,10 @@ pub ruleset kept_columns = (kept_numbers, kept_truths, kept_covers, few_kept, le
 -- ---- a mask of rows
 
 effective_mask-valid : (bits : List Bool) → effective_mask (bool_rows bits None) ≡ bits
-effective_mask-valid [] = refl
-effective_mask-valid (b ∷ bits) = ap (λ l. b ∷ l) (effective_mask-valid bits)
+effective_mask-valid bits = map-map is_true Truth bits ∙ map-id bits
 
 effective_mask-hidden : (bs bits : List Bool) → length bs ≡ length bits → map is_true (hidden bs (map Truth bits)) ≡ zip_with (λ x y. x && y) bits bs
 effective_mask-hidden [] [] h = refl
-effective_mask-hidden [] (x ∷ bits) h = absurd (omega arith)
-effective_mask-hidden (b ∷ bs) [] h = absurd (omega arith)
 effective_mask-hidden (b ∷ bs) (x ∷ bits) h = (λ i. first b x i ∷ effective_mask-hidden bs bits (omega arith) i)
   where
     first : (b x : Bool) → is_true (if b then Truth x else Null) ≡ (x && b)
@@ -219,6 +191,7 @@ effective_mask-hidden (b ∷ bs) (x ∷ bits) h = (λ i. first b x i ∷ effecti
     first true false = refl
     first false true = refl
     first false false = refl
+effective_mask-hidden bs bits h = absurd (omega (arith, h))
 
 -- The effective mask of a boolean column.
 pub effective_mask-bools : (bits : List Bool) (validity : Option Bits) (v : Bits) → validity ≡ Some v → Covers validity (length bits) → effective_mask (bool_rows bits validity) ≡ zip_with (λ x y. x && y) bits v.bits

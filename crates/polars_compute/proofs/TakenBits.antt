@@ -1,18 +1,12 @@
 -- Bits at positions, a word at a time.
-use Rattle.std.proofs.Common.{◌≡◌, ◌≤◌, ◌<◌, ◌+◌, ◌*◌, ◌%◌, ◌^◌, ◌∙◌, ℕ, zero, suc, pos, Bool, true, false, List, [], ◌∷◌, ◌++◌, length, map, take, drop, get_or, Some, refl, ap, sym, append-nil, arith}
-use Rattle.std.specs.Prelude.{◌==◌}
-use Rattle.std.specs.Int.{from_bool}
-use Rattle.std.proofs.lemmas.Bool.{eqb-true, ltb-true}
-use Rattle.std.proofs.lemmas.List.{drop-map, get_or_default, get_or-drop, get_or-take, length-map, take-append-drop, take-map}
-use Rattle.std.proofs.lemmas.List.Folds.{list_all-append, list_all-map}
-use Rattle.sel_bits.specs.Bits.{Bits}
-use Rattle.sel_bits.specs.Words.{bits, word_of}
-use Rattle.sel_bits.proofs.Packed.{bits_word_of, block_packed, word_of-few, word_of-next}
+use Rattle.polars_compute.proofs.Common.{◌≡◌, ◌≤◌, ◌<◌, ◌+◌, ◌*◌, ◌%◌, ◌^◌, ◌∙◌, ℕ, zero, suc, pos, Bool, true, false, List, [], ◌∷◌, ◌++◌, length, map, take, drop}
+use Rattle.polars_compute.proofs.Common.{get_or, refl, ap, sym, append-nil, arith, ◌==◌, from_bool, eqb-true, ltb-true, drop-map, get_or_default, get_or-drop}
+use Rattle.polars_compute.proofs.Common.{get_or-take, length-map, take-append-drop, take-map, word_of, word_of-few, word_of-next, Value, Null, Number, all_below, found}
+use Rattle.polars_compute.proofs.Common.{pick, pick_of, place_pick, and_first, and_second, get_or-map, None}
+use Rattle.std.proofs.lemmas.List.Folds.{list_all-append}
+use Rattle.sel_bits.specs.Words.{bits}
+use Rattle.sel_bits.proofs.Packed.{bits_word_of, block_packed}
 use Rattle.sel_bits.proofs.Padded.{word_of_lt}
-use Rattle.sel_arrow.specs.Value.{Value, Null, Number}
-use Rattle.polars_compute.specs.Pick.{all_below, all_within, found, is_within, pick, pick_of, place_pick}
-use Rattle.polars_compute.specs.ValidPicks.{valid_pick}
-use Rattle.polars_compute.proofs.Takes.{both}
 
 -- The bits at positions.
 abbrev pub bits_at : List Bool → List ℕ → List Bool
@@ -64,31 +58,23 @@ all_packed bs packed (place ∷ rest) all none is = absurd (omega (arith, eqb-tr
 pub below_parts : (n m : ℕ) (places : List ℕ) → all_below n places ≡ true → (all_below n (take m places) ≡ true) × (all_below n (drop m places) ≡ true)
 below_parts n m places below =
     let parts = sym (list_all-append _ (take m places) (drop m places)) ∙ ap (all_below n) (take-append-drop m places) ∙ below in
-    both (all_below n (take m places)) (all_below n (drop m places)) parts
+    (and_first (all_below n (take m places)) (all_below n (drop m places)) parts, and_second (all_below n (take m places)) (all_below n (drop m places)) parts)
 
 -- ---- indices without nulls
-
-pub below_within : (n : ℕ) (places : List ℕ) → all_within n (map (λ x. Number (pos x)) places) ≡ true → all_below n places ≡ true
-below_within n places within = sym (list_all-map (is_within n) (λ x. Number (pos x)) places) ∙ within
 
 -- The value for null indices does not matter.
 pub named_at : (bs : List Bool) (filler : Bool) (places : List ℕ) → all_below (length bs) places ≡ true
     → bits_at bs places ≡ pick filler (bs ∷ []) (map pick_of (map (λ x. Number (pos x)) places))
 named_at bs filler [] below = refl
 named_at bs filler (place ∷ places) below =
-    let parts = both _ (all_below (length bs) places) below in
-    let here = get_or_default bs place false filler (ltb-true place (length bs) parts.0) in
-    (λ i. here i ∷ named_at bs filler places parts.1 i)
+    let here = get_or_default bs place false filler (ltb-true place (length bs) (and_first _ (all_below (length bs) places) below)) in
+    (λ i. here i ∷ named_at bs filler places (and_second _ (all_below (length bs) places) below) i)
 
 -- ---- indices of which some may be null
 
-pub length-taken : (bs : List Bool) (filler : Bool) (rows : List Value) → length (pick filler (bs ∷ []) (map pick_of rows)) ≡ length rows
-length-taken bs filler rows = length-map (map pick_of rows) (found filler (bs ∷ [])) ∙ length-map rows pick_of
-
 taken_here : (bs : List Bool) (filler : Bool) (rows : List Value) (k : ℕ) → k < length rows → get_or (pick filler (bs ∷ []) (map pick_of rows)) k false ≡ found filler (bs ∷ []) (pick_of (get_or rows k Null))
-taken_here bs filler [] k h = absurd (omega (arith, h))
-taken_here bs filler (row ∷ rows) zero h = refl
-taken_here bs filler (row ∷ rows) (suc k) h = taken_here bs filler rows k (omega (arith, h))
+taken_here bs filler rows k h =
+    get_or-map (found filler (bs ∷ [])) (map pick_of rows) k None false (rw length-map h) ∙ ap (found filler (bs ∷ [])) (get_or-map pick_of rows k Null None h)
 
 -- Entry k of a part.
 pub taken_at : (bs : List Bool) (filler : Bool) (rows : List Value) (at len k : ℕ) (bit : Bool) → k < len → at + len ≤ length rows → bit ≡ found filler (bs ∷ []) (pick_of (get_or rows (at + k) Null))

@@ -1,27 +1,15 @@
 -- Binary rows at indices, as spans of bytes.
-use Rattle.std.proofs.Common.{◌≡◌, All, ℕ, zero, suc, ◌+◌, ◌-◌, ◌≤◌, ◌<◌, ℤ, pos, Bool, true, false, List, [], ◌∷◌, length, map, take, drop, get_or, replicate, Option, Some, None, refl, ap, sym, ◌∙◌, subst, arith}
-use Rattle.std.specs.Prelude.{if◌then◌else◌, ◌<ℤ◌}
-use Rattle.std.proofs.lemmas.List.{length-map, get_or_past}
-use Rattle.sel_bits.specs.Bits.{Bits}
-use Rattle.sel_arrow.specs.Masked.{hidden, masked, Covers}
-use Rattle.sel_bits.specs.Offsets.{IsRising, magnitudes}
-use Rattle.sel_bits.specs.Signs.{magnitude}
-use Rattle.sel_arrow.specs.Pieces.{byte_rows, last_offset, pieces, rows_between}
-use Rattle.sel_arrow.proofs.ByteRows.{get_or-pieces, length-pieces}
-use Rattle.sel_arrow.specs.Value.{Value, Null, Bytes, validities}
-use Rattle.sel_gather.specs.Validity.{bits_for}
+use Rattle.polars_compute.proofs.Common.{◌≡◌, ℕ, zero, suc, ◌+◌, ◌-◌, ◌≤◌, ◌<◌, ℤ, pos, Bool, true, false, List, [], ◌∷◌, length, map, take, drop, get_or, replicate}
+use Rattle.polars_compute.proofs.Common.{Option, Some, None, refl, ap, sym, ◌∙◌, subst, arith, if◌then◌else◌, ◌<ℤ◌, length-map, get_or_past, Bits, hidden, masked, Covers}
+use Rattle.polars_compute.proofs.Common.{IsRising, magnitudes, last_offset, pieces, rows_between, get_or-pieces, length-pieces, Value, Null, validities, bits_for}
+use Rattle.polars_compute.proofs.Common.{ends_from, joined_bytes, Limit, ByteLimit, PolarsError, refused_more, byte_count, bytes_needed, ExceedsBytes, IsLimitOrMemory}
+use Rattle.polars_compute.proofs.Common.{found, pick, pick_of, take_rows, is_within, all_within, span_bytes, span_rows, live_index, valid_pick, Span, map-map, offsets_of}
+use Rattle.polars_compute.proofs.Common.{same_numbers, and_first, and_second}
+use Rattle.sel_arrow.specs.Pieces.{byte_rows}
+use Rattle.sel_arrow.specs.Value.{Bytes}
 use Rattle.sel_gather.proofs.JoinedRows.{rebuilt as rebuilt_rows}
-use Rattle.polars_compute.specs.JoinedBytes.{ends_from, joined_bytes, AllBytesRows}
-use Rattle.sel_bits.specs.declared.faults.Limit.{Limit}
-use Rattle.sel_bits.specs.declared.faults.Limit.TheVariants.{Rows as RowLimit, Bytes as ByteLimit, Buffers as BufferLimit, ViewBytes}
-use Rattle.sel_bits.specs.declared.faults.PolarsError.{PolarsError}
-use Rattle.sel_gather.proofs.Below.{refused_more}
-use Rattle.polars_compute.specs.Need.{byte_count, bytes_needed, ExceedsBytes, IsLimitOrMemory}
-use Rattle.polars_compute.specs.Pick.{found, pick, pick_of, take_rows, is_within, all_within}
-use Rattle.polars_compute.specs.Spans.{span_bytes, span_rows}
-use Rattle.polars_compute.specs.ValidPicks.{live_index, valid_pick}
-use Rattle.polars_compute.specs.declared.gather.generic_binary.Span.{Span}
-use Rattle.polars_compute.proofs.Takes.{both, hidden_trues, length-pick, row_taken, within_as}
+use Rattle.polars_compute.specs.JoinedBytes.{AllBytesRows}
+use Rattle.polars_compute.proofs.Takes.{hidden_trues, length-pick, row_taken, within_as}
 
 -- ---- rows of which none is null
 
@@ -42,11 +30,6 @@ pub rebuilt : (bytes : List ℕ) (spans : List Span) → byte_rows (0 ∷ ends_f
 rebuilt bytes spans =
     rebuilt_rows (span_rows bytes spans) None (length spans) (all_bytes (span_bytes bytes) spans) (length-span_rows bytes spans) (all_valid (span_bytes bytes) spans)
 
-pub only : {A : Type 0} (P : A → Type 0) → (x : A) → P x → All P (x ∷ [])
-only P x holds = λ k d h.
-    let first : 0 ≡ k = omega (arith, h) in
-    subst (λ i. P (get_or (x ∷ []) i d)) first holds
-
 pub pos_same : (m n : ℕ) → pos m ≡ pos n → m ≡ n
 pos_same m n e = cc
 
@@ -56,9 +39,7 @@ exceeds_as greatest rows others fault same = refused_more (ExceedsBytes greatest
   where
     one : (limit : Limit) → ExceedsBytes greatest rows limit → ExceedsBytes greatest others limit
     one ByteLimit h = subst (λ n. greatest <ℤ pos n) same h
-    one RowLimit h = absurd h
-    one BufferLimit h = absurd h
-    one ViewBytes h = absurd h
+    one limit h = absurd h
 
 -- ---- the span between two offsets
 
@@ -109,16 +90,14 @@ module _ (validity : Option Bits) (parts : List (List ℕ)) (covers : Covers val
       hidden (map (valid_pick validity) (map pick_of indices)) (map Bytes (pick [] (parts ∷ []) (map pick_of (map (live_index validity) indices)))) ≡ take_rows (masked validity (map Bytes parts)) indices
   list_live [] within = refl
   list_live (index ∷ indices) within =
-      let heads = both (is_within (length parts) index) (all_within (length parts) indices) within in
-      (λ i. one_row index heads.0 i ∷ list_live indices heads.1 i)
+      (λ i. one_row index (and_first _ _ within) i ∷ list_live indices (and_second _ _ within) i)
 
   -- Null rows have empty spans, so the spans need as many bytes as the rows.
   pub need_live : (indices : List Value) → all_within (length parts) indices ≡ true →
       bytes_needed (map Bytes (pick [] (parts ∷ []) (map pick_of (map (live_index validity) indices)))) ≡ bytes_needed (take_rows (masked validity (map Bytes parts)) indices)
   need_live [] within = refl
   need_live (index ∷ indices) within =
-      let heads = both (is_within (length parts) index) (all_within (length parts) indices) within in
-      omega (arith, one_count index heads.0, need_live indices heads.1)
+      omega (arith, one_count index (and_first _ _ within), need_live indices (and_second _ _ within))
 
   pub rows_live : (taken : Option Bits) (ys : List (List ℕ)) (indices : List Value) → all_within (length parts) indices ≡ true →
       ys ≡ pick [] (parts ∷ []) (map pick_of (map (live_index validity) indices)) → bits_for (length indices) taken ≡ map (valid_pick validity) (map pick_of indices) →
@@ -129,18 +108,15 @@ module _ (validity : Option Bits) (parts : List (List ℕ)) (covers : Covers val
 
 -- ---- the column
 
-composed : {A : Type 0} (f : A → List ℕ) → (xs : List A) → map (λ x. Bytes (f x)) xs ≡ map Bytes (map f xs)
-composed f [] = refl
-composed f (x ∷ xs) = ap (λ l. Bytes (f x) ∷ l) (composed f xs)
+pub magnitudes_are : {T : Type 0} (number : T → ℤ) → (xs : List T) (ns : List ℕ) → map number xs ≡ map pos ns → IsRising ns → magnitudes number xs ≡ ns
+magnitudes_are number xs ns e rises = same_numbers (magnitudes number xs) ns (sym (offsets_of number xs ns e rises).positive ∙ e)
 
-pub magnitudes_are : {T : Type 0} (number : T → ℤ) → (xs : List T) (ns : List ℕ) → map number xs ≡ map pos ns → magnitudes number xs ≡ ns
-magnitudes_are number [] [] e = refl
-magnitudes_are number [] (n ∷ ns) e = cc
-magnitudes_are number (x ∷ xs) [] e = cc
-magnitudes_are number (x ∷ xs) (n ∷ ns) e =
-    let here : number x ≡ pos n = cc in
-    let rest : map number xs ≡ map pos ns = cc in
-    cc (ap magnitude here, magnitudes_are number xs ns rest)
+-- The spans are those of the rows at the indices.
+pub record AreTaken (offsets bytes : List ℕ) (validity : Option Bits) (indices : List Value) (spans : List Span) : Type 0 where
+  pub rows : (taken : Option Bits) → bits_for (length indices) taken ≡ map (valid_pick validity) (map pick_of indices) →
+      masked taken (span_rows bytes spans) ≡ take_rows (byte_rows offsets bytes validity) indices
+  pub need : bytes_needed (span_rows bytes spans) ≡ bytes_needed (take_rows (byte_rows offsets bytes validity) indices)
+  pub count : length spans ≡ length indices
 
 module _ (offsets bytes : List ℕ) (validity : Option Bits) (indices live : List Value) (spans : List Span)
     (covers : Covers validity (rows_between offsets)) (within : all_within (rows_between offsets) indices ≡ true) (live_is : live ≡ map (live_index validity) indices)
@@ -160,16 +136,19 @@ module _ (offsets bytes : List ℕ) (validity : Option Bits) (indices live : Lis
   unfolding parts
   listed = spans_are ∙ ap (λ l. pick [] (pieces offsets bytes ∷ []) (map pick_of l)) live_is
 
-  pub spans_rows : (taken : Option Bits) → bits_for (length indices) taken ≡ map (valid_pick validity) (map pick_of indices) →
+  spans_rows : (taken : Option Bits) → bits_for (length indices) taken ≡ map (valid_pick validity) (map pick_of indices) →
       masked taken (map (λ span. Bytes (span_bytes bytes span)) spans) ≡ take_rows (byte_rows offsets bytes validity) indices
   unfolding parts
   spans_rows taken valid =
-      ap (masked taken) (composed (span_bytes bytes) spans) ∙ rows_live validity parts covered taken (map (span_bytes bytes) spans) indices inside listed valid
+      ap (masked taken) (sym (map-map Bytes (span_bytes bytes) spans)) ∙ rows_live validity parts covered taken (map (span_bytes bytes) spans) indices inside listed valid
 
-  pub spans_need : bytes_needed (map (λ span. Bytes (span_bytes bytes span)) spans) ≡ bytes_needed (take_rows (byte_rows offsets bytes validity) indices)
+  spans_need : bytes_needed (map (λ span. Bytes (span_bytes bytes span)) spans) ≡ bytes_needed (take_rows (byte_rows offsets bytes validity) indices)
   unfolding parts
-  spans_need = ap bytes_needed (composed (span_bytes bytes) spans ∙ ap (map Bytes) listed) ∙ need_live validity parts covered indices inside
+  spans_need = ap bytes_needed (sym (map-map Bytes (span_bytes bytes) spans) ∙ ap (map Bytes) listed) ∙ need_live validity parts covered indices inside
 
-  pub spans_count : length spans ≡ length indices
+  spans_count : length spans ≡ length indices
   spans_count =
       sym (length-map spans (span_bytes bytes)) ∙ ap (λ (l : List (List ℕ)). length l) spans_are ∙ length-pick [] (pieces offsets bytes ∷ []) live ∙ ap (λ (l : List Value). length l) live_is ∙ length-map indices (live_index validity)
+
+  pub spans_taken : AreTaken offsets bytes validity indices spans
+  spans_taken = record { rows = spans_rows; need = spans_need; count = spans_count }

@@ -1,63 +1,39 @@
 -- Struct rows at indices, field by field.
-use Rattle.std.proofs.Common.{◌≡◌, All, ℕ, zero, suc, ◌+◌, ◌≤◌, ◌<◌, pos, Bool, true, false, ◌&&◌, List, [], ◌∷◌, length, map, get_or, Option, Some, None, Vec, Global, inl, inr, refl, ap, sym, ◌∙◌, subst, arith}
-use Rattle.std.specs.Prelude.{if◌then◌else◌}
-use Rattle.std.specs.List.{range_with_len}
-use Rattle.std.proofs.lemmas.Bool.{ltb-true}
-use Rattle.std.proofs.lemmas.List.{length-map, get_or-map, ext_get_or}
-use Rattle.std.proofs.lemmas.List.FromFn.{length-map-range_with_len, get_or-map-range_with_len}
-use Rattle.sel_bits.specs.Limits.{max_rows}
-use Rattle.sel_bits.specs.Bits.{Bits}
-use Rattle.sel_bits.specs.declared.faults.Limit.{Limit}
-use Rattle.sel_arrow.specs.Masked.{hidden, masked, number_rows, Covers, valid_at}
-use Rattle.sel_arrow.specs.Nested.{struct_at}
-use Rattle.sel_arrow.specs.Rows.{rows, type_of, well_formed, IsField}
-use Rattle.sel_arrow.specs.Shape.{Shapes, of_struct, shapes_of, shape_list}
-use Rattle.sel_arrow.specs.Value.{Value, Null, Number, is_valid, validities}
-use Rattle.sel_arrow.specs.declared.column.Column.{Column, Struct}
-use Rattle.sel_arrow.proofs.NestedRows.{length-rows, length-tuple_rows}
-use Rattle.sel_arrow.proofs.Rows.{masked_null, masked_valid}
-use Rattle.sel_arrow.proofs.Trees.{rows-Struct, has_fields, fields_make}
-use Rattle.sel_arrow.proofs.Types.{type_of-Struct}
-use Rattle.sel_gather.specs.Children.{field, part_at}
+use Rattle.polars_compute.proofs.Common.{◌≡◌, All, ℕ, zero, suc, ◌+◌, ◌≤◌, ◌<◌, pos, Bool, true, false, List, [], ◌∷◌, length, map, get_or, Option, Some, None, Vec}
+use Rattle.polars_compute.proofs.Common.{Global, inl, inr, refl, ap, sym, ◌∙◌, subst, arith, if◌then◌else◌, range_with_len, ltb-true, length-map, get_or-map, ext_get_or}
+use Rattle.polars_compute.proofs.Common.{length-map-range_with_len, get_or-map-range_with_len, max_rows, Bits, Limit, hidden, masked, number_rows, Covers, valid_at}
+use Rattle.polars_compute.proofs.Common.{struct_at, rows, type_of, well_formed, IsField, Shapes, of_struct, shapes_of, Value, Null, Number, is_valid, validities, Column}
+use Rattle.polars_compute.proofs.Common.{Struct, and_first, and_second, both, length-rows, length-tuple_rows, masked_null, masked_valid, rows-Struct, has_fields}
+use Rattle.polars_compute.proofs.Common.{fields_make, type_of-Struct, part_at, bits_for, finished, exceeded_limits, exceeded_in_parts, found, pick_of, take_rows}
+use Rattle.polars_compute.proofs.Common.{is_within, all_within, exceeded_in_taken, live_index, valid_pick}
+use Rattle.sel_arrow.specs.Shape.{shape_list}
+use Rattle.sel_gather.specs.Children.{field}
 use Rattle.sel_gather.specs.Steps.{parts_of}
-use Rattle.sel_gather.specs.Validity.{bits_for}
 use Rattle.sel_gather.proofs.Below.{listed_shapes}
 use Rattle.sel_gather.proofs.FieldsOf.{any_default, field_found}
-use Rattle.sel_gather.proofs.Grown.{finished}
 use Rattle.sel_gather.proofs.Layouts.{rows_tuples}
 use Rattle.sel_gather.proofs.Rebuilt.{IsTuple, picked_all, tuples_rebuilt}
 use Rattle.sel_gather.proofs.TupleRows.{field_row}
-use Rattle.polars_compute.specs.Need.{exceeded_limits, exceeded_in_parts}
-use Rattle.polars_compute.specs.Pick.{found, pick_of, take_rows, is_within, all_within}
-use Rattle.polars_compute.specs.TakenFields.{exceeded_in_taken}
-use Rattle.polars_compute.specs.ValidPicks.{live_index, valid_pick}
-use Rattle.polars_compute.proofs.Takes.{both, covers_for, length-pick}
-
-both_true : (a b : Bool) → a ≡ true → b ≡ true → (a && b) ≡ true
-both_true a b e f = rw (e, f) refl
+use Rattle.polars_compute.proofs.Takes.{covers_for, length-pick}
 
 -- ---- indices with a null for each null row
 
-shown : (validity : Option Bits) (places : List ℕ) →
-    hidden (map (valid_pick validity) (map pick_of (map (λ x. Number (pos x)) places))) (map (λ x. Number (pos x)) places) ≡ map (live_index validity) (map (λ x. Number (pos x)) places)
-shown validity [] = refl
-shown validity (place ∷ places) = ap (λ l. live_index validity (Number (pos place)) ∷ l) (shown validity places)
-
-shown_hidden : (validity : Option Bits) (bits : List Bool) (places : List ℕ) → length bits ≡ length places →
+shown_hidden : (validity : Option Bits) (bits : List Bool) (places : List ℕ) →
     hidden (map (valid_pick validity) (map pick_of (hidden bits (map (λ x. Number (pos x)) places)))) (map (λ x. Number (pos x)) places) ≡ map (live_index validity) (hidden bits (map (λ x. Number (pos x)) places))
-shown_hidden validity [] places same = shown validity places
-shown_hidden validity (b ∷ bits) [] same = absurd (omega (arith, same))
-shown_hidden validity (true ∷ bits) (place ∷ places) same = ap (λ l. live_index validity (Number (pos place)) ∷ l) (shown_hidden validity bits places (omega (arith, same)))
-shown_hidden validity (false ∷ bits) (place ∷ places) same = ap (λ l. Null ∷ l) (shown_hidden validity bits places (omega (arith, same)))
+shown_hidden validity [] [] = refl
+shown_hidden validity [] (place ∷ places) = ap (λ l. live_index validity (Number (pos place)) ∷ l) (shown_hidden validity [] places)
+shown_hidden validity (b ∷ bits) [] = refl
+shown_hidden validity (true ∷ bits) (place ∷ places) = ap (λ l. live_index validity (Number (pos place)) ∷ l) (shown_hidden validity bits places)
+shown_hidden validity (false ∷ bits) (place ∷ places) = ap (λ l. Null ∷ l) (shown_hidden validity bits places)
 
 -- Under the validity of the rows at the indices, the places are the indices of valid rows.
-pub live_rows : (validity named live : Option Bits) (places : List ℕ) → Covers named (length places) →
+pub live_rows : (validity named live : Option Bits) (places : List ℕ) →
     bits_for (length (number_rows pos places named)) live ≡ map (valid_pick validity) (map pick_of (number_rows pos places named)) → length (number_rows pos places named) ≡ length places →
     number_rows pos places live ≡ map (live_index validity) (number_rows pos places named)
-live_rows validity None live places covers valid long =
-    finished (λ (x : ℕ). Number (pos x)) places live _ (length (number_rows pos places None)) valid (sym long) ∙ shown validity places
-live_rows validity (Some named) live places covers valid long =
-    finished (λ (x : ℕ). Number (pos x)) places live _ (length (number_rows pos places (Some named))) valid (sym long) ∙ shown_hidden validity named.bits places (covers named refl)
+live_rows validity None live places valid long =
+    finished (λ (x : ℕ). Number (pos x)) places live _ (length (number_rows pos places None)) valid (sym long) ∙ shown_hidden validity [] places
+live_rows validity (Some named) live places valid long =
+    finished (λ (x : ℕ). Number (pos x)) places live _ (length (number_rows pos places (Some named))) valid (sym long) ∙ shown_hidden validity named.bits places
 
 one_within : (n : ℕ) (validity : Option Bits) (index : Value) → is_within n index ≡ true → is_within n (live_index validity index) ≡ true
 one_within n validity index within = by (valid_pick validity (pick_of index))
@@ -69,8 +45,7 @@ one_within n validity index within = by (valid_pick validity (pick_of index))
 pub live_within : (n : ℕ) (validity : Option Bits) (indices : List Value) → all_within n indices ≡ true → all_within n (map (live_index validity) indices) ≡ true
 live_within n validity [] within = refl
 live_within n validity (index ∷ indices) within =
-    let parts = both (is_within n index) (all_within n indices) within in
-    both_true (is_within n (live_index validity index)) (all_within n (map (live_index validity) indices)) (one_within n validity index parts.0) (live_within n validity indices parts.1)
+    both (is_within n (live_index validity index)) (all_within n (map (live_index validity) indices)) (one_within n validity index (and_first _ _ within)) (live_within n validity indices (and_second _ _ within))
 
 -- ---- the rows of the fields
 
@@ -136,8 +111,7 @@ module _ (n : ℕ) (fields : Vec Column Global) (validity : Option Bits) (formed
       take_rows (rows (field k whole)) (map (live_index validity) indices) ≡ map (part_at k) (take_rows (rows whole) indices)
   field_taken k h [] within = refl
   field_taken k h (index ∷ indices) within =
-      let parts = both (is_within n index) (all_within n indices) within in
-      (λ i. field_one k h index parts.0 i ∷ field_taken k h indices parts.1 i)
+      (λ i. field_one k h index (and_first _ _ within) i ∷ field_taken k h indices (and_second _ _ within) i)
 
   valid_one : (index : Value) → is_within n index ≡ true → is_valid (found Null (rows whole ∷ []) (pick_of index)) ≡ valid_pick validity (pick_of index)
   valid_one (Number (pos i)) within = valid_here i (ltb-true i n within)
@@ -146,8 +120,7 @@ module _ (n : ℕ) (fields : Vec Column Global) (validity : Option Bits) (formed
   taken_valid : (indices : List Value) → all_within n indices ≡ true → validities (take_rows (rows whole) indices) ≡ map (valid_pick validity) (map pick_of indices)
   taken_valid [] within = refl
   taken_valid (index ∷ indices) within =
-      let parts = both (is_within n index) (all_within n indices) within in
-      (λ i. valid_one index parts.0 i ∷ taken_valid indices parts.1 i)
+      (λ i. valid_one index (and_first _ _ within) i ∷ taken_valid indices (and_second _ _ within) i)
 
   -- The rows of each field at the indices of valid rows, by position.
   fields_taken : (taken : List (List Value)) (indices : List Value) → all_within n indices ≡ true →

@@ -1,23 +1,9 @@
 -- Rows at indices.
-use Rattle.std.proofs.Common.{◌≡◌, All, ℕ, zero, suc, ◌<◌, pos, negsuc, Bool, true, false, ◌&&◌, List, [], ◌∷◌, length, map, get_or, replicate, Option, Some, None, is_some, refl, ap, sym, ◌∙◌, subst, arith}
-use Rattle.std.specs.Prelude.{if◌then◌else◌}
-use Rattle.std.specs.List.{list_all}
-use Rattle.std.specs.Option.{ForSome}
-use Rattle.std.proofs.lemmas.List.{get_or_default, length-map, get_or-map}
-use Rattle.std.proofs.lemmas.Bool.{ltb-true}
-use Rattle.sel_bits.specs.Bits.{Bits}
-use Rattle.sel_arrow.specs.Value.{Value, Null, Number}
-use Rattle.sel_arrow.specs.Masked.{hidden, masked, number_rows, Covers, valid_at}
-use Rattle.sel_arrow.proofs.Lists.{all_at}
-use Rattle.sel_arrow.proofs.Rows.{masked_null, masked_valid, null_number, valid_number}
-use Rattle.sel_gather.specs.Plans.{HasBit, bits_found}
-use Rattle.sel_gather.specs.Validity.{bits_for}
-use Rattle.polars_compute.specs.Pick.{found, pick, pick_of, take_rows, is_within, all_within}
-use Rattle.polars_compute.specs.ValidPicks.{valid_pick}
-
-pub both : (a b : Bool) → (a && b) ≡ true → (a ≡ true) × (b ≡ true)
-both true b e = (refl, e)
-both false b e = cc
+use Rattle.polars_compute.proofs.Common.{◌≡◌, All, ℕ, zero, suc, ◌<◌, pos, Bool, true, false, List, [], ◌∷◌, length, map, get_or, replicate, Option, Some, None, refl, ap}
+use Rattle.polars_compute.proofs.Common.{sym, ◌∙◌, subst, arith, if◌then◌else◌, list_all, ForSome, get_or_default, length-map, get_or-map, ltb-true, Bits, Value, Null}
+use Rattle.polars_compute.proofs.Common.{Number, hidden, masked, number_rows, Covers, valid_at, all_at, and_first, and_second, masked_null, masked_valid, bits_for, found}
+use Rattle.polars_compute.proofs.Common.{pick, pick_of, take_rows, is_within, all_within, valid_pick, map_more, map-append, take, ◌+◌, ◌++◌}
+use Rattle.sel_arrow.proofs.Rows.{null_number, valid_number}
 
 -- ---- the row at one index
 
@@ -39,8 +25,7 @@ taken_list : {A : Type 0} (f : A → Value) → (validity : Option Bits) (xs : L
     → hidden (map (valid_pick validity) (map pick_of indices)) (map f (pick d (xs ∷ []) (map pick_of indices))) ≡ take_rows (masked validity (map f xs)) indices
 taken_list f validity xs d [] covers within = refl
 taken_list f validity xs d (index ∷ indices) covers within =
-    let parts = both (is_within (length xs) index) (all_within (length xs) indices) within in
-    (λ i. row_taken f validity xs d index covers parts.0 i ∷ taken_list f validity xs d indices covers parts.1 i)
+    (λ i. row_taken f validity xs d index covers (and_first _ _ within) i ∷ taken_list f validity xs d indices covers (and_second _ _ within) i)
 
 -- The rows of a column with the values and the validity at the indices are the rows at the indices.
 pub taken_rows : {A : Type 0} (f : A → Value) → (validity : Option Bits) (bits : Bits) (xs ys : List A) (d : A) (indices : List Value) → Covers validity (length xs) → all_within (length xs) indices ≡ true
@@ -50,9 +35,8 @@ taken_rows f validity bits xs ys d indices covers within values valid =
     (λ i. hidden (valid i) (map f (values i))) ∙ taken_list f validity xs d indices covers within
 
 pub hidden_trues : (n : ℕ) (vs : List Value) → hidden (replicate n true) vs ≡ vs
-hidden_trues zero vs = refl
-hidden_trues (suc n) [] = refl
 hidden_trues (suc n) (v ∷ vs) = ap (λ l. v ∷ l) (hidden_trues n vs)
+hidden_trues n vs = refl
 
 -- The same for an optional validity, which is none if each row is valid.
 pub taken_rows_for : {A : Type 0} (f : A → Value) → (validity taken : Option Bits) (xs ys : List A) (d : A) (indices : List Value) → Covers validity (length xs) → all_within (length xs) indices ≡ true
@@ -67,12 +51,16 @@ pub none_null : (places : List ℕ) → replicate (length (map (λ x. Number (po
 none_null [] = refl
 none_null (place ∷ places) = ap (λ l. true ∷ l) (none_null places)
 
-pub is_nothing : {A : Type 0} (x : Option A) → false ≡ is_some x → x ≡ None
-is_nothing None h = refl
-is_nothing (Some a) h = absurd cc
-
 pub length-pick : {A : Type 0} (d : A) → (xss : List (List A)) (indices : List Value) → length (pick d xss (map pick_of indices)) ≡ length indices
 length-pick d xss indices = length-map (map pick_of indices) (found d xss) ∙ length-map indices pick_of
+
+-- The rows at one more index.
+pub picked_more : {A : Type 0} (d : A) (xss : List (List A)) (rows : List Value) (k : ℕ) (old new : List A) (x : A) → k < length rows → new ≡ old ++ x ∷ [] → old ≡ pick d xss (map pick_of (take k rows)) →
+    x ≡ found d xss (pick_of (get_or rows k Null)) → new ≡ pick d xss (map pick_of (take (k + 1) rows))
+picked_more d xss rows k old new x inside pushed before at =
+    let f = found d xss in
+    pushed ∙ ap (λ l. l ++ x ∷ []) before ∙ ap (λ v. map f (map pick_of (take k rows)) ++ v ∷ []) at
+    ∙ sym (ap (map f) (map_more pick_of rows k Null inside) ∙ map-append f (map pick_of (take k rows)) _)
 
 pub length-valid : (validity : Option Bits) (indices : List Value) → length (map (valid_pick validity) (map pick_of indices)) ≡ length indices
 length-valid validity indices = length-map (map pick_of indices) (valid_pick validity) ∙ length-map indices pick_of
@@ -81,8 +69,8 @@ length-valid validity indices = length-map (map pick_of indices) (valid_pick val
 
 passed_at : {A : Type 0} (p : A → Bool) → (xs : List A) (d : A) (i : ℕ) → list_all p xs ≡ true → p d ≡ true → p (get_or xs i d) ≡ true
 passed_at p [] d i all filler = filler
-passed_at p (x ∷ xs) d zero all filler = (both (p x) (list_all p xs) all).0
-passed_at p (x ∷ xs) d (suc i) all filler = passed_at p xs d i (both (p x) (list_all p xs) all).1 filler
+passed_at p (x ∷ xs) d zero all filler = and_first (p x) (list_all p xs) all
+passed_at p (x ∷ xs) d (suc i) all filler = passed_at p xs d i (and_second (p x) (list_all p xs) all) filler
 
 passed_found : {A : Type 0} (p : A → Bool) → (xs : List A) (d : A) (index : Value) → list_all p xs ≡ true → p d ≡ true → p (found d (xs ∷ []) (pick_of index)) ≡ true
 passed_found p xs d (Number (pos i)) all filler = passed_at p xs d i all filler
@@ -115,9 +103,8 @@ passed_by p xs ys d indices is all filler = ap (list_all p) is ∙ passed_taken 
 -- ---- nulls
 
 null_at : (n : ℕ) (i : ℕ) → get_or (replicate n Null) i Null ≡ Null
-null_at zero i = refl
-null_at (suc n) zero = refl
 null_at (suc n) (suc i) = null_at n i
+null_at n i = refl
 
 null_found : (n : ℕ) (index : Value) → Null ≡ found Null (replicate n Null ∷ []) (pick_of index)
 null_found n (Number (pos i)) = sym (null_at n i)
@@ -151,10 +138,9 @@ picked_valid v (index ∷ indices) = ap (λ l. false ∷ l) (picked_valid v indi
 -- Without a validity of the values, a row is valid if its index is.
 pub named_bits : (bits : List Bool) (places : List ℕ) → length bits ≡ length places → bits ≡ map (valid_pick None) (map pick_of (hidden bits (map (λ x. Number (pos x)) places)))
 named_bits [] [] same = refl
-named_bits [] (place ∷ places) same = absurd (omega (arith, same))
-named_bits (b ∷ bits) [] same = absurd (omega (arith, same))
 named_bits (true ∷ bits) (place ∷ places) same = ap (λ l. true ∷ l) (named_bits bits places (omega (arith, same)))
 named_bits (false ∷ bits) (place ∷ places) same = ap (λ l. false ∷ l) (named_bits bits places (omega (arith, same)))
+named_bits bits places same = absurd (omega (arith, same))
 
 -- ---- values at indices that may be null
 

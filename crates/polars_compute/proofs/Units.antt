@@ -1,17 +1,11 @@
 -- Lists of one element, one for each row.
-use Rattle.std.proofs.Common.{◌≡◌, ◌<◌, ◌+◌, ◌-◌, ℕ, true, List, [], ◌∷◌, ◌++◌, pos, length, map, take, drop, get_or, None, Box, Global, ap, sym, subst, ◌∙◌, arith}
-use Rattle.std.specs.List.{range_with_len, slice_range}
-use Rattle.std.proofs.lemmas.List.{length-map, get_or-map, drop_more}
-use Rattle.std.proofs.lemmas.List.FromFn.{fill_by_all, length-range_with_len, get_or-range_with_len, map-range_with_len_more}
-use Rattle.sel_bits.specs.Offsets.{IsRising}
-use Rattle.sel_arrow.specs.Nested.{list_of, list_rows}
-use Rattle.sel_arrow.specs.Pieces.{pieces, rows_between}
-use Rattle.sel_arrow.specs.Rows.{rows, well_formed}
-use Rattle.sel_arrow.specs.Value.{Value, Null}
-use Rattle.sel_arrow.specs.declared.column.Column.{Column, LargeList}
-use Rattle.sel_arrow.proofs.ByteRows.{length-pieces, get_or-pieces}
-use Rattle.sel_arrow.proofs.NestedRows.{HasLists, lists_formed, length-rows}
-use Rattle.sel_gather.proofs.ListParts.{few_rows}
+use Rattle.polars_compute.proofs.Common.{◌≡◌, ◌<◌, ◌+◌, ◌-◌, ℕ, true, List, [], ◌∷◌, ◌++◌, pos, length, map, take, drop, get_or, None, Box, Global, ap, sym, subst, ◌∙◌}
+use Rattle.polars_compute.proofs.Common.{arith, range_with_len, length-map, get_or-map, fill_by_all, length-range_with_len, get_or-range_with_len}
+use Rattle.polars_compute.proofs.Common.{map-range_with_len_more, IsRising, list_of, pieces, rows_between, rows, well_formed, Value, Null, Column, LargeList}
+use Rattle.polars_compute.proofs.Common.{length-pieces, get_or-pieces, length-rows, few_rows, slice_range}
+use Rattle.std.proofs.lemmas.List.{drop_more}
+use Rattle.sel_arrow.specs.Nested.{list_rows}
+use Rattle.sel_arrow.proofs.NestedRows.{HasLists, lists_formed}
 use Rattle.polars_compute.specs.Lists.{unit_lists}
 
 count_at : (n k : ℕ) → k < n → get_or (range_with_len 0 n) k 0 ≡ k

@@ -1,88 +1,111 @@
 -- The row references of a horizontal flatten: the iteration over them, and the rows that they refer
 -- to.
-use Rattle.std.proofs.Common.{◌≡◌, ℕ, zero, suc, ◌+◌, ◌-◌, ◌*◌, ◌<◌, ◌≤◌, Bool, true, false, ◌==◌, All, List, [], ◌∷◌, ◌++◌, length, take, drop, refl, sym, ap, ◌∙◌, arith, get_or, drop-cons, append_assoc, length-append, Some, Option, add-one}
-use Rattle.std.specs.List.{flat_map, range_with_len}
-use Rattle.std.specs.Prelude.{if◌then◌else◌}
-use Rattle.std.proofs.Math.Seq.{drop-length}
-use Rattle.std.proofs.lemmas.Bool.{eqb-true}
-use Rattle.std.proofs.lemmas.List.{map-append, get_or-drop, drop-drop}
-use Rattle.std.proofs.lemmas.List.Elements.{All-append}
-use Rattle.std.proofs.lemmas.List.FromFn.{length-map-range_with_len}
-use Rattle.std.proofs.lemmas.Nat.{mul-le}
-use Rattle.sel_bits.specs.Limits.{max_rows}
-use Rattle.sel_arrow.proofs.Lists.{and_second}
-use Rattle.sel_gather.specs.Picks.{found, pick, PickFits}
-use Rattle.sel_gather.specs.Plans.{IsPicked}
-use Rattle.sel_gather.specs.Runs.{picks_of}
-use Rattle.sel_gather.proofs.Fits.{rows_fit}
-use Rattle.sel_gather.proofs.RunLists.{pick_rows}
-use Rattle.polars_compute.specs.Flatten.{flatten, flat_row, row_part, part_fits, parts_fit}
-use Rattle.polars_compute.specs.Widths.{row_width}
-use Rattle.polars_compute.specs.Lanes.{lane_of, lanes_of, row_picks, rows_picks, left_picks}
+use Rattle.polars_compute.proofs.Common.{◌≡◌, ℕ, zero, suc, ◌+◌, ◌-◌, ◌*◌, ◌<◌, ◌≤◌, Bool, true, false, ◌==◌, All, List, [], ◌∷◌, ◌++◌, length, take, drop, map, refl}
+use Rattle.polars_compute.proofs.Common.{sym, ap, subst, ◌∙◌, arith, get_or, drop-cons, append_assoc, length-append, Some, None, Option, add-one, range_with_len}
+use Rattle.polars_compute.proofs.Common.{if◌then◌else◌, eqb-true, drop_all, length-map, map-append, All-append, All-cons, All-map, All-nil, get_or-map-range_with_len}
+use Rattle.polars_compute.proofs.Common.{length-map-range_with_len, mul-le, max_rows, rows, Value, Null, ArrayRef, and_second, length-rows, few_rows, found, pick}
+use Rattle.polars_compute.proofs.Common.{PickFits, picks_of, flatten, flat_row, row_part, part_fits, parts_fit, row_width, lane_of, lanes_of, rows_picks, flat_map}
+use Rattle.polars_compute.proofs.Common.{length-unrolled_from, HasLeft}
+use Rattle.sel_gather.proofs.RunLists.{length-pick, All-left, All-right, below_length, pick_rows}
+use Rattle.polars_compute.specs.Lanes.{left_picks, row_picks, picks_from, IsReference}
 use Rattle.polars_compute.specs.declared.lanes.Lane.{Lane}
-use Rattle.polars_compute.proofs.Flattening.{Parts, part_at, row_inside, many_of, start_at, width_room}
+use Rattle.polars_compute.proofs.Places.{first_dropped, rest_dropped}
+use Rattle.polars_compute.proofs.Flattening.{Parts, flat_length, part_at, row_inside, many_of, start_at, widths_long, width_count}
 
 -- ---- the iteration
 
-lane_next : (r j : ℕ) (lane : Lane) (lanes : List Lane) → j < length lanes → lane ≡ get_or lanes j lane →
-    row_picks r j (drop j lanes) ≡ picks_of j (r * lane.step) lane.width ++ row_picks r (j + 1) (drop (j + 1) lanes)
-lane_next r j lane lanes inside is =
-    ap (row_picks r j) (drop-cons lanes j lane inside ∙ ap (λ l. l ∷ drop (suc j) lanes) (sym is))
-    ∙ ap (λ k. picks_of j (r * lane.step) lane.width ++ row_picks r (j + 1) (drop k lanes)) (sym (add-one j))
+-- All rows of the part of a lane, and the row references after it.
+pub lane_start : (j r n : ℕ) (lane d : Lane) (lanes : List Lane) → j < length lanes → lane ≡ get_or lanes j d →
+    left_picks j (r * lane.step) lane.width r n lanes ≡ picks_from j r n lanes
+lane_start j r n lane d lanes inside is =
+    let part = picks_of j (r * lane.step) lane.width in
+    let rest = rows_picks (r + 1) (n - (r + 1)) lanes in
+    sym (ap (λ l. row_picks r j l ++ rest) (drop-cons lanes j d inside ∙ ap (λ x. x ∷ drop (suc j) lanes) (sym is))
+    ∙ ap (λ k. (part ++ row_picks r (j + 1) (drop k lanes)) ++ rest) (sym (add-one j))
+    ∙ append_assoc part (row_picks r (j + 1) (drop (j + 1) lanes)) rest)
 
--- The next lane.
-pub turn_lane : (s at j r n : ℕ) (lane : Lane) (lanes : List Lane) → j < length lanes → lane ≡ get_or lanes j lane →
-    left_picks j (r * lane.step) lane.width (j + 1) r n lanes ≡ left_picks s at 0 j r n lanes
-turn_lane s at j r n lane lanes inside is =
-    sym (ap (λ l. l ++ rows_picks (r + 1) n lanes) (lane_next r j lane lanes inside is)
-    ∙ append_assoc (picks_of j (r * lane.step) lane.width) (row_picks r (j + 1) (drop (j + 1) lanes)) (rows_picks (r + 1) n lanes))
+-- A row and those after it, which are k.
+pub row_start : (r k n : ℕ) (lanes : List Lane) → 0 < k → n ≡ r + k → picks_from 0 r n lanes ≡ rows_picks r k lanes
+row_start r zero n lanes some is = absurd (omega (arith, some))
+row_start r (suc k) n lanes some is =
+    let same : n - (r + 1) ≡ k = omega (arith, is) in
+    ap (λ m. row_picks r 0 lanes ++ rows_picks (r + 1) m lanes) same
 
--- The next row.
-pub turn_row : (s at r n : ℕ) (lanes : List Lane) → 0 < n → left_picks s at 0 0 (r + 1) (n - 1) lanes ≡ left_picks s at 0 (length lanes) r n lanes
-turn_row s at r zero lanes h = absurd (omega (arith, h))
-turn_row s at r (suc n) lanes h =
-    let same : n ≡ suc n - 1 = omega arith in
-    sym (ap (λ l. row_picks r (length lanes) l ++ rows_picks (r + 1) (suc n) lanes) (drop-length lanes) ∙ ap (λ k. row_picks (r + 1) 0 lanes ++ rows_picks ((r + 1) + 1) k lanes) same)
+pub rows_some : (r k : ℕ) (lanes : List Lane) → 0 < length (rows_picks r k lanes) → (0 < k) × (0 < length lanes)
+rows_some r zero lanes h = absurd (omega (arith, h))
+rows_some r (suc k) [] h = (omega arith, (rows_some (r + 1) k [] h).1)
+rows_some r (suc k) (lane ∷ lanes) h = (omega arith, omega arith)
 
--- If row references remain after the last lane, a row remains.
-pub some_below : (s at r n : ℕ) (lanes : List Lane) → 0 < length (left_picks s at 0 (length lanes) r n lanes) → 0 < n
-some_below s at r zero lanes h =
-    let none : left_picks s at 0 (length lanes) r 0 lanes ≡ [] = ap (λ l. row_picks r (length lanes) l ++ []) (drop-length lanes) in
-    absurd (omega (arith, h, ap length none))
-some_below s at r (suc n) lanes h = omega arith
+-- If row references are left after the last lane, they begin with the next row.
+pub row_after : (j r n : ℕ) (lanes : List Lane) → length lanes ≤ j → 0 < length (picks_from j r n lanes) →
+    (r + 1 < n) × (0 < length lanes) × (picks_from 0 (r + 1) n lanes ≡ picks_from j r n lanes)
+row_after j r n lanes done some =
+    let k = n - (r + 1) in
+    let rest : picks_from j r n lanes ≡ rows_picks (r + 1) k lanes = ap (λ l. row_picks r j l ++ rows_picks (r + 1) k lanes) (drop_all j lanes done) in
+    let there = rows_some (r + 1) k lanes (omega (arith, some, ap length rest)) in
+    let below : 0 < k = there.0 in
+    (omega (arith, below), there.1, row_start (r + 1) k n lanes below (omega (arith, below)) ∙ sym rest)
 
--- The run of a part, and the row references after it.
-pub left_run : (s at part on j r n : ℕ) (lanes : List Lane) → length (left_picks s at part j r n lanes) ≡ part + length (left_picks s on 0 j r n lanes)
-left_run s at part on j r n lanes =
-    let rest = row_picks r j (drop j lanes) ++ rows_picks (r + 1) n lanes in
-    length-append (picks_of s at part) rest ∙ ap (λ k. k + length rest) (length-map-range_with_len (λ i. let pick : Option (ℕ × ℕ) = Some (s, i) in pick) at part)
+-- At first, the part of the first lane begins.
+pub first_part : (n : ℕ) (lane d : Lane) (lanes : List Lane) → lane ≡ get_or lanes 0 d → 0 < length (rows_picks 0 n lanes) → left_picks 0 0 lane.width 0 n lanes ≡ rows_picks 0 n lanes
+first_part n lane d lanes is some =
+    let there = rows_some 0 n lanes some in
+    let start : 0 ≡ 0 * lane.step = omega arith in
+    ap (λ at. left_picks 0 at lane.width 0 n lanes) start ∙ lane_start 0 0 n lane d lanes there.1 is ∙ row_start 0 n n lanes there.0 (omega arith)
 
--- No row reference is null.
-part_picked : (s at n : ℕ) → All IsPicked (picks_of s at n)
-part_picked s at zero k d h = absurd (omega (arith, h))
-part_picked s at (suc n) zero d h = tt
-part_picked s at (suc n) (suc k) d h = part_picked s (at + 1) n k d (omega (arith, h))
+-- After a part, the next lane.
+pub part_done : (j at part r n : ℕ) (lanes : List Lane) → part ≡ 0 → left_picks j at part r n lanes ≡ picks_from (j + 1) r n lanes
+part_done j at part r n lanes done = ap (λ k. picks_of j at k ++ picks_from (j + 1) r n lanes) done
 
-nothing_picked : All IsPicked (let none : List (Option (ℕ × ℕ)) = [] in none)
-nothing_picked k d h = absurd (omega (arith, h))
+-- ---- what is left
 
-row_picked : (r s : ℕ) (lanes : List Lane) → All IsPicked (row_picks r s lanes)
-row_picked r s [] = nothing_picked
-row_picked r s (lane ∷ lanes) = All-append IsPicked (picks_of s (r * lane.step) lane.width) (row_picks r (s + 1) lanes) (part_picked s (r * lane.step) lane.width) (row_picked r (s + 1) lanes)
+part_near : (s a n : ℕ) → 0 < n → All IsReference (picks_of s a n) → (s < max_rows) × (a + n ≤ max_rows)
+part_near s a n some all =
+    let f : ℕ → Option (ℕ × ℕ) = λ i. Some (s, i) in
+    let last = all (n - 1) None (rw (length-map-range_with_len f a n) (omega arith)) in
+    let there : IsReference (Some (s, a + (n - 1))) = subst IsReference (get_or-map-range_with_len f a n (n - 1) (a + (n - 1)) None (omega arith) refl) last in
+    let near = there.1 (s, a + (n - 1)) refl in
+    (near.0, omega (arith, near.1))
 
-rows_picked : (r n : ℕ) (lanes : List Lane) → All IsPicked (rows_picks r n lanes)
-rows_picked r zero lanes = nothing_picked
-rows_picked r (suc n) lanes = All-append IsPicked (row_picks r 0 lanes) (rows_picks (r + 1) n lanes) (row_picked r 0 lanes) (rows_picked (r + 1) n lanes)
+-- The rows of a part that is not empty are in range.
+pub left_inside : (lanes : List Lane) (left j at part r n : ℕ) → 0 < part → HasLeft lanes left (left_picks j at part r n lanes) → (j < max_rows) × (at + part ≤ max_rows)
+left_inside lanes left j at part r n some has =
+    part_near j at part some (All-left IsReference (picks_of j at part) (picks_from (j + 1) r n lanes) has.references)
 
-pub left_picked : (s at part j r n : ℕ) (lanes : List Lane) → All IsPicked (left_picks s at part j r n lanes)
-left_picked s at part j r n lanes =
-    All-append IsPicked (picks_of s at part) (row_picks r j (drop j lanes) ++ rows_picks (r + 1) n lanes) (part_picked s at part)
-    (All-append IsPicked (row_picks r j (drop j lanes)) (rows_picks (r + 1) n lanes) (row_picked r j (drop j lanes)) (rows_picked (r + 1) n lanes))
+-- The next lane has rows, which are in range.
+pub lane_inside : (lanes : List Lane) (left j r n : ℕ) (lane d : Lane) → j < length lanes → lane ≡ get_or lanes j d → HasLeft lanes left (picks_from j r n lanes) →
+    (0 < lane.width) × (j < max_rows) × (r * lane.step + lane.width ≤ max_rows)
+lane_inside lanes left j r n lane d inside is has =
+    let some : 0 < lane.width = subst (λ (l : Lane). 0 < l.width) (sym is) (has.wide j d inside) in
+    let here = left_inside lanes left j (r * lane.step) lane.width r n some (subst (HasLeft lanes left) (sym (lane_start j r n lane d lanes inside is)) has) in
+    (some, here.0, here.1)
 
--- At first, all row references remain.
-pub left_first : (s at h : ℕ) (lanes : List Lane) → 0 < h → left_picks s at 0 0 0 (h - 1) lanes ≡ rows_picks 0 h lanes
-left_first s at zero lanes some = absurd (omega (arith, some))
-left_first s at (suc h) lanes some = let same : suc h - 1 ≡ h = omega arith in ap (λ n. row_picks 0 0 lanes ++ rows_picks 1 n lanes) same
+-- The row references after the first m.
+left_after : (lanes : List Lane) (left m : ℕ) (ps qs : List (Option (ℕ × ℕ))) → m ≡ length ps → HasLeft lanes left (ps ++ qs) → (m ≤ left) × HasLeft lanes (left - m) qs
+left_after lanes left m ps qs many has =
+    let sum = length-append ps qs in (
+      omega (arith, has.counted, sum, many),
+      record { wide = has.wide; references = All-right IsReference ps qs has.references; counted = omega (arith, has.counted, sum, many) },
+    )
+
+-- After the run of a part.
+pub part_after : (lanes : List Lane) (left j at part r n : ℕ) → HasLeft lanes left (left_picks j at part r n lanes) → (part ≤ left) × HasLeft lanes (left - part) (picks_from (j + 1) r n lanes)
+part_after lanes left j at part r n has =
+    left_after lanes left part (picks_of j at part) (picks_from (j + 1) r n lanes) (sym (length-unrolled_from (Some j) at part)) has
+
+-- The first row reference of a part, and after it.
+pub pick_first : (lanes : List Lane) (j at part r n : ℕ) → 0 < part → left_picks j at part r n lanes ≡ Some (j, at) ∷ left_picks j (at + 1) (part - 1) r n lanes
+pick_first lanes j at zero r n some = absurd (omega (arith, some))
+pick_first lanes j at (suc part) r n some =
+    let same : part ≡ suc part - 1 = omega arith in
+    ap (λ k. Some (j, at) ∷ left_picks j (at + 1) k r n lanes) same
+
+pub pick_after : (lanes : List Lane) (left j at part r n : ℕ) → 0 < part → HasLeft lanes left (left_picks j at part r n lanes) → HasLeft lanes (left - 1) (left_picks j (at + 1) (part - 1) r n lanes)
+pick_after lanes left j at part r n some has =
+    (left_after lanes left 1 (Some (j, at) ∷ []) (left_picks j (at + 1) (part - 1) r n lanes) refl (subst (HasLeft lanes left) (pick_first lanes j at part r n some) has)).1
+
+reference : (s i : ℕ) → s < max_rows → i < max_rows → IsReference (Some (s, i))
+reference s i source row = (refl, λ p is. let same : (s, i) ≡ p = cc in subst (λ (q : ℕ × ℕ). (q.0 < max_rows) × (q.1 < max_rows)) same (source, row))
 
 -- ---- lanes
 
@@ -98,6 +121,13 @@ pub lanes_more : {A : Type 0} (xss : List (List A)) (ws : List ℕ) (s : ℕ) �
     lanes_of (take (s + 1) xss) (take (s + 1) ws) ≡ lanes_of (take s xss) (take s ws) ++ lane_of (length (get_or xss s [])) (get_or ws s 0) ∷ []
 lanes_more xss ws s long inside = ap (λ k. lanes_of (take k xss) (take k ws)) (add-one s) ∙ lanes_step xss ws s long inside
 
+wide_lanes : {A : Type 0} (h : ℕ) (xss : List (List A)) (ws : List ℕ) → parts_fit h xss ws ≡ true → All (λ lane. 0 < lane.width) (lanes_of xss ws)
+wide_lanes h [] ws fit = All-nil _
+wide_lanes h (xs ∷ xss) [] fit = absurd cc
+wide_lanes h (xs ∷ xss) (w ∷ ws) fit =
+    All-cons (λ lane. 0 < lane.width) (lane_of (length xs) w) (lanes_of xss ws) (part_at h (xs ∷ xss) (w ∷ ws) 0 fit (omega arith)).0
+    (wide_lanes h xss ws (and_second (part_fits h (length xs) w) (parts_fit h xss ws) fit))
+
 -- ---- the rows that the row references refer to
 
 start_is : (b : Bool) (r w : ℕ) → r * (if b then 0 else w) ≡ (if b then 0 else r * w)
@@ -110,42 +140,36 @@ part_inside true r h xs w e inside fit =
     omega (arith, none, eqb-true (length xs) w e)
 part_inside false r h xs w e inside fit = row_inside r h (length xs) w inside (many_of h (length xs) w fit.1 e)
 
-nothing_fits : {A : Type 0} (xss : List (List A)) → All (PickFits xss) (let none : List (Option (ℕ × ℕ)) = [] in none)
-nothing_fits xss k d h = absurd (omega (arith, h))
+picks_all : (P : Option (ℕ × ℕ) → Type 0) (s a n : ℕ) → ((k : ℕ) → k < n → P (Some (s, a + k))) → All P (picks_of s a n)
+picks_all P s a n each k d below =
+    let f : ℕ → Option (ℕ × ℕ) = λ i. Some (s, i) in
+    let small : k < n = let long = length-map-range_with_len f a n in omega (arith, below, long) in
+    subst P (sym (get_or-map-range_with_len f a n k (a + k) d small refl)) (each k small)
 
 module _ {A : Type 0} (d : A) (all : List (List A)) (r h : ℕ) (inside : r < h) where
-  here : (s : ℕ) (xs : List A) (xss : List (List A)) → drop s all ≡ xs ∷ xss → get_or all s [] ≡ xs
-  here s xs xss e =
-      let there : s + 0 ≡ s = omega arith in
-      ap (λ n. get_or all n []) (sym there) ∙ sym (get_or-drop s all 0 []) ∙ ap (λ l. get_or l 0 []) e
-
-  behind : (s : ℕ) (xs : List A) (xss : List (List A)) → drop s all ≡ xs ∷ xss → drop (s + 1) all ≡ xss
-  behind s xs xss e = sym (drop-drop 1 s all) ∙ ap (drop 1) e
-
   room : (s : ℕ) (xs : List A) (xss : List (List A)) (w : ℕ) (ws : List ℕ) → drop s all ≡ xs ∷ xss → parts_fit h (xs ∷ xss) (w ∷ ws) ≡ true →
       r * (if length xs == w then 0 else w) + w ≤ length (get_or all s [])
   room s xs xss w ws e fit =
       let fits = part_inside (length xs == w) r h xs w refl inside (part_at h (xs ∷ xss) (w ∷ ws) 0 fit (omega arith)) in
-      omega (arith, fits, ap length (here s xs xss e))
+      omega (arith, fits, ap length (first_dropped all xs xss s [] e))
 
   row_woven : (s : ℕ) (xss : List (List A)) (ws : List ℕ) → drop s all ≡ xss → parts_fit h xss ws ≡ true → pick d all (row_picks r s (lanes_of xss ws)) ≡ flat_row r xss ws
-  row_woven s [] ws e fit = refl
-  row_woven s (xs ∷ xss) [] e fit = refl
   row_woven s (xs ∷ xss) (w ∷ ws) e fit =
       let start = r * (if length xs == w then 0 else w) in
-      let part = pick_rows d all s start w (room s xs xss w ws e fit) ∙ ap (λ l. take w (drop start l)) (here s xs xss e)
+      let part = pick_rows d all s start w (room s xs xss w ws e fit) ∙ ap (λ l. take w (drop start l)) (first_dropped all xs xss s [] e)
       ∙ start_at r xs w start (length xs == w) refl (start_is (length xs == w) r w) in
-      let rest = row_woven (s + 1) xss ws (behind s xs xss e) (and_second (part_fits h (length xs) w) (parts_fit h xss ws) fit) in
+      let rest = row_woven (s + 1) xss ws (rest_dropped all xs xss s e) (and_second (part_fits h (length xs) w) (parts_fit h xss ws) fit) in
       map-append (found d all) (picks_of s start w) (row_picks r (s + 1) (lanes_of xss ws))
       ∙ ap (λ l. l ++ pick d all (row_picks r (s + 1) (lanes_of xss ws))) part ∙ ap (λ l. row_part r xs w ++ l) rest
+  row_woven s xss ws e fit = refl
 
-  row_fits : (s : ℕ) (xss : List (List A)) (ws : List ℕ) → drop s all ≡ xss → parts_fit h xss ws ≡ true → All (PickFits all) (row_picks r s (lanes_of xss ws))
-  row_fits s [] ws e fit = nothing_fits all
-  row_fits s (xs ∷ xss) [] e fit = nothing_fits all
-  row_fits s (xs ∷ xss) (w ∷ ws) e fit =
+  row_all : (P : Option (ℕ × ℕ) → Type 0) → ((s i : ℕ) → i < length (get_or all s []) → P (Some (s, i))) →
+      (s : ℕ) (xss : List (List A)) (ws : List ℕ) → drop s all ≡ xss → parts_fit h xss ws ≡ true → All P (row_picks r s (lanes_of xss ws))
+  row_all P each s (xs ∷ xss) (w ∷ ws) e fit =
       let start = r * (if length xs == w then 0 else w) in
-      All-append (PickFits all) (picks_of s start w) (row_picks r (s + 1) (lanes_of xss ws)) (rows_fit all s start w (room s xs xss w ws e fit))
-      (row_fits (s + 1) xss ws (behind s xs xss e) (and_second (part_fits h (length xs) w) (parts_fit h xss ws) fit))
+      All-append P (picks_of s start w) (row_picks r (s + 1) (lanes_of xss ws)) (picks_all P s start w (λ k below. each s (start + k) (omega (arith, below, room s xs xss w ws e fit))))
+      (row_all P each (s + 1) xss ws (rest_dropped all xs xss s e) (and_second (part_fits h (length xs) w) (parts_fit h xss ws) fit))
+  row_all P each s xss ws e fit = All-nil P
 
 module _ {A : Type 0} (d : A) (xss : List (List A)) (ws : List ℕ) (h : ℕ) (fit : parts_fit h xss ws ≡ true) where
   rows_from : (r n : ℕ) → r + n ≤ h → pick d xss (rows_picks r n (lanes_of xss ws)) ≡ flat_map (λ i. flat_row i xss ws) (range_with_len r n)
@@ -159,44 +183,43 @@ module _ {A : Type 0} (d : A) (xss : List (List A)) (ws : List ℕ) (h : ℕ) (f
   pub rows_woven : pick d xss (rows_picks 0 h (lanes_of xss ws)) ≡ flatten xss ws h
   rows_woven = rows_from 0 h (omega arith)
 
-  fits_from : (r n : ℕ) → r + n ≤ h → All (PickFits xss) (rows_picks r n (lanes_of xss ws))
-  fits_from r zero inside = nothing_fits xss
-  fits_from r (suc n) inside =
-      All-append (PickFits xss) (row_picks r 0 (lanes_of xss ws)) (rows_picks (r + 1) n (lanes_of xss ws))
-      (row_fits d xss r h (omega (arith, inside)) 0 xss ws refl fit) (fits_from (r + 1) n (omega (arith, inside)))
+  rows_all : (P : Option (ℕ × ℕ) → Type 0) → ((s i : ℕ) → i < length (get_or xss s []) → P (Some (s, i))) → (r n : ℕ) → r + n ≤ h → All P (rows_picks r n (lanes_of xss ws))
+  rows_all P each r zero inside = All-nil P
+  rows_all P each r (suc n) inside =
+      All-append P (row_picks r 0 (lanes_of xss ws)) (rows_picks (r + 1) n (lanes_of xss ws))
+      (row_all d xss r h (omega (arith, inside)) P each 0 xss ws refl fit) (rows_all P each (r + 1) n (omega (arith, inside)))
 
   pub woven_fit : All (PickFits xss) (rows_picks 0 h (lanes_of xss ws))
-  woven_fit = fits_from 0 h (omega arith)
+  woven_fit = rows_all (PickFits xss) (λ s i below. below) 0 h (omega arith)
 
--- ---- properties of each lane
+-- ---- arrays that are flattened
 
-each_lane : (P : Lane → Type 0) → {A : Type 0} → (xss : List (List A)) (ws : List ℕ) → ((s : ℕ) → s < length ws → P (lane_of (length (get_or xss s [])) (get_or ws s 0))) → All P (lanes_of xss ws)
-each_lane P [] ws holds k d h = absurd (omega (arith, h))
-each_lane P (xs ∷ xss) [] holds k d h = absurd (omega (arith, h))
-each_lane P (xs ∷ xss) (w ∷ ws) holds zero d h = holds 0 (omega arith)
-each_lane P (xs ∷ xss) (w ∷ ws) holds (suc k) d h = each_lane P xss ws (λ s inside. holds (suc s) (omega (arith, inside))) k d (omega (arith, h))
+module _ (arrays : List ArrayRef) (ws : List ℕ) (h len : ℕ) (some : 0 < length arrays) (fit : parts_fit h (map (λ a. rows a.column) arrays) ws ≡ true) (high : 0 < h) (is : len ≡ h * row_width ws) (few : len ≤ max_rows) where
+  abbrev columns : List (List Value)
+  columns = map (λ (a : ArrayRef). rows a.column) arrays
 
-pub length-lanes : {A : Type 0} (xss : List (List A)) (ws : List ℕ) → length xss ≡ length ws → length (lanes_of xss ws) ≡ length ws
-length-lanes [] [] long = refl
-length-lanes [] (w ∷ ws) long = absurd (omega (arith, long))
-length-lanes (xs ∷ xss) [] long = absurd (omega (arith, long))
-length-lanes (xs ∷ xss) (w ∷ ws) long = ap suc (length-lanes xss ws (omega (arith, long)))
+  pub paired : length arrays ≡ length ws
+  paired = sym (length-map arrays (λ (a : ArrayRef). rows a.column)) ∙ widths_long h columns ws fit
 
-low_lane : (b : Bool) (r h w row : ℕ) → r < h → w ≤ row → h * row ≤ max_rows → r * (if b then 0 else w) + w ≤ max_rows
-low_lane true r h w row inside narrow few =
-    let none : r * 0 ≡ 0 = omega arith in
-    let one : 1 * row ≤ h * row = mul-le 1 row h row (omega (arith, inside)) (omega arith) in
-    omega (arith, none, one, narrow, few)
-low_lane false r h w row inside narrow few =
-    let more : (r + 1) * w ≤ h * row = mul-le (r + 1) w h row (omega (arith, inside)) narrow in
-    let split : (r + 1) * w ≡ r * w + w = omega arith in
-    omega (arith, more, split, few)
+  pub sizes : (row_width ws ≤ max_rows) × (h ≤ max_rows) × (0 < len)
+  sizes =
+      let wide : 1 * row_width ws ≤ h * row_width ws = mul-le 1 (row_width ws) h (row_width ws) (omega (arith, high)) (omega arith) in
+      let long : h * 1 ≤ h * row_width ws = mul-le h 1 h (row_width ws) (omega arith) (omega (arith, some, paired, width_count h columns ws fit)) in
+      (omega (arith, wide, is, few), omega (arith, long, is, few), omega (arith, long, high, is))
 
-module _ {A : Type 0} (xss : List (List A)) (ws : List ℕ) (h : ℕ) (fit : parts_fit h xss ws ≡ true) where
-  pub wide_lanes : All (λ l. 0 < l.width) (lanes_of xss ws)
-  wide_lanes = each_lane (λ l. 0 < l.width) xss ws (λ s inside. (part_at h xss ws s fit inside).0)
+  few_columns : length columns ≤ max_rows
+  few_columns = omega (arith, length-map arrays (λ (a : ArrayRef). rows a.column), paired, width_count h columns ws fit, sizes.0)
 
-  pub low_lanes : (r : ℕ) → r < h → h * row_width ws ≤ max_rows → All (λ l. r * l.step + l.width ≤ max_rows) (lanes_of xss ws)
-  low_lanes r below few =
-      each_lane (λ l. r * l.step + l.width ≤ max_rows) xss ws
-      (λ s inside. low_lane (length (get_or xss s []) == get_or ws s 0) r h (get_or ws s 0) (row_width ws) below (let room = width_room ws s inside in omega (arith, room)) few)
+  few_of_each : All (λ xs. length xs ≤ max_rows) columns
+  few_of_each =
+      All-map (λ xs. length xs ≤ max_rows) (λ (a : ArrayRef). rows a.column) arrays
+      (λ k d below. omega (arith, few_rows (get_or arrays k d).column (get_or arrays k d).formed, length-rows (get_or arrays k d).column))
+
+  -- The row references that are left at first.
+  pub first_left : HasLeft (lanes_of columns ws) len (rows_picks 0 h (lanes_of columns ws))
+  first_left = record {
+    wide = wide_lanes h columns ws fit;
+    references = rows_all Null columns ws h fit IsReference
+        (λ s i below. let there = below_length columns s i below in reference s i (omega (arith, there, few_columns)) (omega (arith, below, few_of_each s [] there))) 0 h (omega arith);
+    counted = omega (arith, ap length (rows_woven Null columns ws h fit) ∙ flat_length h h columns ws (omega arith) fit, length-pick Null columns (rows_picks 0 h (lanes_of columns ws)), is);
+  }

@@ -1,6 +1,6 @@
 -- Elements of fixed-size lists, with one index for each list.
 use Rattle.std.specs.Prelude.{◌≡◌, ℕ, ℤ, Bool, true, false, ◌&&◌, not, List, map, length}
-use Rattle.std.specs.Prelude.{replicate, Option, None, slice_index_or, if◌then◌else◌}
+use Rattle.std.specs.Prelude.{replicate, Option, None, slice_index_or}
 use Rattle.std.specs.List.{list_any, range_with_len}
 use Rattle.std.specs.Option.{is_none}
 use Rattle.sel_bits.specs.Place.{place}

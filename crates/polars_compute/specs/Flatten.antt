@@ -1,5 +1,5 @@
 -- Horizontal flatten: its result, its precondition, and the limits that its result exceeds.
-use Rattle.std.specs.Prelude.{ℕ, ◌+◌, ◌*◌, ◌<◌, Bool, true, false, ◌&&◌, ◌||◌, ◌==◌, nat_lt, ◌⊎◌}
+use Rattle.std.specs.Prelude.{ℕ, ◌*◌, ◌<◌, Bool, true, false, ◌&&◌, ◌||◌, ◌==◌, nat_lt, ◌⊎◌}
 use Rattle.std.specs.Prelude.{List, [], ◌∷◌, ◌++◌, length, map, take, drop, if◌then◌else◌, Result}
 use Rattle.std.specs.List.{flat_map, range_with_len}
 use Rattle.sel_bits.specs.declared.faults.Limit.{Limit}

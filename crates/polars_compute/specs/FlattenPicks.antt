@@ -6,4 +6,4 @@ use Rattle.polars_compute.specs.declared.lanes.Woven.{Woven}
 -- The remaining row references of the iterator.
 abbrev pub woven_picks : Woven → List (Option (ℕ × ℕ))
 woven_picks woven =
-    left_picks woven.source woven.at woven.part woven.lane woven.row woven.below woven.lanes.now
+    left_picks woven.lane woven.at woven.part woven.row woven.rows woven.lanes.now

@@ -1,6 +1,8 @@
 -- The row references of a horizontal flatten.
-use Rattle.std.specs.Prelude.{ℕ, zero, suc, ◌+◌, ◌*◌, ◌==◌, List, [], ◌∷◌, ◌++◌, length, drop}
-use Rattle.std.specs.Prelude.{Option, if◌then◌else◌}
+use Rattle.std.specs.Prelude.{◌≡◌, ℕ, zero, suc, ◌+◌, ◌-◌, ◌*◌, ◌<◌, ◌==◌, All, List, [], ◌∷◌, ◌++◌}
+use Rattle.std.specs.Prelude.{length, drop, Option, IsSome, if◌then◌else◌}
+use Rattle.std.specs.Option.{ForSome}
+use Rattle.sel_bits.specs.Limits.{max_rows}
 use Rattle.sel_gather.specs.Runs.{picks_of}
 use Rattle.polars_compute.specs.declared.lanes.Lane.{Lane}
 
@@ -25,8 +27,22 @@ abbrev pub rows_picks : ℕ → ℕ → List Lane → List (Option (ℕ × ℕ))
 rows_picks r zero lanes = []
 rows_picks r (suc n) lanes = row_picks r 0 lanes ++ rows_picks (r + 1) n lanes
 
--- The remaining row references: `part` rows of `source` from row `at` on, then those of row r for
--- the lanes from j on, then those of n more rows.
-abbrev pub left_picks : ℕ → ℕ → ℕ → ℕ → ℕ → ℕ → List Lane → List (Option (ℕ × ℕ))
-left_picks source at part j r n lanes =
-    picks_of source at part ++ (row_picks r j (drop j lanes) ++ rows_picks (r + 1) n lanes)
+-- The row references from lane j of row r on, of n rows.
+abbrev pub picks_from : ℕ → ℕ → ℕ → List Lane → List (Option (ℕ × ℕ))
+picks_from j r n lanes = row_picks r j (drop j lanes) ++ rows_picks (r + 1) (n - (r + 1)) lanes
+
+-- The remaining row references: `part` rows of source j from row `at` on, then those from the next
+-- lane of row r on, of n rows.
+abbrev pub left_picks : ℕ → ℕ → ℕ → ℕ → ℕ → List Lane → List (Option (ℕ × ℕ))
+left_picks j at part r n lanes = picks_of j at part ++ picks_from (j + 1) r n lanes
+
+-- The row reference is not none, and its source and its row are less than 2^32 - 1.
+abbrev pub IsReference : Option (ℕ × ℕ) → Type 0
+IsReference pick = IsSome pick × ForSome pick (λ p. (p.0 < max_rows) × (p.1 < max_rows))
+
+-- What is left of an iteration over the rows of these lanes: `left` row references, which are
+-- `picks`. No lane is empty, and each row reference is in range.
+pub record HasLeft (lanes : List Lane) (left : ℕ) (picks : List (Option (ℕ × ℕ))) : Type 0 where
+  pub wide : All (λ lane. 0 < lane.width) lanes
+  pub references : All IsReference picks
+  pub counted : left ≡ length picks

@@ -158,16 +158,7 @@ fn collect_flat(
     ensures { Flattens result arrays.now widths.now height }
 {
     let lanes = lanes_of_parts(alloc, arrays, widths)?;
-    let woven = Woven {
-        lanes: lanes.as_slice(),
-        source: 0,
-        at: 0,
-        part: 0,
-        lane: 0,
-        row: 0,
-        below: (height - 1) as u32,
-        left: len as u32,
-    };
+    let woven = Woven::of_rows(lanes.as_slice(), height as u32, len as u32);
     let sources = columns_of(alloc, arrays)?;
     let in_runs = len / height >= LONG_PART * arrays.len();
     let column = collect_plan(alloc, &sources, &woven, in_runs)?;

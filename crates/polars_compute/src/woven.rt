@@ -1,13 +1,35 @@
 //! Row references of a horizontal flatten.
 
-ghost use Rattle.std.specs.Prelude.{◌≡◌, ◌<◌, ◌+◌, ◌*◌, length};
+ghost use Rattle.std.specs.Prelude.{◌≡◌, ◌<◌, length};
 ghost use Rattle.polars_compute.specs.FlattenPicks.{woven_picks};
+ghost use Rattle.polars_compute.specs.Lanes.{HasLeft, picks_from, rows_picks};
 
-use crate::lanes::Woven;
+use crate::lanes::{Lane, Woven};
 use sel_gather::row_refs::Plan;
 use sel_gather::runs::Run;
 
-impl Woven<'_> {
+impl<'a> Woven<'a> {
+    /// Returns an iterator over the row references of `rows` rows.
+    ///
+    /// # Requires
+    /// There are `left` row references, at least one; no lane is empty, and each row reference is in
+    /// range.
+    pub fn of_rows(lanes: &'a [Lane], rows: u32, left: u32) -> Woven<'a>
+        requires some { 0 < left }
+        requires left { HasLeft lanes.now left (rows_picks 0 rows lanes.now) }
+        ensures { woven_picks result ≡ rows_picks 0 rows lanes.now }
+    {
+        Woven {
+            lanes,
+            lane: 0,
+            at: 0,
+            part: lanes[0].width,
+            row: 0,
+            rows,
+            left,
+        }
+    }
+
     // Advances to the next part, unless rows of this one are left.
     #[inline(always)]
     fn ready(&mut self)
@@ -19,44 +41,28 @@ impl Woven<'_> {
         if self.part > 0 {
             return;
         }
-        if self.lane < self.lanes.len() {
-            self.turn_lane();
-            return;
+        let (lane, row) = self.next_lane();
+        let next = self.lanes[lane as usize];
+        self.lane = lane;
+        self.row = row;
+        self.at = row * next.step;
+        self.part = next.width;
+    }
+
+    // Returns the lane of the next part, and its row.
+    #[inline(always)]
+    fn next_lane(&self) -> (u32, u32)
+        requires done { self.now.part ≡ 0 }
+        requires some { 0 < self.now.left }
+        ensures inside { result.0 < length self.now.lanes.now }
+        ensures picks { picks_from result.0 result.1 self.now.rows self.now.lanes.now ≡
+            woven_picks self.now }
+    {
+        if self.lane as usize + 1 < self.lanes.len() {
+            (self.lane + 1, self.row)
+        } else {
+            (0, self.row + 1)
         }
-        self.turn_row();
-        self.turn_lane();
-    }
-
-    // Advances to the next lane.
-    #[inline(always)]
-    fn turn_lane(&mut self)
-        requires done { self.old.part ≡ 0 }
-        requires inside { self.old.lane < length self.old.lanes.now }
-        ensures picks { woven_picks self.new ≡ woven_picks self.old }
-        ensures some { 0 < self.new.part }
-        ensures left { self.new.left ≡ self.old.left }
-    {
-        let lane = self.lanes[self.lane];
-        self.source = self.lane as u32;
-        self.at = self.row * lane.step;
-        self.part = lane.width;
-        self.lane += 1;
-    }
-
-    // Advances to the next row.
-    #[inline(always)]
-    fn turn_row(&mut self)
-        requires done { self.old.part ≡ 0 }
-        requires end { self.old.lane ≡ length self.old.lanes.now }
-        requires some { 0 < self.old.left }
-        ensures picks { woven_picks self.new ≡ woven_picks self.old }
-        ensures part { self.new.part ≡ 0 }
-        ensures lane { self.new.lane ≡ 0 }
-        ensures left { self.new.left ≡ self.old.left }
-    {
-        self.lane = 0;
-        self.row += 1;
-        self.below -= 1;
     }
 }
 
@@ -71,7 +77,7 @@ impl Plan for Woven<'_> {
     #[inline(always)]
     fn next(&mut self) -> Option<(u32, u32)> {
         self.ready();
-        let next = Some((self.source, self.at));
+        let next = Some((self.lane, self.at));
         self.at += 1;
         self.part -= 1;
         self.left -= 1;
@@ -82,11 +88,10 @@ impl Plan for Woven<'_> {
     fn next_run(&mut self) -> Run {
         self.ready();
         let run = Run {
-            source: Some(self.source),
+            source: Some(self.lane),
             start: self.at,
             len: self.part,
         };
-        self.at += self.part;
         self.left -= self.part;
         self.part = 0;
         run
@@ -96,12 +101,11 @@ impl Plan for Woven<'_> {
     fn again(&self) -> Self {
         Woven {
             lanes: self.lanes,
-            source: self.source,
+            lane: self.lane,
             at: self.at,
             part: self.part,
-            lane: self.lane,
             row: self.row,
-            below: self.below,
+            rows: self.rows,
             left: self.left,
         }
     }
@@ -111,15 +115,15 @@ impl Plan for Woven<'_> {
         false
     }
 
-    // Returns whether the rows left per row of the result, rounded down, outnumber the lanes.
+    // Returns whether there are more rows left than parts of all rows.
     #[inline(always)]
     fn is_wide(&self) -> bool {
-        self.left as usize / (self.below as usize + 1) > self.lanes.len()
+        self.left as usize > self.run_count()
     }
 
     // Returns the number of parts of all rows, a part being what one lane adds to one row.
     #[inline(always)]
     fn run_count(&self) -> usize {
-        (self.below as usize + 1).saturating_mul(self.lanes.len())
+        (self.rows as usize).saturating_mul(self.lanes.len())
     }
 }

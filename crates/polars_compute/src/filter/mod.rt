@@ -20,7 +20,7 @@ use crate::runs::runs_of_mask;
 pub use boolean::filter_boolean_kernel;
 use boolean::{filter_counted_booleans, filter_validity};
 use fixed_size_list::filter_child;
-use primitive::filter_counted_rows;
+use primitive::filter_counted_buffer;
 use sel_arrow::array::Array;
 use sel_arrow::array_ref::ArrayRef;
 use sel_arrow::binview::BinaryViewArray;
@@ -30,7 +30,6 @@ use sel_arrow::null::NullArray;
 use sel_arrow::primitive::{ArrowPrimitive, PrimitiveArray};
 use sel_arrow::utf8view::Utf8ViewArray;
 use sel_bits::bitmap::Bitmap;
-use sel_bits::buffer::Buffer;
 use sel_bits::faults::PolarsResult;
 use sel_gather::one_source::collect_one;
 pub use selection::Selection;
@@ -337,14 +336,13 @@ fn filter_primitive<T: ArrowPrimitive>(
         select (primitive_rows array.now) mask.now.bits) }
     ensures refusal { IfErr result IsOutOfMemory }
 {
-    let (values, validity) = filter_counted_rows(
+    let (values, validity) = filter_counted_buffer(
         alloc,
-        array.values.as_slice(),
-        array.validity.as_ref(),
+        &array.values,
+        &array.validity,
         mask,
         count,
     )?;
-    let values = Buffer::from_vec(values)?;
     Ok(PrimitiveArray { values, validity })
 }
 
@@ -362,14 +360,13 @@ fn filter_views(
         select (binview_rows array.now) mask.now.bits) }
     ensures refusal { IfErr result IsOutOfMemory }
 {
-    let (views, validity) = filter_counted_rows(
+    let (views, validity) = filter_counted_buffer(
         alloc,
-        array.views.as_slice(),
-        array.validity.as_ref(),
+        &array.views,
+        &array.validity,
         mask,
         count,
     )?;
-    let views = Buffer::from_vec(views)?;
     let buffers = array.buffers.try_clone()?;
     Ok(BinaryViewArray {
         views,

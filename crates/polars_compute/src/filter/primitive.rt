@@ -9,6 +9,7 @@ ghost use Rattle.polars_compute.specs.Select.{select};
 
 use crate::filter::boolean::filter_validity;
 use sel_bits::bitmap::Bitmap;
+use sel_bits::buffer::Buffer;
 use sel_bits::faults::PolarsResult;
 use sel_filter::primitive::filter_counted_values;
 pub use sel_filter::primitive::filter_values;
@@ -55,5 +56,32 @@ pub(crate) fn filter_counted_rows<T: Copy>(
 {
     let kept = filter_counted_values(alloc, values, mask, count)?;
     let kept_validity = filter_validity(alloc, validity, mask, count)?;
+    Ok((kept, kept_validity))
+}
+
+/// Returns what `filter_counted_rows` does, for a buffer.
+pub(crate) fn filter_counted_buffer<T: Copy + Drop>(
+    alloc: Global,
+    values: &Buffer<T>,
+    validity: &Option<Bitmap>,
+    mask: &Bitmap,
+    count: usize,
+) -> PolarsResult<(Buffer<T>, Option<Bitmap>)>
+    requires values { length values.now ≡ length mask.now.bits }
+    requires validity { Covers validity.now (length mask.now.bits) }
+    requires count { count ≡ count_true mask.now.bits }
+    ensures values { IfOk result (λ kept. kept.0 ≡ select values.now mask.now.bits) }
+    ensures validity { IfOk result (λ kept. option_map (λ v. v.bits) kept.1 ≡
+        option_map (λ v. select v.bits mask.now.bits) validity.now) }
+    ensures refusal { IfErr result IsOutOfMemory }
+{
+    let (kept, kept_validity) = filter_counted_rows(
+        alloc,
+        values.as_slice(),
+        validity.as_ref(),
+        mask,
+        count,
+    )?;
+    let kept = Buffer::from_vec(kept)?;
     Ok((kept, kept_validity))
 }

@@ -49,7 +49,8 @@ impl SpanRows<'_> {
     /// Returns the number of bytes of row `k`.
     fn row_len(&self, k: usize) -> usize
         requires { k < length (span_rows self.now.bytes.now self.now.spans.now) }
-        ensures { result ≡ byte_count (slice_index_or (span_rows self.now.bytes.now self.now.spans.now) k Null) }
+        ensures { result ≡ byte_count
+            (slice_index_or (span_rows self.now.bytes.now self.now.spans.now) k Null) }
     {
         self.spans[k].len
     }
@@ -123,7 +124,8 @@ fn most_bytes<O: Offset>() -> usize
 /// Returns the offsets of the rows in the concatenated bytes.
 #[tactic(auto, using(crate::proofs::Collects::end_steps))]
 fn collect_offsets<O: Offset>(alloc: Global, rows: &SpanRows<'_>) -> PolarsResult<Vec<O>>
-    requires { pos (bytes_needed (span_rows rows.now.bytes.now rows.now.spans.now)) ≤ℤ O.number O.GREATEST }
+    requires { pos (bytes_needed (span_rows rows.now.bytes.now rows.now.spans.now)) ≤ℤ
+        O.number O.GREATEST }
     ensures offsets { IfOk result (λ offsets. map O.number offsets.items ≡
         map pos (0 ∷ ends_from 0 (span_rows rows.now.bytes.now rows.now.spans.now))) }
     ensures refusal { IfErr result IsOutOfMemory }
@@ -151,7 +153,8 @@ fn offset_of<O: Offset>(n: usize) -> O
 
 /// Returns the bytes of all rows, concatenated; reserves `count` bytes.
 fn collect_joined(alloc: Global, rows: &SpanRows<'_>, count: usize) -> PolarsResult<Vec<u8>>
-    ensures bytes { IfOk result (λ bytes. bytes.items ≡ joined_bytes (span_rows rows.now.bytes.now rows.now.spans.now)) }
+    ensures bytes { IfOk result (λ bytes. bytes.items ≡
+        joined_bytes (span_rows rows.now.bytes.now rows.now.spans.now)) }
     ensures few { IfOk result (λ bytes. length bytes.items ≤ 9223372036854775807) }
     ensures refusal { IfErr result IsOutOfMemory }
 {

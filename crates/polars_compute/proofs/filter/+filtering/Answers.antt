@@ -1,14 +1,6 @@
-use Rattle.std.proofs.Common.{◌∙◌, All, ap, sym, subst, map, length, arith}
-use Rattle.std.proofs.lemmas.List.Elements.{All-get_or, All-push}
-use Rattle.sel_bits.specs.Bits.{count_true}
-use Rattle.sel_arrow.specs.Rows.{rows, type_of, well_formed, IsField}
-use Rattle.sel_arrow.specs.Shape.{shapes_of}
-use Rattle.sel_arrow.proofs.NestedParts.{mapped_more, tuples_type}
-use Rattle.sel_arrow.proofs.NestedRows.{length-rows, length-tuple_rows}
-use Rattle.sel_arrow.proofs.Trees.{rows-Struct, has_fields}
-use Rattle.sel_arrow.proofs.Types.{type_of-Struct}
-use Rattle.sel_gather.proofs.Depths.{size_of, sizes_of, one_size}
-use Rattle.sel_gather.proofs.ListParts.{few_rows}
+use Rattle.polars_compute.proofs.Common.{◌∙◌, All, ap, sym, subst, map, length, arith, All-get_or, All-push, count_true, rows, type_of, well_formed, IsField, shapes_of}
+use Rattle.polars_compute.proofs.Common.{mapped_more, tuples_type, length-rows, length-tuple_rows, rows-Struct, has_fields, type_of-Struct, size_of, sizes_of, one_size}
+use Rattle.polars_compute.proofs.Common.{few_rows}
 use Rattle.polars_compute.proofs.KeptTuples.{kept_of, kept_struct_rows, kept_struct_formed, kept_is_field}
 use Rattle.polars_compute.proofs.filter.+filtering.Goals as goal
 

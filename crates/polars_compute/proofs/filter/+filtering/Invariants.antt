@@ -1,9 +1,5 @@
 -- Termination: each recursive call is on a child or at a smaller measure.
-use Rattle.std.proofs.Common.{◌≡◌, ◌+◌, ◌*◌, All, map, take}
-use Rattle.sel_bits.specs.Bits.{count_true}
-use Rattle.sel_arrow.specs.Rows.{rows, type_of, IsField}
-use Rattle.sel_arrow.specs.Shape.{shapes_of}
-use Rattle.sel_gather.proofs.Depths.{size_of, sizes_of}
+use Rattle.polars_compute.proofs.Common.{◌≡◌, ◌+◌, ◌*◌, All, map, take, count_true, rows, type_of, IsField, shapes_of, size_of, sizes_of}
 use Rattle.polars_compute.proofs.KeptTuples.{kept_of}
 use Rattle.polars_compute.proofs.filter.+filtering.Given as goal
 

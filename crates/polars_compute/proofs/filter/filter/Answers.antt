@@ -1,8 +1,4 @@
-use Rattle.std.proofs.Common.{◌≡◌, ◌∙◌, List, Bool, length, ap, sym, subst, IfOk}
-use Rattle.sel_bits.specs.Bits.{Bits}
-use Rattle.sel_arrow.specs.Columns.{boolean_rows}
-use Rattle.sel_arrow.specs.Rows.{rows}
-use Rattle.polars_compute.specs.Select.{select}
+use Rattle.polars_compute.proofs.Common.{◌≡◌, ◌∙◌, List, Bool, length, ap, sym, subst, IfOk, Bits, boolean_rows, rows, select}
 use Rattle.polars_compute.proofs.Selects.{length-in_force, in_force-all, effective_mask-bools}
 use Rattle.polars_compute.proofs.filter.filter.Goals as goal
 

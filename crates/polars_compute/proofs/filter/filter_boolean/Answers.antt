@@ -1,5 +1,4 @@
-use Rattle.std.proofs.Common.{length, ap, arith}
-use Rattle.sel_filter.proofs.Selects.{few_kept}
+use Rattle.polars_compute.proofs.Common.{length, ap, arith, few_kept}
 use Rattle.polars_compute.proofs.Selects.{kept_covers}
 use Rattle.polars_compute.proofs.filter.filter_boolean.Goals as goal
 

@@ -1,9 +1,4 @@
-use Rattle.std.proofs.Common.{◌∙◌, ◌*◌, ap, sym, arith}
-use Rattle.sel_bits.specs.Bits.{count_true}
-use Rattle.sel_arrow.specs.Nested.{blocks}
-use Rattle.sel_arrow.specs.Rows.{rows, row_count, type_of, well_formed}
-use Rattle.sel_arrow.proofs.NestedRows.{length-rows}
-use Rattle.sel_gather.proofs.ListParts.{few_rows}
+use Rattle.polars_compute.proofs.Common.{◌∙◌, ◌*◌, ap, sym, arith, count_true, blocks, rows, row_count, type_of, well_formed, length-rows, few_rows}
 use Rattle.polars_compute.proofs.FilteredBlocks.{list_facts, list_formed_kept, list_rows_kept, list_type}
 use Rattle.polars_compute.proofs.filter.filter_lists.Goals as goal
 
@@ -39,11 +34,8 @@ invariant_of-result c =
 pub returns-clause-rows : goal.returns-clause-rows
 returns-clause-rows c =
     let valid = rw c.as_ref.ensures.value at c.in_ok-validity.ensures.validity in
-    let child = c.in-Some.child in
-    let made = c.in_ok-child.ensures in
-    let boxed = c.in_ok-values.ensures.ok in
     list_rows_kept c.args.column.now c.args.size c.args.count c.args.values.now c.args.validity.now c.in_ok-validity.validity c.in_ok-values.values c.args.mask.now.bits c.requires.parts c.requires.formed c.requires.long c.requires.count valid
-    (ap (λ x. blocks c.args.size (count_true c.args.mask.now.bits) (rows x)) boxed ∙ made.blocks child c.in-Some.is)
+    (ap (λ x. blocks c.args.size (count_true c.args.mask.now.bits) (rows x)) c.in_ok-values.ensures.ok ∙ c.in_ok-child.ensures.blocks c.in-Some.child c.in-Some.is)
 
 pub returns-clause-dtype : goal.returns-clause-dtype
 returns-clause-dtype c =

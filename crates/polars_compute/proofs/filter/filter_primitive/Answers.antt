@@ -1,16 +1,13 @@
-use Rattle.std.proofs.Common.{◌≡◌, ◌∙◌, length, ap, arith}
-use Rattle.polars_compute.specs.Select.{select}
-use Rattle.sel_filter.proofs.Selects.{few_kept}
+use Rattle.polars_compute.proofs.Common.{length, ap, arith, few_kept}
 use Rattle.polars_compute.proofs.Selects.{kept_covers}
 use Rattle.polars_compute.proofs.filter.filter_primitive.Goals as goal
 
 pub invariant_of-result : goal.invariant_of-result
 invariant_of-result g c =
+    let array = c.args.array.now in
     let mask = c.args.mask.now.bits in
-    let values = c.args.array.now.values in
-    let kept : c.in_ok-values-2.values ≡ select values mask = rw c.as_slice.ensures at (c.in_ok-values-2.ensures.items ∙ c.in_ok-values.ensures.values) in
-    let validity = rw c.as_ref.ensures.value at c.in_ok-values.ensures.validity in
+    let kept = c.in_ok-values.ensures.values in
     record {
-      rows_fit = rw kept (omega (arith, few_kept values mask, c.args.array.now.rows_fit));
-      validity_fits = kept_covers c.args.array.now.validity c.in_ok-values.validity values mask (length c.in_ok-values-2.values) c.args.array.now.validity_fits validity (ap (λ l. length l) kept);
+      rows_fit = rw kept (omega (arith, few_kept array.values mask, array.rows_fit));
+      validity_fits = kept_covers array.validity c.in_ok-values.validity array.values mask (length c.in_ok-values.values) array.validity_fits c.in_ok-values.ensures.validity (ap (λ l. length l) kept);
     }

@@ -1,14 +1,5 @@
-use Rattle.std.proofs.Common.{◌∷◌, [], All, ◌∙◌, ap, sym, subst, length}
-use Rattle.std.proofs.lemmas.List.{length-map}
-use Rattle.std.proofs.lemmas.Result.{err_from_is_err_and}
-use Rattle.sel_arrow.specs.Rows.{rows, type_of}
-use Rattle.sel_arrow.specs.Value.{Null}
-use Rattle.sel_gather.specs.Picks.{pick, PickFits}
-use Rattle.sel_gather.specs.Runs.{expand}
-use Rattle.sel_gather.proofs.Thinned.{memory_alone}
-use Rattle.polars_compute.specs.Need.{exceeded_limits}
-use Rattle.polars_compute.specs.Pick.{place_pick}
-use Rattle.polars_compute.specs.Select.{kept}
+use Rattle.polars_compute.proofs.Common.{◌∷◌, [], All, ◌∙◌, ap, sym, subst, length, length-map, err_from_is_err_and, rows, type_of, Null, pick, PickFits, expand}
+use Rattle.polars_compute.proofs.Common.{memory_alone, exceeded_limits, place_pick, kept}
 use Rattle.polars_compute.proofs.KeptRuns.{picked_kept, kept_fit, count_kept}
 use Rattle.polars_compute.proofs.Needs.{kept_fits}
 use Rattle.polars_compute.proofs.filter.filter_runs.Goals as goal

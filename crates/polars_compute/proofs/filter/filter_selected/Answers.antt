@@ -1,7 +1,4 @@
-use Rattle.std.proofs.Common.{◌∙◌, ap, arith, drop, subst, take}
-use Rattle.std.proofs.lemmas.Result.{IfOk-weaker}
-use Rattle.sel_arrow.specs.Rows.{rows}
-use Rattle.polars_compute.specs.Trim.{IsRun}
+use Rattle.polars_compute.proofs.Common.{◌∙◌, ap, arith, drop, subst, take, IfOk-weaker, rows, IsRun}
 use Rattle.polars_compute.proofs.Selects.{run_selected}
 use Rattle.polars_compute.proofs.filter.filter_selected.Goals as goal
 

@@ -1,7 +1,4 @@
-use Rattle.std.proofs.Common.{◌≡◌, ◌∙◌, length, ap, arith}
-use Rattle.sel_arrow.specs.Views.{is_placed}
-use Rattle.polars_compute.specs.Select.{select}
-use Rattle.sel_filter.proofs.Selects.{few_kept}
+use Rattle.polars_compute.proofs.Common.{length, ap, arith, is_placed, few_kept}
 use Rattle.polars_compute.proofs.Selects.{kept_covers, passed_kept}
 use Rattle.polars_compute.proofs.filter.filter_views.Goals as goal
 
@@ -9,12 +6,11 @@ pub invariant_of-result : goal.invariant_of-result
 invariant_of-result c =
     let array = c.args.array.now in
     let mask = c.args.mask.now.bits in
-    let kept : c.in_ok-views-2.views ≡ select array.views mask = rw c.as_slice.ensures at (c.in_ok-views-2.ensures.items ∙ c.in_ok-views.ensures.values) in
+    let kept = c.in_ok-views.ensures.values in
     let same = c.in_ok-buffers.ensures.items in
-    let validity = rw c.as_ref.ensures.value at c.in_ok-views.ensures.validity in
     record {
       rows_fit = rw kept (omega (arith, few_kept array.views mask, array.rows_fit));
       buffers_fit = rw same array.buffers_fit;
-      validity_fits = kept_covers array.validity c.in_ok-views.validity array.views mask (length c.in_ok-views-2.views) array.validity_fits validity (ap (λ l. length l) kept);
+      validity_fits = kept_covers array.validity c.in_ok-views.validity array.views mask (length c.in_ok-views.views) array.validity_fits c.in_ok-views.ensures.validity (ap (λ l. length l) kept);
       placed = rw (same, kept) (passed_kept (is_placed array.buffers) array.views mask array.placed);
     }

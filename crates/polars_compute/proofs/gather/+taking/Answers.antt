@@ -1,21 +1,6 @@
-use Rattle.std.proofs.Common.{◌≡◌, ◌≤◌, ◌∙◌, All, pos, ap, sym, subst, map, length, arith}
-use Rattle.std.proofs.lemmas.List.{length-map}
-use Rattle.std.proofs.lemmas.List.Elements.{All-get_or, All-push}
-use Rattle.std.proofs.lemmas.Result.{err_from_is_err_and}
-use Rattle.sel_bits.specs.Limits.{max_rows}
-use Rattle.sel_arrow.specs.Columns.{primitive_rows}
-use Rattle.sel_arrow.specs.Rows.{rows, type_of, well_formed, IsField}
-use Rattle.sel_arrow.specs.Shape.{shapes_of}
-use Rattle.sel_arrow.proofs.NestedParts.{mapped_more, tuples_type}
-use Rattle.sel_arrow.proofs.NestedRows.{length-rows}
-use Rattle.sel_arrow.proofs.Rows.{length-number_rows}
-use Rattle.sel_arrow.proofs.Trees.{has_fields}
-use Rattle.sel_arrow.proofs.Types.{type_of-Struct}
-use Rattle.sel_gather.proofs.Below.{refused_more}
-use Rattle.sel_gather.proofs.Depths.{size_of, sizes_of, one_size}
-use Rattle.polars_compute.specs.Pick.{all_within}
-use Rattle.polars_compute.specs.TakenFields.{exceeded_in_taken}
-use Rattle.polars_compute.specs.ValidPicks.{live_index}
+use Rattle.polars_compute.proofs.Common.{◌≡◌, ◌≤◌, ◌∙◌, All, pos, ap, sym, subst, map, length, arith, length-map, All-get_or, All-push, err_from_is_err_and, max_rows}
+use Rattle.polars_compute.proofs.Common.{primitive_rows, rows, type_of, well_formed, IsField, shapes_of, mapped_more, tuples_type, length-rows, length-number_rows}
+use Rattle.polars_compute.proofs.Common.{has_fields, type_of-Struct, refused_more, size_of, sizes_of, one_size, all_within, exceeded_in_taken, live_index}
 use Rattle.polars_compute.proofs.Takes.{validity_within, within_as}
 use Rattle.polars_compute.proofs.TakenStructs.{taken_of, taken_is_field, length-whole, live_within, past_field, struct_exceeded, struct_fits, struct_taken}
 use Rattle.polars_compute.proofs.gather.+taking.Goals as goal
@@ -52,17 +37,15 @@ take_any-returns-in-Struct-clause-refusal t c = rw c.in-Struct.is c.take_struct.
 
 pub take_struct-returns-in_err-fields-clause-refusal : goal.take_struct-returns-in_err-fields-clause-refusal
 take_struct-returns-in_err-fields-clause-refusal t c =
-    let n = c.args.count in
     let fields = c.args.fields.now in
     let validity = c.args.validity.now in
     let indices = primitive_rows c.args.indices.now in
-    let fault = c.in_err-fields.field-0.0 in
     let p = err_from_is_err_and c.from_residual-in_err-fields.result c.from_residual-in_err-fields.ensures.1 in
     let same : exceeded_in_taken c.deref.result.now (primitive_rows c.in_ok-live.live) ≡ exceeded_in_taken fields.items (map (live_index validity) indices) =
     λ i. exceeded_in_taken (c.deref.ensures.value i) (c.in_ok-live.ensures.rows i)
     in
     rw (p.1, p.2)
-    (refused_more _ _ fault (λ limit h. struct_exceeded n fields validity c.requires.formed indices limit c.requires.inside (subst (λ f. f limit) same h)) c.in_err-fields.ensures.refusal)
+    (refused_more _ _ c.in_err-fields.field-0.0 (λ limit h. struct_exceeded c.args.count fields validity c.requires.formed indices limit c.requires.inside (subst (λ f. f limit) same h)) c.in_err-fields.ensures.refusal)
 
 pub take_struct-invariant_of-result : goal.take_struct-invariant_of-result
 take_struct-invariant_of-result t c =
@@ -86,10 +69,9 @@ take_struct-returns-clause-dtype t c =
 
 pub take_fields-returns-in_err-column-clause-refusal : goal.take_fields-returns-in_err-column-clause-refusal
 take_fields-returns-in_err-column-clause-refusal t c =
-    let fault = c.in_err-column.field-0.0 in
     let p = err_from_is_err_and c.from_residual-in_err-column.result c.from_residual-in_err-column.ensures.1 in
     rw (p.1, p.2)
-    (refused_more _ _ fault
+    (refused_more _ _ c.in_err-column.field-0.0
     (λ limit h. past_field c.args.columns.now (primitive_rows c.args.indices.now) c.loop-column.column-index c.column-item.result limit c.loop-column-test.true c.column-item.is h) c.in_err-column.ensures.refusal)
 
 pub take_fields-take_any-requires : goal.take_fields-take_any-requires

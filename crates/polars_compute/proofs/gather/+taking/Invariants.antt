@@ -1,9 +1,5 @@
 -- Termination: each recursive call is on a field or at a smaller measure.
-use Rattle.std.proofs.Common.{◌≡◌, ◌+◌, ◌*◌, All, length, map, take}
-use Rattle.sel_arrow.specs.Columns.{primitive_rows}
-use Rattle.sel_arrow.specs.Rows.{rows, type_of, IsField}
-use Rattle.sel_arrow.specs.Shape.{shapes_of}
-use Rattle.sel_gather.proofs.Depths.{size_of, sizes_of}
+use Rattle.polars_compute.proofs.Common.{◌≡◌, ◌+◌, ◌*◌, All, length, map, take, primitive_rows, rows, type_of, IsField, shapes_of, size_of, sizes_of}
 use Rattle.polars_compute.proofs.TakenStructs.{taken_of}
 use Rattle.polars_compute.proofs.gather.+taking.Given as goal
 

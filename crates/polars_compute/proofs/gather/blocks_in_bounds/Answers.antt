@@ -1,6 +1,4 @@
-use Rattle.std.proofs.Common.{◌∙◌, ◌<◌, sym, ap, arith}
-use Rattle.sel_arrow.specs.Columns.{primitive_rows}
-use Rattle.polars_compute.specs.Blocks.{blocks_within}
+use Rattle.polars_compute.proofs.Common.{◌∙◌, ◌<◌, sym, ap, arith, primitive_rows, blocks_within}
 use Rattle.polars_compute.proofs.BlockTests.{blocks_test, empty_blocks}
 use Rattle.polars_compute.proofs.gather.blocks_in_bounds.Goals as goal
 

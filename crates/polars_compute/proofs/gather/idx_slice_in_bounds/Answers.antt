@@ -1,6 +1,4 @@
-use Rattle.std.proofs.Common.{◌∙◌, sym}
-use Rattle.std.proofs.lemmas.Bool.{lt-ltb}
-use Rattle.sel_bits.specs.Limits.{max_rows}
+use Rattle.polars_compute.proofs.Common.{◌∙◌, sym, lt-ltb, max_rows}
 use Rattle.polars_compute.proofs.IndexTests.{few_below}
 use Rattle.polars_compute.proofs.gather.idx_slice_in_bounds.Goals as goal
 

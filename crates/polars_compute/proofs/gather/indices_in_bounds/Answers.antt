@@ -1,7 +1,4 @@
-use Rattle.std.proofs.Common.{◌∙◌, ap, pos, map, sym}
-use Rattle.sel_arrow.specs.Masked.{masked}
-use Rattle.sel_arrow.specs.Value.{Number}
-use Rattle.polars_compute.specs.Pick.{all_within, all_below}
+use Rattle.polars_compute.proofs.Common.{◌∙◌, ap, pos, map, sym, masked, Number, all_within, all_below}
 use Rattle.polars_compute.proofs.IndexTests.{below_rows}
 use Rattle.polars_compute.proofs.gather.indices_in_bounds.Goals as goal
 

@@ -1,7 +1,4 @@
-use Rattle.std.proofs.Common.{◌<◌, ◌∙◌, length, ap, sym, arith}
-use Rattle.sel_arrow.specs.Value.{Number}
-use Rattle.sel_arrow.proofs.Rows.{length-number_rows}
-use Rattle.polars_compute.specs.Pick.{is_within}
+use Rattle.polars_compute.proofs.Common.{◌<◌, ◌∙◌, length, ap, sym, arith, Number, length-number_rows, is_within}
 use Rattle.polars_compute.proofs.IndexTests.{row_within}
 use Rattle.polars_compute.proofs.gather.is_row_in_bounds.Goals as goal
 
@@ -20,6 +17,5 @@ returns-then-is_in_bounds g c =
     let indices = c.args.indices.now in
     let number = g.I.NativeType.number in
     let inside : c.args.k < length indices.values = omega (arith, c.requires, length-number_rows number indices.values indices.validity) in
-    let value = c.index-as_slice-k.result in
     let within = ap (λ x. is_within c.args.len (Number (number x))) (sym (rw c.as_slice.ensures at c.index-as_slice-k.is)) ∙ sym c.is_in_bounds.ensures ∙ c.if-is_in_bounds.true in
-    c.if-is_in_bounds.true ∙ sym (row_within number indices.validity indices.values value c.args.k c.args.len indices.validity_fits inside within)
+    c.if-is_in_bounds.true ∙ sym (row_within number indices.validity indices.values c.index-as_slice-k.result c.args.k c.args.len indices.validity_fits inside within)

@@ -1,12 +1,6 @@
-use Rattle.std.proofs.Common.{◌≡◌, ◌∙◌, ◌∷◌, [], ap, sym, subst}
-use Rattle.std.proofs.lemmas.Result.{err_from_is_err_and}
-use Rattle.sel_arrow.specs.Columns.{primitive_rows}
-use Rattle.sel_arrow.specs.Rows.{rows, type_of}
-use Rattle.sel_arrow.specs.Shape.{of_large_list}
-use Rattle.sel_gather.specs.Need.{exceeded_taken}
-use Rattle.sel_gather.proofs.Below.{refused_more}
+use Rattle.polars_compute.proofs.Common.{◌≡◌, ◌∙◌, ◌∷◌, [], ap, sym, subst, err_from_is_err_and, primitive_rows, rows, type_of, of_large_list, exceeded_taken}
+use Rattle.polars_compute.proofs.Common.{refused_more, take_rows}
 use Rattle.sel_gather.proofs.OneSource.{one_source}
-use Rattle.polars_compute.specs.Pick.{take_rows}
 use Rattle.polars_compute.proofs.KeptRuns.{within_fit}
 use Rattle.polars_compute.proofs.gather.take_lists.Goals as goal
 

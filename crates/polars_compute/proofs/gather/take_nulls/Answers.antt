@@ -1,7 +1,4 @@
-use Rattle.std.proofs.Common.{◌∙◌, ℕ, ap}
-use Rattle.std.specs.Prelude.{replicate}
-use Rattle.sel_arrow.specs.Columns.{primitive_rows}
-use Rattle.sel_arrow.specs.Value.{Null}
+use Rattle.polars_compute.proofs.Common.{◌∙◌, ℕ, ap, replicate, primitive_rows, Null}
 use Rattle.polars_compute.proofs.Takes.{taken_nulls}
 use Rattle.polars_compute.proofs.gather.take_nulls.Goals as goal
 

@@ -1,9 +1,4 @@
-use Rattle.std.proofs.Common.{rules, ◌∙◌, ap}
-use Rattle.std.proofs.lemmas.Result.{err_from_is_err_and}
-use Rattle.sel_arrow.specs.Columns.{primitive_rows}
-use Rattle.sel_arrow.specs.Rows.{rows, type_of}
-use Rattle.sel_gather.proofs.Within.{rows_pass}
-use Rattle.polars_compute.specs.Pick.{take_rows}
+use Rattle.polars_compute.proofs.Common.{rules, ◌∙◌, ap, err_from_is_err_and, primitive_rows, rows, type_of, rows_pass, take_rows}
 use Rattle.polars_compute.proofs.gather.take_unchecked.Goals as goal
 
 pub returns : goal.returns

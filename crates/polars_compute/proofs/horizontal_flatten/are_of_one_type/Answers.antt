@@ -1,9 +1,5 @@
-use Rattle.std.proofs.Common.{◌≡◌, ◌∙◌, ◌<◌, All, List, [], ◌∷◌, length, map, get_or, sym, ap, subst, refl, arith}
-use Rattle.std.proofs.lemmas.List.{take_all}
+use Rattle.polars_compute.proofs.Common.{◌≡◌, ◌∙◌, ◌<◌, All, List, [], ◌∷◌, length, map, get_or, sym, ap, subst, refl, arith, take_all, type_of, ArrayRef, first_type}
 use Rattle.std.proofs.lemmas.List.Elements.{All-more}
-use Rattle.sel_arrow.specs.Rows.{type_of}
-use Rattle.sel_arrow.specs.declared.array_ref.ArrayRef.{ArrayRef}
-use Rattle.sel_gather.specs.Sources.{first_type}
 use Rattle.polars_compute.proofs.horizontal_flatten.are_of_one_type.Goals as goal
 
 -- The type of the first column.

@@ -1,6 +1,5 @@
 -- Loop invariant: the columns so far have the type of the first.
-use Rattle.std.proofs.Common.{◌≡◌, All, take}
-use Rattle.sel_arrow.specs.Rows.{type_of}
+use Rattle.polars_compute.proofs.Common.{◌≡◌, All, take, type_of}
 use Rattle.polars_compute.proofs.horizontal_flatten.are_of_one_type.Given as goal
 
 abbrev pub invariant-loop-array : goal.invariant-loop-array

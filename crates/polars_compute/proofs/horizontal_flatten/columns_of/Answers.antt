@@ -1,7 +1,4 @@
-use Rattle.std.proofs.Common.{◌∙◌, Bor, ◌++◌, ◌∷◌, [], map, take, ap, sym}
-use Rattle.std.proofs.lemmas.List.{take_all, map_more, map-append}
-use Rattle.sel_arrow.specs.declared.array_ref.ArrayRef.{ArrayRef}
-use Rattle.sel_arrow.specs.declared.column.Column.{Column}
+use Rattle.polars_compute.proofs.Common.{◌∙◌, Bor, ◌++◌, ◌∷◌, [], map, take, ap, sym, take_all, map_more, map-append, ArrayRef, Column}
 use Rattle.polars_compute.proofs.horizontal_flatten.columns_of.Goals as goal
 
 pub loop-array-init : goal.loop-array-init
@@ -12,9 +9,8 @@ loop-array-preserved c =
     let now = λ (x : Bor Column). x.now in
     let column = λ (a : ArrayRef). a.column in
     let i = c.loop-array.array-index in
-    let old = c.loop-array.found.items in
     let one = c.as_column.result in
-    ap (map now) c.in_ok-push.ensures.items ∙ map-append now old (one ∷ []) ∙ ap (λ l. l ++ one.now ∷ []) c.loop-array.invariant
+    ap (map now) c.in_ok-push.ensures.items ∙ map-append now c.loop-array.found.items (one ∷ []) ∙ ap (λ l. l ++ one.now ∷ []) c.loop-array.invariant
     ∙ ap (λ y. map column (take i c.args.arrays.now) ++ y ∷ []) (c.as_column.ensures.column ∙ ap column c.array-item.is)
     ∙ sym (map_more column c.args.arrays.now i _ c.loop-array-test.true)
 

@@ -1,5 +1,5 @@
 -- Loop invariant: the columns so far.
-use Rattle.std.proofs.Common.{◌≡◌, map, take}
+use Rattle.polars_compute.proofs.Common.{◌≡◌, map, take}
 use Rattle.polars_compute.proofs.horizontal_flatten.columns_of.Given as goal
 
 abbrev pub invariant-loop-array : goal.invariant-loop-array

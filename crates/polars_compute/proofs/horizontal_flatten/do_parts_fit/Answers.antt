@@ -1,8 +1,4 @@
-use Rattle.std.proofs.Common.{◌∙◌, ◌+◌, ◌&&◌, ap, sym, map, drop}
-use Rattle.std.proofs.lemmas.List.{length-map}
-use Rattle.sel_arrow.specs.Rows.{rows}
-use Rattle.sel_arrow.specs.declared.array_ref.ArrayRef.{ArrayRef}
-use Rattle.polars_compute.specs.Flatten.{parts_fit}
+use Rattle.polars_compute.proofs.Common.{◌∙◌, ◌+◌, ◌&&◌, ap, sym, map, drop, length-map, rows, ArrayRef, parts_fit}
 use Rattle.polars_compute.proofs.Flattening.{unpaired, one_fits}
 use Rattle.polars_compute.proofs.horizontal_flatten.do_parts_fit.Goals as goal
 

@@ -1,7 +1,5 @@
 -- Loop invariant: the result depends only on the remaining columns.
-use Rattle.std.proofs.Common.{◌≡◌, drop, map}
-use Rattle.sel_arrow.specs.Rows.{rows}
-use Rattle.polars_compute.specs.Flatten.{parts_fit}
+use Rattle.polars_compute.proofs.Common.{◌≡◌, drop, map, rows, parts_fit}
 use Rattle.polars_compute.proofs.horizontal_flatten.do_parts_fit.Given as goal
 
 abbrev pub invariant-loop-s : goal.invariant-loop-s

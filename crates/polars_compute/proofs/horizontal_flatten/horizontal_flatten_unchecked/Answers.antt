@@ -1,6 +1,4 @@
-use Rattle.std.proofs.Common.{rules, inl, arith, map}
-use Rattle.sel_arrow.specs.Rows.{rows}
-use Rattle.sel_arrow.specs.declared.array_ref.ArrayRef.{ArrayRef}
+use Rattle.polars_compute.proofs.Common.{rules, inl, arith, map, rows, ArrayRef}
 use Rattle.polars_compute.proofs.Flattening.{flat_length}
 use Rattle.polars_compute.proofs.horizontal_flatten.horizontal_flatten_unchecked.Goals as goal
 
@@ -12,7 +10,5 @@ returns-in-None c =
       within = search rules;
       refusal =
           let long = flat_length c.args.output_height c.args.output_height (map (λ (a : ArrayRef). rows a.column) c.args.arrays.now) c.args.widths.now (omega arith) c.requires.fit in
-          let some = c.if-output_height-eq0.false in
-          let many = c.in-None.ensures.many in
-          (omega (arith, some), inl (omega (arith, long, many)));
+          (omega (arith, c.if-output_height-eq0.false), inl (omega (arith, long, c.in-None.ensures.many)));
     }

@@ -1,8 +1,4 @@
-use Rattle.std.proofs.Common.{◌≡◌, ◌<◌, ◌∙◌, ◌++◌, ◌∷◌, [], ap, sym, map, take, length, get_or, arith}
-use Rattle.std.proofs.lemmas.List.{length-map, take_all}
-use Rattle.sel_arrow.specs.Rows.{rows}
-use Rattle.sel_arrow.specs.declared.array_ref.ArrayRef.{ArrayRef}
-use Rattle.polars_compute.specs.Lanes.{lane_of, lanes_of}
+use Rattle.polars_compute.proofs.Common.{◌≡◌, ◌<◌, ◌∙◌, ◌++◌, ◌∷◌, [], ap, sym, map, take, length, get_or, arith, length-map, take_all, rows, ArrayRef, lane_of, lanes_of}
 use Rattle.polars_compute.proofs.Flattening.{width_room, rows_at}
 use Rattle.polars_compute.proofs.Weaving.{lanes_more}
 use Rattle.polars_compute.proofs.horizontal_flatten.lanes_of_parts.Goals as goal

@@ -1,6 +1,5 @@
 -- Loop invariant: the sum of the widths so far, each of which is less than 2^64.
-use Rattle.std.proofs.Common.{◌≡◌, ◌≤◌, ◌*◌, take}
-use Rattle.polars_compute.specs.Widths.{row_width}
+use Rattle.polars_compute.proofs.Common.{◌≡◌, ◌≤◌, ◌*◌, take, row_width}
 use Rattle.polars_compute.proofs.horizontal_flatten.width_of_row.Given as goal
 
 abbrev pub invariant-loop-width : goal.invariant-loop-width

@@ -1,4 +1,4 @@
-use Rattle.sel_arrow.specs.Value.{Value}
+use Rattle.polars_compute.proofs.Common.{Value}
 use Rattle.polars_compute.proofs.LawProofs.{keeps_then, keeps_otherwise}
 use Rattle.polars_compute.proofs.laws.law_choice_filtered.Goals as goal
 

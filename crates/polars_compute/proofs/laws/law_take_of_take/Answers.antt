@@ -1,4 +1,4 @@
-use Rattle.sel_arrow.specs.Value.{Value}
+use Rattle.polars_compute.proofs.Common.{Value}
 use Rattle.polars_compute.proofs.LawProofs.{takes_compose}
 use Rattle.polars_compute.proofs.laws.law_take_of_take.Goals as goal
 

@@ -1,8 +1,5 @@
-use Rattle.std.proofs.Common.{◌≡◌, ℕ, ◌<◌, ◌∙◌, ◌++◌, ◌∷◌, [], ◌+◌, ap, sym, arith, map, take, length, zero-add}
-use Rattle.std.specs.Prelude.{if◌then◌else◌}
-use Rattle.std.specs.List.{range_with_len}
-use Rattle.std.proofs.lemmas.List.FromFn.{map-range_with_len_more}
-use Rattle.sel_bits.specs.Bits.{count_true}
+use Rattle.polars_compute.proofs.Common.{◌≡◌, ℕ, ◌<◌, ◌∙◌, ◌++◌, ◌∷◌, [], ◌+◌, ap, sym, arith, map, take, length, zero-add, if◌then◌else◌, range_with_len}
+use Rattle.polars_compute.proofs.Common.{map-range_with_len_more, count_true}
 use Rattle.polars_compute.proofs.Dictionaries.{count_step}
 use Rattle.polars_compute.proofs.propagate_dictionary.counts_before.Goals as goal
 

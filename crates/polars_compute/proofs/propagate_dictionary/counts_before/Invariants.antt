@@ -1,7 +1,5 @@
 -- Loop invariant: the counts so far, and the number of true bits so far.
-use Rattle.std.proofs.Common.{◌≡◌, map, take}
-use Rattle.std.specs.List.{range_with_len}
-use Rattle.sel_bits.specs.Bits.{count_true}
+use Rattle.polars_compute.proofs.Common.{◌≡◌, map, take, range_with_len, count_true}
 use Rattle.polars_compute.proofs.propagate_dictionary.counts_before.Given as goal
 
 abbrev pub invariant-loop-i : goal.invariant-loop-i

@@ -1,13 +1,6 @@
-use Rattle.std.proofs.Common.{◌∙◌, pos, refl, ap, sym, length, map, arith}
-use Rattle.std.specs.Prelude.{count_by}
-use Rattle.std.proofs.lemmas.List.{length-map}
-use Rattle.sel_arrow.specs.Columns.{primitive_rows, utf8view_rows}
-use Rattle.sel_arrow.specs.Masked.{number_rows}
-use Rattle.sel_arrow.specs.Value.{is_valid, is_null}
-use Rattle.sel_arrow.specs.Views.{view_value}
-use Rattle.sel_arrow.proofs.Rows.{length-number_rows, length-masked}
-use Rattle.polars_compute.specs.Pick.{take_rows}
-use Rattle.polars_compute.specs.Select.{select}
+use Rattle.polars_compute.proofs.Common.{◌∙◌, pos, refl, ap, sym, length, map, arith, count_by, length-map, primitive_rows, utf8view_rows, number_rows, is_valid, is_null}
+use Rattle.polars_compute.proofs.Common.{view_value, length-number_rows, take_rows, select}
+use Rattle.sel_arrow.proofs.Rows.{length-masked}
 use Rattle.polars_compute.proofs.Dictionaries.{keys_taken, keys_stay, values_stay, none_null, told_validity, counts_long}
 use Rattle.polars_compute.proofs.propagate_dictionary.propagate_dictionary_value_nulls.Goals as goal
 
@@ -39,9 +32,8 @@ returns-in_ok-values-in-None-clause-values c =
 
 pub returns-in_ok-values-in-Some-clause-keys : goal.returns-in_ok-values-in-Some-clause-keys
 returns-in_ok-values-in-Some-clause-keys c =
-    let ranks = c.in_ok-ranks-in-Some.ranks in
     c.in_ok-keys-in-Some.ensures.rows
-    ∙ ap (λ v. take_rows (number_rows pos ranks.values v) (primitive_rows c.args.keys.now)) c.in_ok-ranks-in-Some.ensures.validity
+    ∙ ap (λ v. take_rows (number_rows pos c.in_ok-ranks-in-Some.ranks.values v) (primitive_rows c.args.keys.now)) c.in_ok-ranks-in-Some.ensures.validity
     ∙ keys_taken (utf8view_rows c.args.values.now) c.in_ok-ranks-in-Some.ranks.values c.in-Some.validity.now (told_validity (view_value c.args.values.now.bytes.buffers) (λ x. refl) c.args.values.now.bytes.validity c.in-Some.validity.now c.args.values.now.bytes.views c.in-Some.ensures.some c.args.values.now.bytes.validity_fits) c.in_ok-ranks-in-Some.ensures.values (primitive_rows c.args.keys.now) c.requires
 
 pub returns-in_ok-values-in-Some-clause-values : goal.returns-in_ok-values-in-Some-clause-values
@@ -51,8 +43,7 @@ returns-in_ok-values-in-Some-clause-values c =
 pub returns-in_ok-values-in-Some-clause-same : goal.returns-in_ok-values-in-Some-clause-same
 returns-in_ok-values-in-Some-clause-same c none =
     let keys = c.args.keys.now in
-    let ranks = c.in_ok-ranks-in-Some.ranks in
     c.in_ok-keys-in-Some.ensures.rows
-    ∙ ap (λ v. take_rows (number_rows pos ranks.values v) (primitive_rows c.args.keys.now)) c.in_ok-ranks-in-Some.ensures.validity
+    ∙ ap (λ v. take_rows (number_rows pos c.in_ok-ranks-in-Some.ranks.values v) (primitive_rows c.args.keys.now)) c.in_ok-ranks-in-Some.ensures.validity
     ∙ keys_taken (utf8view_rows c.args.values.now) c.in_ok-ranks-in-Some.ranks.values c.in-Some.validity.now (told_validity (view_value c.args.values.now.bytes.buffers) (λ x. refl) c.args.values.now.bytes.validity c.in-Some.validity.now c.args.values.now.bytes.views c.in-Some.ensures.some c.args.values.now.bytes.validity_fits) c.in_ok-ranks-in-Some.ensures.values (primitive_rows c.args.keys.now) c.requires
     ∙ sym (keys_stay (utf8view_rows c.args.values.now) keys.values keys.validity none c.requires)

@@ -1,9 +1,4 @@
-use Rattle.std.proofs.Common.{◌≡◌, ◌∙◌, refl, ap, sym, map}
-use Rattle.std.specs.Prelude.{count_by}
-use Rattle.std.specs.Option.{option_copied}
-use Rattle.sel_arrow.specs.Masked.{masked}
-use Rattle.sel_arrow.specs.Value.{is_null}
-use Rattle.sel_arrow.specs.Views.{view_value}
+use Rattle.polars_compute.proofs.Common.{◌≡◌, ◌∙◌, refl, ap, sym, map, count_by, masked, is_null, view_value, option_copied}
 use Rattle.polars_compute.proofs.Dictionaries.{all_valid, if_none}
 use Rattle.polars_compute.proofs.propagate_dictionary.validity_of_nulls.Goals as goal
 

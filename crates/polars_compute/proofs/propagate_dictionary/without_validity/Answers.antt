@@ -1,7 +1,5 @@
-use Rattle.std.proofs.Common.{sym, subst}
-use Rattle.std.specs.Prelude.{IsTrue}
+use Rattle.polars_compute.proofs.Common.{sym, subst, IsTrue, view_value}
 use Rattle.sel_arrow.specs.Texts.{all_text}
-use Rattle.sel_arrow.specs.Views.{view_value}
 use Rattle.polars_compute.proofs.Dictionaries.{bare_rows}
 use Rattle.polars_compute.proofs.propagate_dictionary.without_validity.Goals as goal
 

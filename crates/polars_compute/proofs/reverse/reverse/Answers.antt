@@ -1,10 +1,5 @@
-use Rattle.std.proofs.Common.{ap, subst, ◌∙◌, length, arith}
-use Rattle.std.proofs.lemmas.Result.{err_from_is_err_and}
-use Rattle.sel_arrow.specs.Columns.{primitive_rows}
-use Rattle.sel_arrow.specs.Rows.{rows, type_of}
-use Rattle.sel_gather.proofs.Thinned.{memory_alone}
-use Rattle.polars_compute.specs.Need.{exceeded_limits}
-use Rattle.polars_compute.specs.Pick.{all_within, take_rows}
+use Rattle.polars_compute.proofs.Common.{ap, subst, ◌∙◌, length, arith, err_from_is_err_and, primitive_rows, rows, type_of, memory_alone, exceeded_limits, all_within}
+use Rattle.polars_compute.proofs.Common.{take_rows}
 use Rattle.polars_compute.proofs.Reversed.{all_inside, reversed_fits, reversed_take}
 use Rattle.polars_compute.proofs.reverse.reverse.Goals as goal
 

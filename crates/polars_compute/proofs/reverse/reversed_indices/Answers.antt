@@ -1,4 +1,4 @@
-use Rattle.std.proofs.Common.{◌<◌, arith}
+use Rattle.polars_compute.proofs.Common.{arith}
 use Rattle.polars_compute.proofs.reverse.reversed_indices.Goals as goal
 
 pub push_reserved-requires : goal.push_reserved-requires

@@ -1,6 +1,5 @@
 -- Loop invariant: the positions so far and those that are left. Measure: how many are left.
-use Rattle.std.proofs.Common.{◌≡◌, ◌≤◌, ◌+◌, ◌++◌, length, vec_len, vec_capacity}
-use Rattle.polars_compute.specs.Reverse.{last_to_first}
+use Rattle.polars_compute.proofs.Common.{vec_len, vec_capacity, ◌≡◌, ◌≤◌, ◌+◌, ◌++◌, last_to_first}
 use Rattle.polars_compute.proofs.reverse.reversed_indices.Given as goal
 
 abbrev pub invariant-loop-left : goal.invariant-loop-left

@@ -1,8 +1,5 @@
 -- Loop invariant: the positions so far, followed by those of the remaining bits, are all positions.
-use Rattle.std.proofs.Common.{◌≡◌, ◌≤◌, ◌+◌, ◌++◌, length, map}
-use Rattle.sel_gather.specs.Runs.{expand}
-use Rattle.polars_compute.specs.Pick.{place_pick}
-use Rattle.polars_compute.specs.Select.{kept, kept_from}
+use Rattle.polars_compute.proofs.Common.{◌≡◌, ◌≤◌, ◌+◌, ◌++◌, length, map, expand, place_pick, kept, kept_from}
 use Rattle.polars_compute.proofs.runs.runs_of_mask.Given as goal
 
 abbrev pub invariant-loop-rest : goal.invariant-loop-rest

@@ -1,8 +1,5 @@
 -- Loop invariant: the number of mask rows so far that are valid and true.
-use Rattle.std.proofs.Common.{◌≡◌, take}
-use Rattle.std.specs.Prelude.{count_by}
-use Rattle.sel_arrow.specs.Columns.{boolean_rows}
-use Rattle.polars_compute.specs.Select.{is_true}
+use Rattle.polars_compute.proofs.Common.{◌≡◌, take, count_by, boolean_rows, is_true}
 use Rattle.polars_compute.proofs.select.effective_len.Given as goal
 
 abbrev pub invariant-loop-place : goal.invariant-loop-place

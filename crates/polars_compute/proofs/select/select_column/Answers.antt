@@ -1,7 +1,4 @@
-use Rattle.std.proofs.Common.{◌∙◌, ap, length}
-use Rattle.sel_arrow.specs.Columns.{boolean_rows, primitive_rows}
-use Rattle.sel_arrow.specs.Rows.{rows}
-use Rattle.polars_compute.specs.Pick.{all_within}
+use Rattle.polars_compute.proofs.Common.{◌∙◌, ap, length, boolean_rows, primitive_rows, rows, all_within}
 use Rattle.polars_compute.proofs.SelectedRows.{kept_count}
 use Rattle.polars_compute.proofs.select.select_column.Goals as goal
 

@@ -1,11 +1,4 @@
-use Rattle.std.proofs.Common.{◌≤◌, ◌∙◌, arith, ap, sym, length}
-use Rattle.std.specs.Prelude.{◌==◌}
-use Rattle.std.specs.List.{list_all}
-use Rattle.std.proofs.lemmas.List.{take_all}
-use Rattle.sel_arrow.specs.Columns.{boolean_rows, primitive_rows}
-use Rattle.sel_arrow.specs.Rows.{rows}
-use Rattle.sel_arrow.specs.declared.array_ref.ArrayRef.{ArrayRef}
-use Rattle.polars_compute.specs.Pick.{all_within}
+use Rattle.polars_compute.proofs.Common.{◌≤◌, ◌∙◌, arith, ap, sym, length, ◌==◌, list_all, take_all, boolean_rows, primitive_rows, rows, ArrayRef, all_within}
 use Rattle.polars_compute.proofs.SelectedRows.{all_long, unfit_at}
 use Rattle.polars_compute.proofs.select.select_is_safe.Goals as goal
 

@@ -1,9 +1,5 @@
 -- Loop invariant: the columns so far are as long as the mask.
-use Rattle.std.proofs.Common.{◌≡◌, true, take, length}
-use Rattle.std.specs.Prelude.{◌==◌}
-use Rattle.std.specs.List.{list_all}
-use Rattle.sel_arrow.specs.Columns.{boolean_rows}
-use Rattle.sel_arrow.specs.Rows.{rows}
+use Rattle.polars_compute.proofs.Common.{◌≡◌, true, take, length, ◌==◌, list_all, boolean_rows, rows}
 use Rattle.polars_compute.proofs.select.select_is_safe.Given as goal
 
 abbrev pub invariant-loop-column : goal.invariant-loop-column

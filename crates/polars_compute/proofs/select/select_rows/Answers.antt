@@ -1,18 +1,12 @@
-use Rattle.std.proofs.Common.{◌≤◌, ◌∙◌, arith, ap, length, map}
-use Rattle.std.proofs.lemmas.List.{take_all}
-use Rattle.sel_arrow.specs.Columns.{boolean_rows, primitive_rows}
-use Rattle.sel_arrow.specs.Rows.{rows, type_of}
-use Rattle.sel_arrow.specs.declared.array_ref.ArrayRef.{ArrayRef}
-use Rattle.polars_compute.specs.Pick.{take_rows}
-use Rattle.polars_compute.specs.Select.{select, effective_mask}
+use Rattle.polars_compute.proofs.Common.{◌≤◌, ◌∙◌, arith, ap, length, map, take_all, boolean_rows, primitive_rows, rows, type_of, ArrayRef, take_rows, select}
+use Rattle.polars_compute.proofs.Common.{effective_mask}
 use Rattle.polars_compute.proofs.SelectedRows.{long_at, mapped_step, none_past, refused_some, rows_mapped}
 use Rattle.polars_compute.proofs.select.select_rows.Goals as goal
 
 pub select_column-requires-clause-long : goal.select_column-requires-clause-long
 select_column-requires-clause-long c =
-    let x = c.column-item.result in
     ap (λ (a : ArrayRef). length (rows a.column)) c.column-item.is
-    ∙ long_at c.args.columns.now (boolean_rows c.args.mask.now) (primitive_rows c.args.indices.now) c.loop-column.column-index x c.requires c.loop-column-test.true
+    ∙ long_at c.args.columns.now (boolean_rows c.args.mask.now) (primitive_rows c.args.indices.now) c.loop-column.column-index c.column-item.result c.requires c.loop-column-test.true
 
 pub returns-in-Err-clause-refusal : goal.returns-in-Err-clause-refusal
 returns-in-Err-clause-refusal c =

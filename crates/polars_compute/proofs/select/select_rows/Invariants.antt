@@ -1,9 +1,6 @@
 -- Loop invariant: the columns so far.
-use Rattle.std.proofs.Common.{◌≡◌, ◌≤◌, length, map, take, vec_len, vec_capacity}
-use Rattle.sel_arrow.specs.Columns.{boolean_rows, primitive_rows}
-use Rattle.sel_arrow.specs.Rows.{rows, type_of}
-use Rattle.polars_compute.specs.Pick.{take_rows}
-use Rattle.polars_compute.specs.Select.{select, effective_mask}
+use Rattle.polars_compute.proofs.Common.{vec_len, vec_capacity, ◌≡◌, ◌≤◌, length, map, take, boolean_rows, primitive_rows, rows, type_of, take_rows, select}
+use Rattle.polars_compute.proofs.Common.{effective_mask}
 use Rattle.polars_compute.proofs.select.select_rows.Given as goal
 
 abbrev pub invariant-loop-column : goal.invariant-loop-column

@@ -1,15 +1,7 @@
-use Rattle.std.proofs.Common.{◌≡◌, ℕ, List, Bool, ◌∙◌, ◌*◌, ◌/◌, ◌<◌, length, refl, ap, sym, arith}
+use Rattle.polars_compute.proofs.Common.{◌≡◌, ℕ, List, Bool, ◌∙◌, ◌*◌, ◌/◌, ◌<◌, length, refl, ap, sym, arith, length-map, mul-le, first_chunks, count_true, blocks, rows}
+use Rattle.polars_compute.proofs.Common.{row_count, Value, Number, length-rows, select}
 use Rattle.std.specs.Mem.{type_size}
 use Rattle.std.proofs.Math.Nat.{mul-div_cancel}
-use Rattle.std.proofs.lemmas.List.{length-map}
-use Rattle.std.proofs.lemmas.Nat.{mul-le}
-use Rattle.std.specs.Simd.{first_chunks}
-use Rattle.sel_bits.specs.Bits.{count_true}
-use Rattle.sel_arrow.specs.Nested.{blocks}
-use Rattle.sel_arrow.specs.Rows.{rows, row_count}
-use Rattle.sel_arrow.specs.Value.{Value, Number}
-use Rattle.sel_arrow.proofs.NestedRows.{length-rows}
-use Rattle.polars_compute.specs.Select.{select}
 use Rattle.polars_compute.proofs.FilteredBlocks.{joined, few_kept_values, kept_blocks, length-kept}
 use Rattle.polars_compute.proofs.filter.fixed_size_list.filter_sized.Goals as goal
 

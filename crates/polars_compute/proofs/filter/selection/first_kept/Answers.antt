@@ -1,5 +1,4 @@
-use Rattle.std.proofs.Common.{◌≡◌, ◌∙◌, sym, subst}
-use Rattle.polars_compute.specs.Trim.{IsRun}
+use Rattle.polars_compute.proofs.Common.{◌≡◌, ◌∙◌, sym, subst, IsRun}
 use Rattle.polars_compute.proofs.Selects.{run_of_none, run_of_all, run_kept}
 use Rattle.polars_compute.proofs.filter.selection.first_kept.Goals as goal
 

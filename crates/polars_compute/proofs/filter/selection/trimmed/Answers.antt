@@ -1,8 +1,7 @@
-use Rattle.std.proofs.Common.{length, ap, refl}
-use Rattle.sel_bits.specs.Bits.{Bits}
+use Rattle.polars_compute.proofs.Common.{length, ap, refl, Bits}
 use Rattle.polars_compute.proofs.Selects.{IsTrimmed, trimmed_within, trimmed_part, trimmed_kept}
-use Rattle.polars_compute.proofs.filter.selection.trimmed.Goals as goal
 use Rattle.polars_compute.proofs.filter.selection.trimmed.Goals.{After-take_trailing_zeros}
+use Rattle.polars_compute.proofs.filter.selection.trimmed.Goals as goal
 
 is_trimmed : (c : After-take_trailing_zeros) → IsTrimmed c.args.mask.now.bits c.take_leading_zeros-leading.new.self.bits c.take_trailing_zeros.new.self.bits c.take_leading_zeros-leading.result c.take_trailing_zeros.result (length c.take_trailing_zeros.new.self.bits)
 is_trimmed c =

@@ -1,7 +1,4 @@
-use Rattle.std.proofs.Common.{◌∙◌, map, pos, ap, arith}
-use Rattle.std.proofs.lemmas.List.{take_all}
-use Rattle.sel_arrow.specs.Masked.{number_rows}
-use Rattle.polars_compute.specs.Steps.{narrowed}
+use Rattle.polars_compute.proofs.Common.{◌∙◌, map, pos, ap, arith, take_all, number_rows, narrowed}
 use Rattle.polars_compute.proofs.NarrowRows.{narrow_rows}
 use Rattle.polars_compute.proofs.gather.binary.narrow_indices.Goals as goal
 

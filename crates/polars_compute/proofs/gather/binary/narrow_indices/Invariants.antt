@@ -1,7 +1,5 @@
 -- Loop invariant: the indices so far, and capacity for the rest.
-use Rattle.std.proofs.Common.{◌≡◌, ◌≤◌, length, map, take}
-use Rattle.std.specs.Vec.{vec_len, vec_capacity}
-use Rattle.polars_compute.specs.Steps.{narrowed}
+use Rattle.polars_compute.proofs.Common.{◌≡◌, ◌≤◌, length, map, take, narrowed, vec_len, vec_capacity}
 use Rattle.polars_compute.proofs.gather.binary.narrow_indices.Given as goal
 
 abbrev pub invariant-loop-index : goal.invariant-loop-index

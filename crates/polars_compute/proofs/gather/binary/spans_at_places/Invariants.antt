@@ -1,11 +1,6 @@
 -- Loop invariant: the spans so far, and capacity for the rest.
-use Rattle.std.proofs.Common.{◌≡◌, ◌≤◌, ℕ, List, None, All, take, length, map, pos, [], ◌∷◌}
-use Rattle.std.specs.Vec.{vec_len, vec_capacity}
-use Rattle.sel_bits.specs.Offsets.{magnitudes}
-use Rattle.sel_arrow.specs.Masked.{number_rows}
-use Rattle.sel_arrow.specs.Pieces.{last_offset, pieces}
-use Rattle.polars_compute.specs.Pick.{pick, pick_of}
-use Rattle.polars_compute.specs.Spans.{span_bytes, EndsBy}
+use Rattle.polars_compute.proofs.Common.{◌≡◌, ◌≤◌, ℕ, List, None, All, take, length, map, pos, [], ◌∷◌, magnitudes, number_rows, last_offset, pieces, pick, pick_of}
+use Rattle.polars_compute.proofs.Common.{span_bytes, EndsBy, vec_len, vec_capacity}
 use Rattle.polars_compute.proofs.gather.binary.spans_at_places.Given as goal
 
 abbrev pub invariant-loop-k : goal.invariant-loop-k

@@ -1,16 +1,6 @@
-use Rattle.std.proofs.Common.{◌∙◌, ◌∷◌, ◌++◌, Some, false, All, [], map, pos, take, get_or, ap, sym, subst, arith}
-use Rattle.std.specs.Prelude.{if◌then◌else◌}
-use Rattle.std.proofs.lemmas.List.{map_more, map-append, take_all}
-use Rattle.std.proofs.lemmas.List.Elements.{All-append}
-use Rattle.sel_bits.specs.Offsets.{magnitudes}
-use Rattle.sel_arrow.specs.Masked.{number_rows}
-use Rattle.sel_arrow.specs.Pieces.{last_offset, pieces}
-use Rattle.sel_arrow.specs.Value.{Null}
-use Rattle.sel_arrow.proofs.Rows.{length-number_rows}
-use Rattle.polars_compute.specs.Pick.{found, pick, pick_of}
-use Rattle.polars_compute.specs.Spans.{span_bytes, EndsBy}
-use Rattle.polars_compute.proofs.Takes.{found_at}
-use Rattle.polars_compute.proofs.TakenSpans.{only}
+use Rattle.polars_compute.proofs.Common.{◌∙◌, ◌∷◌, Some, false, All, [], map, pos, get_or, ap, sym, subst, arith, if◌then◌else◌, map-append, take_all, All-push}
+use Rattle.polars_compute.proofs.Common.{magnitudes, number_rows, last_offset, pieces, length-number_rows, pick, pick_of, span_bytes, EndsBy}
+use Rattle.polars_compute.proofs.Takes.{found_at, picked_more}
 use Rattle.polars_compute.proofs.gather.binary.spans_at_valid.Goals as goal
 
 pub loop-k-preserved : goal.loop-k-preserved
@@ -20,20 +10,15 @@ loop-k-preserved g c =
     let ms = magnitudes g.O.NativeType.number c.args.offsets.now in
     let rows = number_rows pos places (Some valid) in
     let k = c.loop-k.k in
-    let more = map_more pick_of rows k Null (omega (arith, length-number_rows pos places (Some valid))) in
     let there = c.get.ensures ∙ ap (λ l. get_or l k false) c.of-bits.ensures in
+    let old = c.loop-k.spans.items in
+    let span = c.span_if.result in
     record {
       items = λ bytes.
-          let parts = pieces ms bytes in
-          let at = found [] (parts ∷ []) in
-          ap (map (span_bytes bytes)) c.push_reserved.ensures.items
-          ∙ map-append (span_bytes bytes) c.loop-k.spans.items (c.span_if.result ∷ [])
-          ∙ ap (λ l. l ++ (span_bytes bytes c.span_if.result ∷ [])) (c.loop-k.invariant.items bytes)
-          ∙ ap (λ v. map at (map pick_of (take k rows)) ++ (v ∷ []))
-          (c.span_if.ensures.bytes bytes ∙ ap (λ b. if b then get_or parts (get_or places k 0) [] else []) there ∙ found_at [] parts places valid k (omega arith) c.requires.long)
-          ∙ sym (ap (map at) more ∙ map-append at (map pick_of (take k rows)) _);
-      within = subst (All (EndsBy (last_offset ms))) (sym c.push_reserved.ensures.items)
-          (All-append (EndsBy (last_offset ms)) c.loop-k.spans.items (c.span_if.result ∷ []) c.loop-k.invariant.within (only (EndsBy (last_offset ms)) c.span_if.result c.span_if.ensures.within));
+          picked_more [] (pieces ms bytes ∷ []) rows k (map (span_bytes bytes) old) _ (span_bytes bytes span) (omega (arith, length-number_rows pos places (Some valid)))
+          (ap (map (span_bytes bytes)) c.push_reserved.ensures.items ∙ map-append (span_bytes bytes) old (span ∷ [])) (c.loop-k.invariant.items bytes)
+          (c.span_if.ensures.bytes bytes ∙ ap (λ b. if b then get_or (pieces ms bytes) (get_or places k 0) [] else []) there ∙ found_at [] (pieces ms bytes) places valid k (omega arith) c.requires.long);
+      within = subst (All (EndsBy (last_offset ms))) (sym c.push_reserved.ensures.items) (All-push (EndsBy (last_offset ms)) old span c.loop-k.invariant.within c.span_if.ensures.within);
       count = omega (arith, c.push_reserved.ensures.len, c.loop-k.invariant.count);
       room = omega (arith, c.push_reserved.ensures.capacity, c.loop-k.invariant.room);
     }

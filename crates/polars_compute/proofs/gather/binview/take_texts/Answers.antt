@@ -1,7 +1,5 @@
-use Rattle.std.proofs.Common.{refl}
-use Rattle.sel_arrow.specs.Columns.{utf8view_rows, primitive_rows}
+use Rattle.polars_compute.proofs.Common.{refl, utf8view_rows, primitive_rows, Null}
 use Rattle.sel_arrow.specs.Texts.{is_text}
-use Rattle.sel_arrow.specs.Value.{Null}
 use Rattle.polars_compute.proofs.Takes.{passed_taken}
 use Rattle.polars_compute.proofs.gather.binview.take_texts.Goals as goal
 

@@ -1,9 +1,4 @@
-use Rattle.std.proofs.Common.{◌≡◌, ◌∙◌, [], ◌∷◌, length, pos, refl, arith}
-use Rattle.sel_arrow.specs.Columns.{primitive_rows}
-use Rattle.sel_arrow.specs.Views.{view_value, is_placed}
-use Rattle.sel_arrow.specs.declared.view.View.{View}
-use Rattle.sel_arrow.proofs.Rows.{length-number_rows}
-use Rattle.sel_arrow.proofs.ViewRows.{length-view_rows}
+use Rattle.polars_compute.proofs.Common.{◌≡◌, ◌∙◌, [], ◌∷◌, length, pos, refl, arith, primitive_rows, view_value, is_placed, View, length-number_rows, length-view_rows}
 use Rattle.polars_compute.proofs.Takes.{within_as, validity_within, covers_for, taken_rows_for, count_taken, passed_by}
 use Rattle.polars_compute.proofs.gather.binview.take_views.Goals as goal
 

@@ -1,4 +1,4 @@
-use Rattle.sel_bits.proofs.BitLists.{read_bit}
+use Rattle.polars_compute.proofs.Common.{read_bit}
 use Rattle.polars_compute.proofs.gather.bitmap.bit_in.Goals as goal
 
 pub returns : goal.returns

@@ -1,7 +1,4 @@
-use Rattle.std.proofs.Common.{◌∙◌, length, ap, sym}
-use Rattle.std.proofs.lemmas.Result.{IfOk-weaker}
-use Rattle.sel_bits.specs.Bits.{Bits, bits_from}
-use Rattle.sel_bits.specs.Words.{word_of}
+use Rattle.polars_compute.proofs.Common.{◌∙◌, length, ap, sym, IfOk-weaker, Bits, bits_from, word_of}
 use Rattle.polars_compute.proofs.TakenBits.{all_packed, below_parts, bits_at, length-bits_at, word_at_lt, word_packed}
 use Rattle.polars_compute.proofs.gather.bitmap.take_bitmap_unchecked.Goals as goal
 

@@ -1,7 +1,6 @@
 -- Loop invariant: the bits so far, followed by those at the remaining positions, are all bits; each
 -- remaining position is in bounds.
-use Rattle.std.proofs.Common.{◌≡◌, ◌++◌, length, true}
-use Rattle.polars_compute.specs.Pick.{all_below}
+use Rattle.polars_compute.proofs.Common.{◌≡◌, ◌++◌, length, true, all_below}
 use Rattle.polars_compute.proofs.TakenBits.{bits_at}
 use Rattle.polars_compute.proofs.gather.bitmap.take_bitmap_unchecked.Given as goal
 

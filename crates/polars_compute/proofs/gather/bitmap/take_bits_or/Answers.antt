@@ -1,9 +1,6 @@
-use Rattle.std.proofs.Common.{◌∙◌, [], ◌∷◌, length, pos, map, ap, sym}
-use Rattle.std.proofs.lemmas.Result.{IfOk-weaker}
-use Rattle.sel_arrow.specs.Masked.{masked}
-use Rattle.sel_arrow.specs.Value.{Number}
-use Rattle.polars_compute.specs.Pick.{all_within, pick, pick_of}
-use Rattle.polars_compute.proofs.TakenBits.{below_within, bits_at, named_at}
+use Rattle.polars_compute.proofs.Common.{◌∙◌, [], ◌∷◌, length, pos, map, ap, sym, IfOk-weaker, masked, Number, all_within, pick, pick_of}
+use Rattle.polars_compute.proofs.IndexTests.{below_rows}
+use Rattle.polars_compute.proofs.TakenBits.{bits_at, named_at}
 use Rattle.polars_compute.proofs.gather.bitmap.take_bits_or.Goals as goal
 
 pub take_bitmap_unchecked-requires : goal.take_bitmap_unchecked-requires
@@ -11,14 +8,14 @@ take_bitmap_unchecked-requires c =
     let indices = c.args.indices.now in
     let n = length c.args.values.now.bits in
     let whole = ap (λ v. masked v (map (λ x. Number (pos x)) indices.values)) c.in-None.is in
-    rw c.as_slice-places.ensures (below_within n indices.values (sym (ap (all_within n) whole) ∙ c.requires))
+    rw c.as_slice-places.ensures (below_rows n indices.values ∙ (sym (ap (all_within n) whole) ∙ c.requires))
 
 pub returns-in-None-clause-bits : goal.returns-in-None-clause-bits
 returns-in-None-clause-bits c =
     let indices = c.args.indices.now in
     let bits = c.args.values.now.bits in
     let whole = ap (λ v. masked v (map (λ x. Number (pos x)) indices.values)) c.in-None.is in
-    let below = below_within (length bits) indices.values (sym (ap (all_within (length bits)) whole) ∙ c.requires) in
+    let below = below_rows (length bits) indices.values ∙ (sym (ap (all_within (length bits)) whole) ∙ c.requires) in
     IfOk-weaker c.take_bitmap_unchecked.result _ _
     (λ taken is. is ∙ ap (bits_at bits) c.as_slice-places.ensures ∙ named_at bits c.args.filler indices.values below ∙ sym (ap (λ l. pick c.args.filler (bits ∷ []) (map pick_of l)) whole))
     c.take_bitmap_unchecked.ensures.bits

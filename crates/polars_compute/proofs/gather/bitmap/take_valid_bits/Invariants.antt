@@ -1,7 +1,5 @@
 -- Loop invariant: the bits taken so far.
-use Rattle.std.proofs.Common.{◌≡◌, ◌≤◌, ◌-◌, Some, take, map, pos, [], ◌∷◌}
-use Rattle.sel_arrow.specs.Masked.{number_rows}
-use Rattle.polars_compute.specs.Pick.{pick, pick_of}
+use Rattle.polars_compute.proofs.Common.{◌≡◌, ◌≤◌, ◌-◌, Some, take, map, pos, [], ◌∷◌, number_rows, pick, pick_of}
 use Rattle.polars_compute.proofs.gather.bitmap.take_valid_bits.Given as goal
 
 abbrev pub invariant-loop-at : goal.invariant-loop-at

@@ -1,8 +1,4 @@
-use Rattle.std.proofs.Common.{◌≡◌, ◌+◌, ◌*◌, ◌%◌, ◌^◌, ◌∙◌, take, ap, arith}
-use Rattle.std.proofs.lemmas.List.{take_all}
-use Rattle.std.specs.Int.{from_bool}
-use Rattle.sel_bits.specs.Bits.{bits_from}
-use Rattle.sel_bits.specs.Words.{word_of}
+use Rattle.polars_compute.proofs.Common.{◌≡◌, ◌+◌, ◌*◌, ◌%◌, ◌^◌, ◌∙◌, take, ap, arith, take_all, from_bool, bits_from, word_of}
 use Rattle.polars_compute.proofs.TakenBits.{bits_at, length-bits_at, word_at_few, word_at_next}
 use Rattle.polars_compute.proofs.gather.bitmap.word_of_places.Goals as goal
 

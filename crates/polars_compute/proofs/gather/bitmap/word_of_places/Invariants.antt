@@ -1,7 +1,5 @@
 -- Loop invariant: the word has the bits so far.
-use Rattle.std.proofs.Common.{◌≡◌, take}
-use Rattle.sel_bits.specs.Bits.{bits_from}
-use Rattle.sel_bits.specs.Words.{word_of}
+use Rattle.polars_compute.proofs.Common.{◌≡◌, take, bits_from, word_of}
 use Rattle.polars_compute.proofs.TakenBits.{bits_at}
 use Rattle.polars_compute.proofs.gather.bitmap.word_of_places.Given as goal
 

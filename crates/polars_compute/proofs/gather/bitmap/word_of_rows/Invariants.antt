@@ -1,8 +1,5 @@
 -- Loop invariant: the word has the bits so far.
-use Rattle.std.proofs.Common.{◌≡◌, [], ◌∷◌, Some, drop, map, pos, take}
-use Rattle.sel_bits.specs.Words.{word_of}
-use Rattle.sel_arrow.specs.Masked.{number_rows}
-use Rattle.polars_compute.specs.Pick.{pick, pick_of}
+use Rattle.polars_compute.proofs.Common.{◌≡◌, [], ◌∷◌, Some, drop, map, pos, take, word_of, number_rows, pick, pick_of}
 use Rattle.polars_compute.proofs.gather.bitmap.word_of_rows.Given as goal
 
 abbrev pub invariant-loop-k : goal.invariant-loop-k

@@ -1,8 +1,5 @@
-use Rattle.std.proofs.Common.{◌≡◌, ◌∙◌, [], ◌∷◌, List, Bool, length, ap, false, pos, arith}
-use Rattle.std.specs.Prelude.{slice_index_or}
-use Rattle.sel_arrow.specs.Columns.{primitive_rows}
-use Rattle.sel_arrow.specs.Value.{Truth}
-use Rattle.sel_arrow.proofs.Rows.{length-truth_rows, length-number_rows}
+use Rattle.polars_compute.proofs.Common.{◌≡◌, ◌∙◌, [], ◌∷◌, List, Bool, length, ap, false, pos, arith, slice_index_or, primitive_rows, Truth, length-truth_rows}
+use Rattle.polars_compute.proofs.Common.{length-number_rows}
 use Rattle.polars_compute.proofs.Takes.{within_as, validity_within, covers_for, taken_rows_for, length-pick}
 use Rattle.polars_compute.proofs.gather.boolean.take_unchecked.Goals as goal
 

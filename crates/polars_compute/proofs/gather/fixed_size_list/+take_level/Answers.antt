@@ -1,10 +1,5 @@
-use Rattle.std.proofs.Common.{◌≡◌, ◌*◌, ◌∙◌, sym, ap, subst, arith, true}
-use Rattle.std.proofs.Math.Nat.{mul_assoc}
-use Rattle.sel_arrow.specs.Columns.{primitive_rows}
-use Rattle.sel_arrow.specs.Rows.{rows, row_count, type_of, well_formed}
-use Rattle.sel_gather.proofs.Depths.{size_of}
-use Rattle.polars_compute.specs.Blocks.{blocks_within}
-use Rattle.polars_compute.specs.BareBlocks.{is_bare, HoldsBlocks}
+use Rattle.polars_compute.proofs.Common.{◌≡◌, ◌*◌, ◌∙◌, sym, ap, subst, arith, true, primitive_rows, rows, row_count, type_of, well_formed, size_of, blocks_within}
+use Rattle.polars_compute.proofs.Common.{is_bare, HoldsBlocks, mul_assoc}
 use Rattle.polars_compute.proofs.BlockTakes.{bare_below, bare_kinds, blocks_are, level_inside, level_taken}
 use Rattle.polars_compute.proofs.gather.fixed_size_list.+take_level.Goals as goal
 
@@ -26,8 +21,7 @@ returns-in_ok-values-in-FixedSizeList-2-clause-blocks t c =
     let list = c.in-FixedSizeList in
     let indices = primitive_rows c.args.indices.now in
     let taken = rows c.in_ok-values-in-FixedSizeList-2.values.value in
-    let below = c.in_ok-values-in-FixedSizeList.ensures.blocks in
-    let boxed = subst (λ (v : _). HoldsBlocks (c.args.size * list.width) (rows c.deref.result.now) indices (rows v)) (sym c.in_ok-values-in-FixedSizeList-2.ensures.ok) below in
+    let boxed = subst (λ (v : _). HoldsBlocks (c.args.size * list.width) (rows c.deref.result.now) indices (rows v)) (sym c.in_ok-values-in-FixedSizeList-2.ensures.ok) c.in_ok-values-in-FixedSizeList.ensures.blocks in
     let here = subst (λ (v : _). HoldsBlocks (c.args.size * list.width) (rows v) indices taken) c.deref.ensures boxed in
     level_taken c.args.column.now c.args.size list.width list.len c.args.count list.values list.validity indices list.is c.requires.bare c.requires.inside c.requires.count taken here
 

@@ -1,4 +1,4 @@
-use Rattle.sel_arrow.specs.Columns.{primitive_rows}
+use Rattle.polars_compute.proofs.Common.{primitive_rows}
 use Rattle.polars_compute.proofs.BlockTakes.{begun}
 use Rattle.polars_compute.proofs.gather.fixed_size_list.take_blocks.Goals as goal
 

@@ -1,7 +1,5 @@
 -- Loop invariant: the blocks at the indices so far.
-use Rattle.std.proofs.Common.{◌≡◌, ◌++◌, take}
-use Rattle.sel_arrow.specs.Columns.{primitive_rows}
-use Rattle.polars_compute.specs.Blocks.{block_items}
+use Rattle.polars_compute.proofs.Common.{◌≡◌, ◌++◌, take, primitive_rows, block_items}
 use Rattle.polars_compute.proofs.gather.fixed_size_list.take_blocks.Given as goal
 
 abbrev pub invariant-loop-k : goal.invariant-loop-k

@@ -1,8 +1,4 @@
-use Rattle.std.proofs.Common.{◌∙◌, sym, ap, subst, length, arith}
-use Rattle.std.proofs.lemmas.List.{length-map}
-use Rattle.sel_arrow.specs.Columns.{primitive_rows}
-use Rattle.sel_arrow.proofs.NestedRows.{length-rows}
-use Rattle.polars_compute.specs.BareBlocks.{HoldsBlocks}
+use Rattle.polars_compute.proofs.Common.{◌∙◌, sym, ap, subst, length, arith, length-map, primitive_rows, length-rows, HoldsBlocks}
 use Rattle.polars_compute.proofs.BlockTakes.{numbers_hold, numbers_count}
 use Rattle.polars_compute.proofs.gather.fixed_size_list.take_leaf.Goals as goal
 

@@ -1,18 +1,6 @@
-use Rattle.std.proofs.Common.{◌≡◌, ◌*◌, ◌∙◌, inl, inr, refl, sym, ap, subst, length, map, true}
-use Rattle.std.proofs.lemmas.Result.{err_from_is_err_and}
-use Rattle.sel_arrow.specs.Columns.{primitive_rows}
-use Rattle.sel_bits.specs.Bits.{Bits}
-use Rattle.sel_arrow.specs.Masked.{masked}
-use Rattle.sel_arrow.specs.Nested.{blocks, list_of}
-use Rattle.sel_arrow.specs.Rows.{rows, row_count, type_of, well_formed}
-use Rattle.sel_arrow.proofs.NestedRows.{length-blocks}
-use Rattle.sel_gather.proofs.Below.{refused_more}
-use Rattle.sel_gather.proofs.Grown.{finished}
-use Rattle.polars_compute.specs.Pick.{pick_of}
-use Rattle.polars_compute.specs.ValidPicks.{valid_pick}
-use Rattle.polars_compute.specs.Blocks.{blocks_within}
-use Rattle.polars_compute.specs.BareBlocks.{exceeded_blocks, HoldsBlocks}
-use Rattle.polars_compute.specs.Need.{ExceedsRows}
+use Rattle.polars_compute.proofs.Common.{◌≡◌, ◌*◌, ◌∙◌, inl, inr, refl, sym, ap, subst, length, map, true, err_from_is_err_and, primitive_rows, Bits, masked, blocks}
+use Rattle.polars_compute.proofs.Common.{list_of, rows, row_count, type_of, well_formed, length-blocks, refused_more, finished, pick_of, valid_pick, blocks_within}
+use Rattle.polars_compute.proofs.Common.{exceeded_blocks, HoldsBlocks, ExceedsRows}
 use Rattle.polars_compute.proofs.BlockNeeds.{past_taken_blocks}
 use Rattle.polars_compute.proofs.BlockTakes.{blocks_taken, whole_has, whole_validity, whole_within}
 use Rattle.polars_compute.proofs.gather.fixed_size_list.take_unchecked.Goals as goal
@@ -39,10 +27,9 @@ pub returns-in_err-count-clause-refusal : goal.returns-in_err-count-clause-refus
 returns-in_err-count-clause-refusal c =
     let list = c.in-FixedSizeList in
     let indices = primitive_rows c.args.indices.now in
-    let fault = c.in_err-count.field-0.0 in
     let p = err_from_is_err_and c.from_residual-in_err-count.result c.from_residual-in_err-count.ensures.1 in
     rw (p.1, p.2)
-    (refused_more _ _ fault
+    (refused_more _ _ c.in_err-count.field-0.0
     (λ limit h.
     past_taken_blocks c.args.values.now list.size list.len list.child list.validity list.is c.requires.formed indices limit
     (inl (subst (λ n. ExceedsRows (n * list.size) limit) c.len.ensures.len h)))
@@ -52,11 +39,10 @@ pub returns-in_err-below-clause-refusal : goal.returns-in_err-below-clause-refus
 returns-in_err-below-clause-refusal c =
     let list = c.in-FixedSizeList in
     let indices = primitive_rows c.args.indices.now in
-    let fault = c.in_err-below.field-0.0 in
     let p = err_from_is_err_and c.from_residual-in_err-below.result c.from_residual-in_err-below.ensures.1 in
     let count = c.in_ok-count.ensures.below ∙ ap (λ n. n * list.size) c.len.ensures.len in
     rw (p.1, p.2)
-    (refused_more _ _ fault
+    (refused_more _ _ c.in_err-below.field-0.0
     (λ limit h.
     past_taken_blocks c.args.values.now list.size list.len list.child list.validity list.is c.requires.formed indices limit
     (inr (subst (λ (d : _). exceeded_blocks (type_of d) (length indices * list.size) limit) c.deref.ensures (subst (λ n. exceeded_blocks (type_of c.deref.result.now) n limit) count h))))

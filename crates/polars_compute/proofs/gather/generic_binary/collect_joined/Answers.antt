@@ -1,9 +1,6 @@
-use Rattle.std.proofs.Common.{◌<◌, ◌++◌, ◌∷◌, ◌∙◌, [], length, take, get_or, append-nil, ap, sym, arith}
-use Rattle.std.proofs.lemmas.List.{take_more}
-use Rattle.std.proofs.lemmas.List.Concat.{flat_map-append}
-use Rattle.sel_arrow.specs.Value.{Null}
-use Rattle.polars_compute.specs.JoinedBytes.{bytes_of, joined_bytes}
-use Rattle.polars_compute.specs.Spans.{span_bytes, span_rows}
+use Rattle.polars_compute.proofs.Common.{◌<◌, ◌++◌, ◌∷◌, ◌∙◌, [], length, take, get_or, append-nil, ap, sym, arith, take_more, flat_map-append, Null, joined_bytes}
+use Rattle.polars_compute.proofs.Common.{span_bytes, span_rows}
+use Rattle.polars_compute.specs.JoinedBytes.{bytes_of}
 use Rattle.polars_compute.proofs.gather.generic_binary.collect_joined.Goals as goal
 
 pub loop-k-preserved : goal.loop-k-preserved

@@ -1,7 +1,5 @@
 -- Loop invariant: the bytes of the rows so far, concatenated.
-use Rattle.std.proofs.Common.{◌≡◌, take}
-use Rattle.polars_compute.specs.JoinedBytes.{joined_bytes}
-use Rattle.polars_compute.specs.Spans.{span_rows}
+use Rattle.polars_compute.proofs.Common.{◌≡◌, take, joined_bytes, span_rows}
 use Rattle.polars_compute.proofs.gather.generic_binary.collect_joined.Given as goal
 
 abbrev pub invariant-loop-k : goal.invariant-loop-k

@@ -1,8 +1,5 @@
 -- Loop invariant: the offsets so far, followed by those of the other rows, are all offsets.
-use Rattle.std.proofs.Common.{◌≡◌, ◌+◌, ◌++◌, ◌∷◌, pos, map, drop}
-use Rattle.polars_compute.specs.JoinedBytes.{ends_from}
-use Rattle.polars_compute.specs.Need.{bytes_needed}
-use Rattle.polars_compute.specs.Spans.{span_rows}
+use Rattle.polars_compute.proofs.Common.{◌≡◌, ◌+◌, ◌++◌, ◌∷◌, pos, map, drop, ends_from, bytes_needed, span_rows}
 use Rattle.polars_compute.proofs.gather.generic_binary.collect_offsets.Given as goal
 
 abbrev pub invariant-loop-k : goal.invariant-loop-k

@@ -1,10 +1,6 @@
-use Rattle.std.proofs.Common.{◌≡◌, ◌∷◌, ◌∙◌, ℕ, List, length, ap, sym, subst, arith}
-use Rattle.sel_bits.specs.Offsets.{IsRising}
-use Rattle.sel_arrow.specs.Masked.{masked, Covers}
-use Rattle.sel_arrow.specs.Pieces.{rows_between, last_offset}
-use Rattle.polars_compute.specs.JoinedBytes.{ends_from, joined_bytes}
-use Rattle.polars_compute.specs.Spans.{span_rows}
-use Rattle.sel_gather.proofs.JoinedRows.{offsets_of, rising-ends, ends_shown, built_rows, built_ends}
+use Rattle.polars_compute.proofs.Common.{◌≡◌, ◌∷◌, ◌∙◌, ℕ, List, length, ap, sym, subst, arith, IsRising, masked, Covers, rows_between, last_offset, ends_from}
+use Rattle.polars_compute.proofs.Common.{joined_bytes, span_rows, offsets_of}
+use Rattle.sel_gather.proofs.JoinedRows.{rising-ends, ends_shown, built_rows, built_ends}
 use Rattle.polars_compute.proofs.TakenSpans.{rebuilt, length-span_rows}
 use Rattle.polars_compute.proofs.gather.generic_binary.collect_spans.Goals as goal
 

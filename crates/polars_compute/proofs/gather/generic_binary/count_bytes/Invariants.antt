@@ -1,8 +1,6 @@
 -- Loop invariant: the number of bytes so far and that of the other rows add up to the total; a row
 -- has fewer than 2^64 bytes.
-use Rattle.std.proofs.Common.{◌≡◌, ◌+◌, ◌≤◌, ◌*◌, drop}
-use Rattle.polars_compute.specs.Need.{bytes_needed}
-use Rattle.polars_compute.specs.Spans.{span_rows}
+use Rattle.polars_compute.proofs.Common.{◌≡◌, ◌+◌, ◌≤◌, ◌*◌, drop, bytes_needed, span_rows}
 use Rattle.polars_compute.proofs.gather.generic_binary.count_bytes.Given as goal
 
 abbrev pub invariant-loop-k : goal.invariant-loop-k

@@ -1,7 +1,4 @@
-use Rattle.std.proofs.Common.{pos, ◌∙◌, ◌∷◌, ◌++◌, [], map, take, get_or, ap, sym, arith}
-use Rattle.std.proofs.lemmas.List.{map-append, take_all, take_more}
-use Rattle.sel_arrow.specs.Value.{Number}
-use Rattle.polars_compute.specs.Steps.{near_place}
+use Rattle.polars_compute.proofs.Common.{pos, ◌∙◌, ◌∷◌, ◌++◌, [], map, take, get_or, ap, sym, arith, map-append, take_all, take_more, Number, near_place}
 use Rattle.polars_compute.proofs.NearRows.{near_listed}
 use Rattle.polars_compute.proofs.gather.primitive.near_indices.Goals as goal
 

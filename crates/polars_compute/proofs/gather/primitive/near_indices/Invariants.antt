@@ -1,7 +1,5 @@
 -- Loop invariant: the positions so far, and capacity for the rest.
-use Rattle.std.proofs.Common.{◌≡◌, ◌≤◌, length, map, take}
-use Rattle.std.specs.Vec.{vec_len, vec_capacity}
-use Rattle.polars_compute.specs.Steps.{near_place}
+use Rattle.polars_compute.proofs.Common.{◌≡◌, ◌≤◌, length, map, take, near_place, vec_len, vec_capacity}
 use Rattle.polars_compute.proofs.gather.primitive.near_indices.Given as goal
 
 abbrev pub invariant-loop-place : goal.invariant-loop-place

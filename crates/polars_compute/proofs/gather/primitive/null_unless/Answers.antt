@@ -1,5 +1,4 @@
-use Rattle.std.proofs.Common.{◌∙◌, sym}
-use Rattle.sel_arrow.proofs.Rows.{length-number_rows}
+use Rattle.polars_compute.proofs.Common.{◌∙◌, sym, length-number_rows}
 use Rattle.polars_compute.proofs.gather.primitive.null_unless.Goals as goal
 
 pub narrowed_validity-requires : goal.narrowed_validity-requires

@@ -1,5 +1,4 @@
-use Rattle.std.proofs.Common.{◌≤◌, ◌∙◌, ◌∷◌, ◌++◌, [], ℕ, length, map, take, slice_index_or, ap, sym, arith}
-use Rattle.std.proofs.lemmas.List.{get_or_default, map-append, take_all, take_more}
+use Rattle.polars_compute.proofs.Common.{◌≤◌, ◌∙◌, ◌∷◌, ◌++◌, [], ℕ, length, map, take, slice_index_or, ap, sym, arith, get_or_default, map-append, take_all, take_more}
 use Rattle.polars_compute.proofs.gather.primitive.take_places.Goals as goal
 
 pub loop-place-init : goal.loop-place-init

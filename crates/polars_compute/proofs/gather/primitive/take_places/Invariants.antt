@@ -1,6 +1,5 @@
 -- Loop invariant: the values taken so far, and capacity for the rest.
-use Rattle.std.proofs.Common.{◌≡◌, ◌≤◌, length, map, slice_index_or, take}
-use Rattle.std.specs.Vec.{vec_len, vec_capacity}
+use Rattle.polars_compute.proofs.Common.{◌≡◌, ◌≤◌, length, map, slice_index_or, take, vec_len, vec_capacity}
 use Rattle.polars_compute.proofs.gather.primitive.take_places.Given as goal
 
 abbrev pub invariant-loop-place : goal.invariant-loop-place

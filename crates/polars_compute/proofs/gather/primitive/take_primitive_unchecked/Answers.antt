@@ -1,11 +1,5 @@
-use Rattle.std.proofs.Common.{◌≡◌, ◌<◌, ◌∙◌, List, length, map, pos, true, ap, sym, subst}
-use Rattle.std.proofs.lemmas.Result.{IfOk-weaker}
-use Rattle.sel_arrow.specs.Columns.{primitive_rows}
-use Rattle.sel_arrow.specs.Masked.{hidden, masked}
-use Rattle.sel_arrow.specs.Value.{Value, Number}
-use Rattle.sel_arrow.proofs.Rows.{length-number_rows}
-use Rattle.polars_compute.specs.Pick.{all_within, take_rows}
-use Rattle.polars_compute.specs.Steps.{near_index}
+use Rattle.polars_compute.proofs.Common.{◌≡◌, ◌<◌, ◌∙◌, List, length, map, pos, true, ap, sym, subst, IfOk-weaker, primitive_rows, hidden, masked, Value, Number}
+use Rattle.polars_compute.proofs.Common.{length-number_rows, all_within, take_rows, near_index}
 use Rattle.polars_compute.proofs.NearRows.{length-near, near_rows, near_within, not_empty}
 use Rattle.polars_compute.proofs.Takes.{within_as}
 use Rattle.polars_compute.proofs.gather.primitive.take_primitive_unchecked.Goals as goal
@@ -23,10 +17,9 @@ pub null_unless-requires : goal.null_unless-requires
 null_unless-requires g c =
     let rows = primitive_rows c.args.arr.now in
     let n = length c.as_slice-3.result.now in
-    let places = c.as_slice-2.result.now in
     let taken = c.in_ok-taken.ensures.rows ∙ ap (take_rows rows) c.in_ok-near.ensures.rows in
     c.args.indices.now.validity_fits c.in-Some.named c.in-Some.is ∙ ap (λ l. length l) (sym c.as_slice-2.ensures)
-    ∙ sym (ap (λ (l : List Value). length l) taken ∙ length-near rows n places)
+    ∙ sym (ap (λ (l : List Value). length l) taken ∙ length-near rows n c.as_slice-2.result.now)
 
 pub returns-clause-rows : goal.returns-clause-rows
 returns-clause-rows g c =

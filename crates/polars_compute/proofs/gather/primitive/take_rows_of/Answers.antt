@@ -1,7 +1,4 @@
-use Rattle.std.proofs.Common.{◌≡◌, ◌∙◌, [], ◌∷◌, length, pos, arith}
-use Rattle.sel_arrow.specs.Columns.{primitive_rows}
-use Rattle.sel_arrow.specs.Value.{Number}
-use Rattle.sel_arrow.proofs.Rows.{length-number_rows}
+use Rattle.polars_compute.proofs.Common.{◌≡◌, ◌∙◌, [], ◌∷◌, length, pos, arith, primitive_rows, Number, length-number_rows}
 use Rattle.polars_compute.proofs.Takes.{within_as, validity_within, covers_for, taken_rows_for, count_taken}
 use Rattle.polars_compute.proofs.gather.primitive.take_rows_of.Goals as goal
 
@@ -18,13 +15,12 @@ take_validity-requires g c =
 
 pub invariant_of-result : goal.invariant_of-result
 invariant_of-result g c =
-    let arr = c.args.arr.now in
     let indices = primitive_rows c.args.indices.now in
     let items = c.in_ok-values-2.ensures.items ∙ c.in_ok-values.ensures.items in
     let count : length c.in_ok-values-2.values ≡ length indices = count_taken c.in_ok-values-2.values c.LEAST.result (c.as_slice.result.now ∷ []) indices items in
     record {
       rows_fit = omega (arith, count, length-number_rows pos c.args.indices.now.values c.args.indices.now.validity, c.args.indices.now.rows_fit);
-      validity_fits = covers_for c.in_ok-validity.validity c.in_ok-values-2.values indices arr.validity c.in_ok-validity.ensures.bits count;
+      validity_fits = covers_for c.in_ok-validity.validity c.in_ok-values-2.values indices c.args.arr.now.validity c.in_ok-validity.ensures.bits count;
     }
 
 pub returns-clause-rows : goal.returns-clause-rows

@@ -1,8 +1,5 @@
 -- Loop invariant: the values taken so far, and capacity for the rest.
-use Rattle.std.proofs.Common.{◌≡◌, ◌≤◌, Some, take, length, map, pos, [], ◌∷◌}
-use Rattle.std.specs.Vec.{vec_len, vec_capacity}
-use Rattle.sel_arrow.specs.Masked.{number_rows}
-use Rattle.polars_compute.specs.Pick.{pick, pick_of}
+use Rattle.polars_compute.proofs.Common.{◌≡◌, ◌≤◌, Some, take, length, map, pos, [], ◌∷◌, number_rows, pick, pick_of, vec_len, vec_capacity}
 use Rattle.polars_compute.proofs.gather.primitive.take_valid_places.Given as goal
 
 abbrev pub invariant-loop-k : goal.invariant-loop-k

@@ -1,8 +1,4 @@
-use Rattle.std.proofs.Common.{◌∙◌, ◌∷◌, [], map, pos, length, slice_index_or, ap, sym}
-use Rattle.std.proofs.lemmas.Result.{IfOk-weaker}
-use Rattle.sel_arrow.specs.Masked.{masked}
-use Rattle.sel_arrow.specs.Value.{Number}
-use Rattle.polars_compute.specs.Pick.{all_within, pick, pick_of}
+use Rattle.polars_compute.proofs.Common.{◌∙◌, ◌∷◌, [], map, pos, length, slice_index_or, ap, sym, IfOk-weaker, masked, Number, all_within, pick, pick_of}
 use Rattle.polars_compute.proofs.Takes.{picked_places, places_within}
 use Rattle.polars_compute.proofs.gather.primitive.take_values.Goals as goal
 

@@ -1,7 +1,4 @@
-use Rattle.std.proofs.Common.{◌∙◌, ℕ, List, pos, length, ap, sym}
-use Rattle.sel_arrow.specs.Columns.{primitive_rows}
-use Rattle.sel_arrow.specs.Masked.{number_rows}
-use Rattle.sel_arrow.proofs.Rows.{length-number_rows}
+use Rattle.polars_compute.proofs.Common.{◌∙◌, ℕ, List, pos, length, ap, sym, primitive_rows, number_rows, length-number_rows}
 use Rattle.polars_compute.proofs.Takes.{covers_for}
 use Rattle.polars_compute.proofs.TakenStructs.{live_rows}
 use Rattle.polars_compute.proofs.gather.validity.live_indices.Goals as goal
@@ -21,4 +18,4 @@ pub returns-clause-rows : goal.returns-clause-rows
 returns-clause-rows c =
     let indices = c.args.indices.now in
     ap (λ (l : List ℕ). number_rows pos l c.in_ok-validity.validity) c.in_ok-values.ensures.items
-    ∙ live_rows c.args.validity.now indices.validity c.in_ok-validity.validity indices.values indices.validity_fits c.in_ok-validity.ensures.bits (length-number_rows pos indices.values indices.validity)
+    ∙ live_rows c.args.validity.now indices.validity c.in_ok-validity.validity indices.values c.in_ok-validity.ensures.bits (length-number_rows pos indices.values indices.validity)

@@ -1,7 +1,5 @@
-use Rattle.std.proofs.Common.{◌≡◌, ◌∙◌, ◌&&◌, List, ap, length, sym}
-use Rattle.sel_bits.specs.Bits.{Bits, unsliced, zip_with}
-use Rattle.sel_arrow.specs.Masked.{hidden, masked}
-use Rattle.sel_arrow.specs.Value.{Value}
+use Rattle.polars_compute.proofs.Common.{◌≡◌, ◌∙◌, ◌&&◌, List, ap, length, sym, Bits, zip_with, hidden, masked, Value}
+use Rattle.sel_bits.specs.Bits.{unsliced}
 use Rattle.sel_ternary.proofs.Answered.{answered_by}
 use Rattle.sel_ternary.proofs.WordKernels.{hidden_twice, length-zip_and}
 use Rattle.polars_compute.proofs.gather.validity.narrowed_validity.Goals as goal

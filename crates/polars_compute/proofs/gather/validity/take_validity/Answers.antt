@@ -1,10 +1,4 @@
-use Rattle.std.proofs.Common.{◌∙◌, map, pos, length, None, replicate, true, ap, sym}
-use Rattle.sel_bits.specs.Bits.{Bits}
-use Rattle.sel_arrow.specs.Columns.{primitive_rows}
-use Rattle.sel_arrow.specs.Masked.{masked}
-use Rattle.sel_arrow.specs.Value.{Number}
-use Rattle.polars_compute.specs.Pick.{pick_of}
-use Rattle.polars_compute.specs.ValidPicks.{valid_pick}
+use Rattle.polars_compute.proofs.Common.{◌∙◌, map, pos, length, None, replicate, true, ap, sym, Bits, primitive_rows, masked, Number, pick_of, valid_pick}
 use Rattle.polars_compute.proofs.Takes.{named_bits, none_null, picked_valid}
 use Rattle.polars_compute.proofs.gather.validity.take_validity.Goals as goal
 

@@ -1,8 +1,4 @@
-use Rattle.std.proofs.Common.{◌∙◌, None, sym, arith}
-use Rattle.std.proofs.lemmas.List.{length-map, get_or-map}
-use Rattle.sel_arrow.specs.Columns.{primitive_rows}
-use Rattle.sel_arrow.specs.Value.{Null}
-use Rattle.polars_compute.specs.Pick.{pick_of}
+use Rattle.polars_compute.proofs.Common.{◌∙◌, None, sym, arith, length-map, get_or-map, primitive_rows, Null, pick_of}
 use Rattle.polars_compute.proofs.runs.TakenPlaces.get.Goals as goal
 
 pub pick_at-requires : goal.pick_at-requires

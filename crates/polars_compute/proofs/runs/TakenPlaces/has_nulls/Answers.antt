@@ -1,7 +1,4 @@
-use Rattle.std.proofs.Common.{All, map, pos, sym, subst}
-use Rattle.sel_arrow.specs.Masked.{number_rows}
-use Rattle.sel_gather.specs.Plans.{IsPicked}
-use Rattle.polars_compute.specs.Pick.{pick_of}
+use Rattle.polars_compute.proofs.Common.{All, map, pos, sym, subst, number_rows, IsPicked, pick_of}
 use Rattle.polars_compute.proofs.KeptRuns.{all_picked}
 use Rattle.polars_compute.proofs.runs.TakenPlaces.has_nulls.Goals as goal
 

@@ -1,7 +1,4 @@
-use Rattle.std.proofs.Common.{arith}
-use Rattle.std.proofs.lemmas.List.{length-map}
-use Rattle.sel_arrow.specs.Columns.{primitive_rows}
-use Rattle.polars_compute.specs.Pick.{pick_of}
+use Rattle.polars_compute.proofs.Common.{arith, length-map, primitive_rows, pick_of}
 use Rattle.polars_compute.proofs.runs.TakenPlaces.len.Goals as goal
 
 pub returns-clause-len : goal.returns-clause-len

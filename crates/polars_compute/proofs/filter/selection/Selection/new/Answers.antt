@@ -1,6 +1,4 @@
-use Rattle.std.proofs.Common.{◌∙◌, ap, sym}
-use Rattle.std.proofs.lemmas.Result.{IfOk-weaker}
-use Rattle.sel_bits.specs.Bits.{Bits}
+use Rattle.polars_compute.proofs.Common.{◌∙◌, ap, sym, IfOk-weaker, Bits}
 use Rattle.polars_compute.proofs.Selects.{in_force-all, effective_mask-bools}
 use Rattle.polars_compute.proofs.filter.selection.Selection.new.Goals as goal
 

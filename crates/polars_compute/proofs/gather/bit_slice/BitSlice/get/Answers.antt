@@ -1,5 +1,5 @@
-use Rattle.std.proofs.Common.{◌<◌, arith}
-use Rattle.sel_bits.proofs.BitLists.{read_bit, length_bits_from}
+use Rattle.polars_compute.proofs.Common.{◌<◌, arith, read_bit}
+use Rattle.sel_bits.proofs.BitLists.{length_bits_from}
 use Rattle.polars_compute.proofs.gather.bit_slice.BitSlice.get.Goals as goal
 
 pub overflow_add-at : goal.overflow_add-at

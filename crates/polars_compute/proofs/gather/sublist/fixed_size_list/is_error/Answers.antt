@@ -1,7 +1,4 @@
-use Rattle.std.proofs.Common.{◌∙◌, ap, sym, arith}
-use Rattle.std.specs.Option.{is_none}
-use Rattle.sel_arrow.specs.Columns.{primitive_rows}
-use Rattle.polars_compute.specs.Entries.{place_of}
+use Rattle.polars_compute.proofs.Common.{◌∙◌, ap, sym, arith, primitive_rows, place_of, is_none}
 use Rattle.polars_compute.proofs.Blocks.{all_inside, long_rows, outside_at}
 use Rattle.polars_compute.proofs.EntryPlaces.{none_is}
 use Rattle.polars_compute.proofs.gather.sublist.fixed_size_list.is_error.Goals as goal

@@ -1,11 +1,5 @@
 -- Loop invariant: the indices so far are in bounds, or their list is null.
-use Rattle.std.proofs.Common.{◌≡◌, ◌<◌, ℕ, true, false}
-use Rattle.std.specs.Prelude.{slice_index_or}
-use Rattle.std.specs.Option.{is_none}
-use Rattle.sel_arrow.specs.Columns.{primitive_rows}
-use Rattle.sel_arrow.specs.Masked.{valid_at}
-use Rattle.sel_arrow.specs.Value.{Null}
-use Rattle.polars_compute.specs.Entries.{place_of}
+use Rattle.polars_compute.proofs.Common.{◌≡◌, ◌<◌, ℕ, true, false, slice_index_or, primitive_rows, valid_at, Null, place_of, is_none}
 use Rattle.polars_compute.proofs.gather.sublist.fixed_size_list.is_error.Given as goal
 
 abbrev pub invariant-loop-k : goal.invariant-loop-k

@@ -1,8 +1,4 @@
-use Rattle.std.proofs.Common.{◌∙◌, ap, sym, arith, true, false, w64}
-use Rattle.std.specs.Option.{is_none}
-use Rattle.std.proofs.lemmas.Int.{to_z-of_z}
-use Rattle.sel_bits.specs.Place.{place}
-use Rattle.polars_compute.specs.Entries.{at_each}
+use Rattle.polars_compute.proofs.Common.{◌∙◌, ap, sym, arith, true, false, w64, place, at_each, is_none, to_z-of_z}
 use Rattle.polars_compute.proofs.Blocks.{all_inside, each_place, outside_at}
 use Rattle.polars_compute.proofs.EntryPlaces.{none_is}
 use Rattle.polars_compute.proofs.gather.sublist.fixed_size_list.is_literal_error.Goals as goal

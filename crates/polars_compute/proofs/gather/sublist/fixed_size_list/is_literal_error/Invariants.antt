@@ -1,6 +1,5 @@
 -- Loop invariant: the lists so far are null.
-use Rattle.std.proofs.Common.{◌≡◌, ◌<◌, ℕ, false}
-use Rattle.sel_arrow.specs.Masked.{valid_at}
+use Rattle.polars_compute.proofs.Common.{◌≡◌, ◌<◌, ℕ, false, valid_at}
 use Rattle.polars_compute.proofs.gather.sublist.fixed_size_list.is_literal_error.Given as goal
 
 abbrev pub invariant-loop-k : goal.invariant-loop-k

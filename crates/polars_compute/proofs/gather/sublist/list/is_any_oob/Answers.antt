@@ -1,11 +1,4 @@
-use Rattle.std.proofs.Common.{◌≤◌, ◌∙◌, ap, sym, arith, length, w64}
-use Rattle.std.specs.List.{list_any}
-use Rattle.std.proofs.lemmas.Int.{to_z-of_z}
-use Rattle.std.proofs.lemmas.List.{take_all}
-use Rattle.sel_arrow.specs.Rows.{rows}
-use Rattle.sel_arrow.specs.declared.column.Column.{LargeList}
-use Rattle.sel_arrow.proofs.NestedRows.{length-rows}
-use Rattle.polars_compute.specs.Lists.{lacks_place}
+use Rattle.polars_compute.proofs.Common.{◌≤◌, ◌∙◌, ap, sym, arith, length, w64, list_any, take_all, rows, LargeList, length-rows, lacks_place, to_z-of_z}
 use Rattle.polars_compute.proofs.gather.sublist.list.is_any_oob.Goals as goal
 
 pub returns : goal.returns

@@ -1,7 +1,4 @@
-use Rattle.std.proofs.Common.{◌+◌, ◌-◌, ◌∙◌, ap, sym, slice_index, w64}
-use Rattle.std.specs.Option.{is_none}
-use Rattle.std.proofs.lemmas.Int.{to_z-of_z}
-use Rattle.sel_bits.specs.Place.{place}
+use Rattle.polars_compute.proofs.Common.{◌+◌, ◌-◌, ◌∙◌, ap, sym, slice_index, w64, place, is_none, to_z-of_z}
 use Rattle.polars_compute.proofs.Offsets.{lacks_is, lacks_none}
 use Rattle.polars_compute.proofs.EntryPlaces.{none_is}
 use Rattle.polars_compute.proofs.gather.sublist.list.is_oob_at.Goals as goal

@@ -1,11 +1,5 @@
-use Rattle.std.proofs.Common.{◌≡◌, pos, ◌∙◌, map, ap, sym, arith, length, w64, to_z, of_z}
-use Rattle.std.specs.List.{range_with_len}
-use Rattle.std.specs.Option.{is_some, unwrap_or}
-use Rattle.std.proofs.lemmas.Int.{to_z-of_z}
-use Rattle.sel_arrow.specs.Masked.{hidden, number_value}
-use Rattle.sel_arrow.specs.Pieces.{rows_between}
-use Rattle.sel_arrow.specs.Value.{Number}
-use Rattle.polars_compute.specs.Lists.{child_place, places_in}
+use Rattle.polars_compute.proofs.Common.{◌≡◌, pos, ◌∙◌, map, ap, sym, arith, length, w64, to_z, of_z, range_with_len, hidden, number_value, rows_between, Number}
+use Rattle.polars_compute.proofs.Common.{child_place, places_in, is_some, unwrap_or, to_z-of_z}
 use Rattle.polars_compute.proofs.Offsets.{lists_few, places_shown}
 use Rattle.polars_compute.proofs.EntryPlaces.{mapped_count, mapped_more}
 use Rattle.polars_compute.proofs.gather.sublist.list.sublist_get_indexes.Goals as goal

@@ -1,8 +1,5 @@
 -- Loop invariant: the positions for the lists so far, 0 if there is none, and whether there is one.
-use Rattle.std.proofs.Common.{◌≡◌, map}
-use Rattle.std.specs.List.{range_with_len}
-use Rattle.std.specs.Option.{is_some, unwrap_or}
-use Rattle.polars_compute.specs.Lists.{child_place}
+use Rattle.polars_compute.proofs.Common.{◌≡◌, map, range_with_len, child_place, is_some, unwrap_or}
 use Rattle.polars_compute.proofs.gather.sublist.list.sublist_get_indexes.Given as goal
 
 abbrev pub invariant-loop-k : goal.invariant-loop-k

@@ -1,9 +1,6 @@
-use Rattle.std.proofs.Common.{◌≡◌, ◌<◌, ◌+◌, ℤ, pos, ◌++◌, ◌∷◌, [], ◌∙◌, length, map, ap, sym, arith, w64, to_z}
-use Rattle.std.proofs.lemmas.List.FromFn.{length-map-range_with_len}
-use Rattle.std.specs.List.{range_with_len}
-use Rattle.std.proofs.lemmas.Int.{ints}
-use Rattle.std.proofs.lemmas.Result.{IfOk-weaker}
-use Rattle.sel_gather.proofs.JoinedRows.{map_same, offsets_of, same_numbers}
+use Rattle.polars_compute.proofs.Common.{◌≡◌, ◌<◌, ◌+◌, ℤ, pos, ◌++◌, ◌∷◌, [], ◌∙◌, length, map, ap, sym, arith, w64, to_z, length-map-range_with_len, range_with_len}
+use Rattle.polars_compute.proofs.Common.{ints, IfOk-weaker, offsets_of, same_numbers}
+use Rattle.sel_gather.proofs.JoinedRows.{map_same}
 use Rattle.polars_compute.proofs.Units.{counts_rise, more_numbers}
 use Rattle.polars_compute.proofs.gather.sublist.list.unit_offsets.Goals as goal
 

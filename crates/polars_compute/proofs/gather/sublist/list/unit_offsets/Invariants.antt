@@ -1,7 +1,5 @@
 -- Loop invariant: the offsets so far, within the capacity.
-use Rattle.std.proofs.Common.{◌≡◌, map, pos}
-use Rattle.std.specs.List.{range_with_len}
-use Rattle.std.specs.Vec.{vec_capacity}
+use Rattle.polars_compute.proofs.Common.{◌≡◌, map, pos, range_with_len, vec_capacity}
 use Rattle.polars_compute.proofs.gather.sublist.list.unit_offsets.Given as goal
 
 abbrev pub invariant-loop-offset : goal.invariant-loop-offset

@@ -1,11 +1,4 @@
-use Rattle.std.proofs.Common.{◌∙◌, ℕ, ap, sym, arith, None}
-use Rattle.std.specs.Prelude.{slice_index_or}
-use Rattle.sel_arrow.specs.Columns.{primitive_rows}
-use Rattle.sel_arrow.specs.Masked.{number_value}
-use Rattle.sel_arrow.specs.Value.{Null}
-use Rattle.polars_compute.specs.Elements.{child_pick}
-use Rattle.polars_compute.specs.Entries.{place_of}
-use Rattle.polars_compute.specs.Steps.{entry_place}
+use Rattle.polars_compute.proofs.Common.{◌∙◌, ℕ, ap, sym, arith, None, slice_index_or, primitive_rows, number_value, Null, child_pick, place_of, entry_place}
 use Rattle.polars_compute.proofs.Blocks.{entries_long, long_rows}
 use Rattle.polars_compute.proofs.EntryPlaces.{mapped_at}
 use Rattle.polars_compute.proofs.gather.sublist.fixed_size_list.EntryPlacesPlaces.get.Goals as goal

@@ -1,5 +1,4 @@
-use Rattle.std.proofs.Common.{sym}
-use Rattle.sel_arrow.specs.Columns.{primitive_rows}
+use Rattle.polars_compute.proofs.Common.{sym, primitive_rows}
 use Rattle.polars_compute.proofs.Blocks.{entries_long, lists_few}
 use Rattle.polars_compute.proofs.gather.sublist.fixed_size_list.EntryPlacesPlaces.len.Goals as goal
 

@@ -1,9 +1,4 @@
-use Rattle.std.proofs.Common.{◌<◌, ◌∙◌, ℕ, ap, sym, subst, arith, None}
-use Rattle.std.specs.Prelude.{slice_index_or}
-use Rattle.sel_arrow.specs.Value.{Null, Number}
-use Rattle.polars_compute.specs.Elements.{child_pick}
-use Rattle.polars_compute.specs.Entries.{at_each, place_of}
-use Rattle.polars_compute.specs.Steps.{entry_place}
+use Rattle.polars_compute.proofs.Common.{◌<◌, ◌∙◌, ℕ, ap, sym, subst, arith, None, slice_index_or, Null, Number, child_pick, at_each, place_of, entry_place}
 use Rattle.polars_compute.proofs.Blocks.{each_place, entries_long, place_of_below}
 use Rattle.polars_compute.proofs.EntryPlaces.{mapped_at, PlaceBelow}
 use Rattle.polars_compute.proofs.gather.sublist.fixed_size_list.LiteralPlacesPlaces.get.Goals as goal

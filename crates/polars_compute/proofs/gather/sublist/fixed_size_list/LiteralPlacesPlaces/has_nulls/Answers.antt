@@ -1,6 +1,4 @@
-use Rattle.std.proofs.Common.{◌∙◌, ap, sym}
-use Rattle.std.specs.Option.{is_none, is_some}
-use Rattle.polars_compute.specs.Entries.{at_each}
+use Rattle.polars_compute.proofs.Common.{◌∙◌, ap, sym, at_each, is_none, is_some}
 use Rattle.polars_compute.proofs.Blocks.{each_place, entries_there}
 use Rattle.polars_compute.proofs.EntryPlaces.{copied_there, is_gone, none_is}
 use Rattle.polars_compute.proofs.gather.sublist.fixed_size_list.LiteralPlacesPlaces.has_nulls.Goals as goal

@@ -1,5 +1,4 @@
-use Rattle.std.proofs.Common.{sym}
-use Rattle.polars_compute.specs.Entries.{at_each}
+use Rattle.polars_compute.proofs.Common.{sym, at_each}
 use Rattle.polars_compute.proofs.Blocks.{entries_long, lists_few}
 use Rattle.polars_compute.proofs.gather.sublist.fixed_size_list.LiteralPlacesPlaces.len.Goals as goal
 

@@ -1,8 +1,4 @@
-use Rattle.std.proofs.Common.{◌∙◌, ap, sym, arith, None, rules, SFits, w64}
-use Rattle.std.proofs.lemmas.Int.{to_z-of_z}
-use Rattle.sel_arrow.specs.Pieces.{rows_between}
-use Rattle.polars_compute.specs.Elements.{child_pick}
-use Rattle.polars_compute.specs.Lists.{child_place}
+use Rattle.polars_compute.proofs.Common.{◌∙◌, ap, sym, arith, None, rules, SFits, w64, rows_between, child_pick, child_place, to_z-of_z}
 use Rattle.polars_compute.proofs.EntryPlaces.{mapped_at, mapped_count}
 use Rattle.polars_compute.proofs.gather.sublist.list.ListPlacesPlaces.get.Goals as goal
 

@@ -1,8 +1,5 @@
-use Rattle.std.proofs.Common.{◌∙◌, ap, sym, rules, SFits, w64}
-use Rattle.std.proofs.lemmas.Int.{to_z-of_z}
+use Rattle.polars_compute.proofs.Common.{◌∙◌, ap, sym, rules, SFits, w64, rows, oob, to_z-of_z}
 use Rattle.sel_arrow.specs.NestedArrays.{list_column}
-use Rattle.sel_arrow.specs.Rows.{rows}
-use Rattle.polars_compute.specs.Lists.{oob}
 use Rattle.polars_compute.proofs.Offsets.{all_there}
 use Rattle.polars_compute.proofs.EntryPlaces.{is_gone}
 use Rattle.polars_compute.proofs.gather.sublist.list.ListPlacesPlaces.has_nulls.Goals as goal

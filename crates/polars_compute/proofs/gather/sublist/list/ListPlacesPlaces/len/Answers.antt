@@ -1,7 +1,4 @@
-use Rattle.std.proofs.Common.{arith}
-use Rattle.sel_arrow.specs.Pieces.{rows_between}
-use Rattle.polars_compute.specs.Elements.{child_pick}
-use Rattle.polars_compute.specs.Lists.{child_place}
+use Rattle.polars_compute.proofs.Common.{arith, rows_between, child_pick, child_place}
 use Rattle.polars_compute.proofs.Offsets.{lists_few}
 use Rattle.polars_compute.proofs.EntryPlaces.{mapped_count}
 use Rattle.polars_compute.proofs.gather.sublist.list.ListPlacesPlaces.len.Goals as goal

@@ -1,0 +1,13 @@
+use Rattle.polars_compute.proofs.Common.{sym, ◌∙◌}
+use Rattle.polars_compute.proofs.Weaving.{pick_after, pick_first}
+use Rattle.polars_compute.proofs.woven.WovenPlan.next.Goals as goal
+
+pub invariant_of-self : goal.invariant_of-self
+invariant_of-self c =
+    let p = c.ready.new.self in
+    record { rest = pick_after p.lanes.now p.left p.lane p.at p.part p.row p.rows c.ready.ensures.some p.rest }
+
+pub returns : goal.returns
+returns c =
+    let p = c.ready.new.self in
+    sym c.ready.ensures.picks ∙ pick_first p.lanes.now p.lane p.at p.part p.row p.rows c.ready.ensures.some
