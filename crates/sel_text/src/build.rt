@@ -89,7 +89,8 @@ pub(crate) fn build(
 fn validity_of(alloc: Global, items: &[RowRun<'_>]) -> Result<Option<Bitmap>, Fault>
     ensures covers { IfOk result (λ validity. Covers validity (length (rows_repeated items.now))) }
     ensures hides { IfOk result (λ validity. (plain : List Value) →
-        ShowsRows (rows_repeated items.now) plain → masked validity plain ≡ rows_repeated items.now) }
+        ShowsRows (rows_repeated items.now) plain →
+        masked validity plain ≡ rows_repeated items.now) }
     ensures memory { IfErr result IsMemoryFault }
 {
     let count = row_count(items)?;
@@ -581,8 +582,8 @@ fn tuples(
 ) -> Result<ArrayRef, Fault>
     ensures { list_all (fits (of_struct (shapes_of (map shape_of dtypes.now))))
         (rows_repeated items.now) ≡ true →
-        MakesColumn beneath (of_struct (shapes_of (map shape_of dtypes.now))) (rows_repeated items.now)
-        result }
+        MakesColumn beneath (of_struct (shapes_of (map shape_of dtypes.now)))
+        (rows_repeated items.now) result }
 {
     let validity = match validity_of(alloc, items) {
         Ok(validity) => validity,

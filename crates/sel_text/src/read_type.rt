@@ -63,7 +63,8 @@ fn located(alloc: Global, text: &str, error: TextError) -> TextError
     ensures syntax { IsTypeTextError text.now result }
     ensures place { IsOffsetWithin (length text.now) result }
     ensures short { is_type_notation text.now ≡ true → IsLimitOrMemoryError result }
-    ensures limit { result ≡ TextError.Limit → IsLimitOrMemoryError error → error ≡ TextError.Limit }
+    ensures limit { result ≡ TextError.Limit → IsLimitOrMemoryError error →
+        error ≡ TextError.Limit }
 {
     if let TextError::OutOfMemory = error {
         return error;
