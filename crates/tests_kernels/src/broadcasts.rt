@@ -7,11 +7,9 @@ use crate::parsed::{fixed_lists, lists, parsed, returns};
 use sel_arrow::array::Array;
 use sel_arrow::array_ref::ArrayRef;
 use sel_arrow::binview::BinaryViewArray;
-use sel_arrow::boolean::BooleanArray;
 use sel_arrow::datatype::ArrowDataType;
 use sel_arrow::fixed_size_list::FixedSizeListArray;
 use sel_arrow::list::ListArray;
-use sel_arrow::primitive::{ArrowPrimitive, PrimitiveArray};
 use sel_arrow::utf8view::Utf8ViewArray;
 use sel_bits::bitmap::Bitmap;
 use sel_bits::faults::PolarsResult;
@@ -19,7 +17,6 @@ use sel_ternary::if_then_else::IfThenElseKernel;
 use sel_text::read_type::parse_dtype;
 use std::alloc::Global;
 use std::test::Fail;
-use tests_bits::column_fixtures::{column, truths};
 
 const MASK: [bool; 5] = [true, true, false, true, false];
 
@@ -63,40 +60,6 @@ fn broadcasts_both<C: IfThenElseKernel>(
         C::if_then_else_broadcast_both(alloc, dtype, &mask, if_true, if_false),
         rows,
     )
-}
-
-#[test]
-fn broadcast_numbers(rt: HostRuntime) -> Result<(), Fail> {
-    let alloc = rt.alloc();
-    let values = column(alloc, &[Some(1i64), None, Some(2), Some(7), Some(4)], 9)?;
-    let is_so = broadcasts(alloc, &values, &3, "[3,3,2,3,4]", "[1,null,3,7,3]");
-    drop(values);
-    assert!(rt; is_so?);
-    let dtype = i64::column_dtype();
-    assert!(rt; broadcasts_both::<PrimitiveArray<i64>>(alloc, dtype, &3, &1, "[3,3,1,3,1]")?);
-    Ok(())
-}
-
-#[test]
-fn broadcast_booleans(rt: HostRuntime) -> Result<(), Fail> {
-    let alloc = rt.alloc();
-    let valid = [true, false, true, true, true];
-    let values = truths(alloc, &[false, true, false, true, true], &valid)?;
-    let as_true = "[true,true,false,true,true]";
-    let is_so = broadcasts(
-        alloc,
-        &values,
-        &true,
-        as_true,
-        "[false,null,true,true,true]",
-    );
-    drop(values);
-    assert!(rt; is_so?);
-    let rows = "[true,true,false,true,false]";
-    assert!(rt;
-        broadcasts_both::<BooleanArray>(alloc, ArrowDataType::Boolean, &true, &false, rows)?
-    );
-    Ok(())
 }
 
 const BYTES: &str = r#"[h"61",null,h"63",h"6768696a6b6c6d6e6f70717273",h"65"]"#;

@@ -11,8 +11,6 @@ mod alloc_takes;
 #[cfg(test)]
 mod alloc_words;
 #[cfg(test)]
-mod any_choices;
-#[cfg(test)]
 mod broadcasts;
 #[cfg(test)]
 mod elements;
