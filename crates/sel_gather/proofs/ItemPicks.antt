@@ -1,12 +1,12 @@
 -- Row references to the items of lists.
-use Rattle.sel_gather.proofs.Common.{range_with_len, All-map, ◌≡◌, ◌≢◌, All, Bor, ℤ, pos, ℕ, ◌+◌, ◌^◌, ◌≤◌, ◌<◌, true, List, [], ◌∷◌, ◌++◌, length, take, drop}
+use Rattle.sel_gather.proofs.Common.{◌≡◌, ◌≢◌, All, Bor, ℤ, pos, ℕ, ◌+◌, ◌^◌, ◌≤◌, ◌<◌, true, List, [], ◌∷◌, ◌++◌, length, take, drop}
 use Rattle.sel_gather.proofs.Common.{map, Option, Some, None, refl, ap, sym, subst, ◌∙◌, arith, get_or, append-nil, get_or-map, length-map, map-append}
 use Rattle.sel_gather.proofs.Common.{get_or-replicate, get_or-map-range_with_len, All-append, All-head, All-nil, All-tail, IsValidityOf, rows, type_of}
 use Rattle.sel_gather.proofs.Common.{IsWellFormed, Shape, of_null, Value, Null, is_valid, Column, child, is_listing, items_in, joined_items, item_ends, part_of}
-use Rattle.sel_gather.proofs.Common.{part_picks, item_picks, items_at, IsRow, found, pick, PickFits, IsNear, IsPicked, picks_of, unrolled, Run, All-get_or, unrolled_from}
+use Rattle.sel_gather.proofs.Common.{part_picks, item_picks, items_at, IsRow, found, pick, PickFits, IsNear, IsPicked, unrolled, Run, All-get_or, unrolled_from}
 use Rattle.sel_gather.proofs.Gathers.{next_all, next_below, next_is, pick_next}
 use Rattle.sel_gather.proofs.ItemRuns.{rows_of, below_of, listed_values, null_items, nulls_fit}
-use Rattle.sel_gather.proofs.RunLists.{below_length, length-pick, length-unrolled, none_unrolled, pick_rows}
+use Rattle.sel_gather.proofs.RunLists.{below_length, length-pick, length-unrolled, none_unrolled, pick_rows, picked_rows}
 use Rattle.sel_gather.proofs.Walks.{told_row, counts_behind, ends_behind, joined_first}
 use Rattle.sel_gather.proofs.{ListParts.few_below, ListParts.IsPart, ListParts.part_is, EachRow.source_all, PlanRuns.first_of, Fits.rows_fit}
 
@@ -114,9 +114,6 @@ items_near cs listing formed qs fits k d h p is = near_child cs p.0 p.1 listing 
 
 -- ---- no item is null
 
-picked_rows : (s a n : ℕ) → All IsPicked (picks_of s a n)
-picked_rows s a n = All-map IsPicked (λ i. Some (s, i)) (range_with_len a n) (λ k d h. tt)
-
 part_picked : (s : ℕ) (o : Option (ℕ × ℕ)) → All IsPicked (part_picks 0 s o)
 part_picked s None = All-nil IsPicked
 part_picked s (Some part) = picked_rows s part.0 part.1
@@ -145,14 +142,14 @@ pub some_left : (cs : List (Bor Column)) (w : ℕ) (ps : List (Option (ℕ × �
 some_left cs w [] h = absurd (omega (arith, h))
 some_left cs w (p ∷ ps) h = omega arith
 
-module _ (cs : List (Bor Column)) (w : ℕ) (all left : List (Option (ℕ × ℕ))) (run : Run) (empty : run.len ≡ 0) (behind : items_at cs w all ≡ unrolled run ++ items_at cs w left) where
-  pub none_between : items_at cs w all ≡ items_at cs w left
+module _ (cs : List (Bor Column)) (w : ℕ) (all left : List (Option (ℕ × ℕ))) (run : Run) (empty : run.len ≡ 0) (behind : all ≡ unrolled run ++ items_at cs w left) where
+  none_between : all ≡ items_at cs w left
   none_between = behind ∙ ap (λ l. l ++ items_at cs w left) (none_unrolled run empty)
 
-  pub lists_left : 0 < length (items_at cs w all) → 0 < length left
+  pub lists_left : 0 < length all → 0 < length left
   lists_left some = some_left cs w left (omega (arith, some, ap length none_between))
 
-  pub next_list : (p : Option (ℕ × ℕ)) (rest : List (Option (ℕ × ℕ))) (new : Run) → left ≡ p ∷ rest → unrolled new ≡ item_picks cs w p → items_at cs w all ≡ unrolled new ++ items_at cs w rest
+  pub next_list : (p : Option (ℕ × ℕ)) (rest : List (Option (ℕ × ℕ))) (new : Run) → left ≡ p ∷ rest → unrolled new ≡ item_picks cs w p → all ≡ unrolled new ++ items_at cs w rest
   next_list p rest new next is = none_between ∙ ap (items_at cs w) next ∙ ap (λ l. l ++ items_at cs w rest) (sym is)
 
 -- ---- lists that are not null
@@ -187,9 +184,6 @@ items_shown cs w (p ∷ ps) listing formed none fits picked =
     All-append IsPicked (item_picks cs w p) (items_at cs w ps)
     (list_shown cs w p listing formed none (row_fits (rows_of cs) p (All-head (IsRow (rows_of cs)) p ps fits)) (All-head IsPicked p ps picked))
     (items_shown cs w ps listing formed none (All-tail (IsRow (rows_of cs)) p ps fits) (All-tail IsPicked p ps picked))
-
-pub run_picked : (r : Run) (s : ℕ) → r.source ≡ Some s → All IsPicked (unrolled r)
-run_picked r s is = rw is (picked_rows s r.start r.len)
 
 -- ---- one more list
 

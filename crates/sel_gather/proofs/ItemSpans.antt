@@ -1,6 +1,6 @@
 -- The items of the lists of one column, by the start of each list and the ends of all.
-use Rattle.sel_gather.proofs.Common.{◌≡◌, ◌∙◌, ◌+◌, ◌-◌, ◌≤◌, ◌<◌, ◌∷◌, [], ◌++◌, All, Bor, ℕ, ℤ, List, Option, Some, None, true, false, not, nat_le, ◌&&◌, is_none, refl, ap, sym, subst, arith, length, map, pos, take, drop, get_or}
-use Rattle.sel_gather.proofs.Common.{length-append, length-map-range_with_len, All-cons, All-head, All-nil, All-tail, take_all, take_more, le-leb, leb-true, and_first, and_second, both, max_rows, type_of, IsWellFormed}
+use Rattle.sel_gather.proofs.Common.{◌≡◌, ◌∙◌, ◌+◌, ◌-◌, ◌≤◌, ◌<◌, ◌∷◌, [], ◌++◌, All, Bor, ℕ, ℤ, List, Option, Some, None, true, not, nat_le, ◌&&◌, refl, ap, sym, subst, arith, length, map, pos, take, drop, get_or}
+use Rattle.sel_gather.proofs.Common.{length-append, length-map-range_with_len, All-append, All-head, All-nil, All-tail, take_all, take_more, le-leb, leb-true, and_first, and_second, both, max_rows, type_of, IsWellFormed}
 use Rattle.sel_gather.proofs.Common.{Null, Value, Column, is_listing, items_in, joined_items, item_ends, item_picks, items_at, found, pick, PickFits, IsPicked, expand, picks_of, unrolled, Run}
 use Rattle.std.proofs.Common.{negsuc, of_z, rules, to_z, w64}
 use Rattle.std.proofs.lemmas.Int.{to_z-of_z}
@@ -9,7 +9,7 @@ use Rattle.sel_gather.specs.Spans.{AreStarts, are_ends, spans}
 use Rattle.sel_gather.proofs.Gathers.{next_below, next_is}
 use Rattle.sel_gather.proofs.ItemPicks.{list_long}
 use Rattle.sel_gather.proofs.ItemRuns.{rows_of}
-use Rattle.sel_gather.proofs.RunLists.{length-unrolled, named_picked}
+use Rattle.sel_gather.proofs.RunLists.{length-unrolled, picked_rows}
 
 -- ---- starts
 
@@ -118,18 +118,15 @@ next_rises at (e ∷ ends) end are more is =
     omega (arith, first.rises, ap magnitude (sym (is ∙ shown e first.is first.few)))
 
 -- Items are left, but none of the run before.
-module _ (first : Run) (starts : List ℕ) (at : ℕ) (ends : List ℤ) (all : List (Option (ℕ × ℕ))) (left : ℕ) (empty : first.len ≡ 0) (picks : unrolled first ++ expand (spans starts at ends) ≡ all) (count : length all ≡ left) (some : 0 < left) where
+module _ (first : Run) (starts : List ℕ) (at : ℕ) (ends : List ℤ) (all : List (Option (ℕ × ℕ))) (empty : first.len ≡ 0) (picks : unrolled first ++ expand (spans starts at ends) ≡ all) (some : 0 < length all) where
   pub span_left : (0 < length starts) × (0 < length ends)
-  span_left = some_spans starts at ends (omega (arith, ap length picks, length-append (unrolled first) (expand (spans starts at ends)), length-unrolled first, empty, count, some))
+  span_left = some_spans starts at ends (omega (arith, ap length picks, length-append (unrolled first) (expand (spans starts at ends)), length-unrolled first, empty, some))
 
   pub span_rises : (end : ℕ) → are_ends at ends ≡ true → pos end ≡ to_z w64 (of_z w64 (get_or ends 0 (pos 0))) → at ≤ end
   span_rises end are is = next_rises at ends end are span_left.1 is
 
-spans_named : (starts : List ℕ) (at : ℕ) (ends : List ℤ) → All (λ (r : Run). is_none r.source ≡ false) (spans starts at ends)
-spans_named [] at ends = All-nil (λ (r : Run). is_none r.source ≡ false)
-spans_named (s ∷ starts) at [] = All-nil (λ (r : Run). is_none r.source ≡ false)
-spans_named (s ∷ starts) at (e ∷ ends) = All-cons (λ (r : Run). is_none r.source ≡ false) _ (spans starts (magnitude e) ends) refl (spans_named starts (magnitude e) ends)
-
 -- No item is null.
-pub spans_picked : (first : Run) (starts : List ℕ) (at : ℕ) (ends : List ℤ) → is_none first.source ≡ false → All IsPicked (unrolled first ++ expand (spans starts at ends))
-spans_picked first starts at ends is = named_picked (first ∷ spans starts at ends) (All-cons (λ (r : Run). is_none r.source ≡ false) first (spans starts at ends) is (spans_named starts at ends))
+pub spans_picked : (starts : List ℕ) (at : ℕ) (ends : List ℤ) → All IsPicked (expand (spans starts at ends))
+spans_picked [] at ends = All-nil IsPicked
+spans_picked (s ∷ starts) at [] = All-nil IsPicked
+spans_picked (s ∷ starts) at (e ∷ ends) = All-append IsPicked _ _ (picked_rows 0 s (magnitude e - at)) (spans_picked starts (magnitude e) ends)

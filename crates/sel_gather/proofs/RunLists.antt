@@ -174,9 +174,15 @@ run_there xss r s is other fits =
 
 -- ---- runs that all have a source
 
+pub picked_rows : (s a n : ℕ) → All IsPicked (picks_of s a n)
+picked_rows s a n = All-map IsPicked (λ i. Some (s, i)) (range_with_len a n) (λ k d h. tt)
+
+pub run_picked : (r : Run) (s : ℕ) → r.source ≡ Some s → All IsPicked (unrolled r)
+run_picked r s is = rw is (picked_rows s r.start r.len)
+
 picked_run : (o : Option ℕ) (a n : ℕ) → is_none o ≡ false → All IsPicked (unrolled_from o a n)
 picked_run None a n named = absurd cc
-picked_run (Some s) a n named = All-map IsPicked (λ i. Some (s, i)) (range_with_len a n) (λ k d h. tt)
+picked_run (Some s) a n named = picked_rows s a n
 
 pub named_picked : (rs : List Run) → All (λ r. is_none r.source ≡ false) rs → All IsPicked (expand rs)
 named_picked [] named = All-nil IsPicked

@@ -81,7 +81,7 @@ fn collect_like<'a>(
     };
     macro_rules! gather {
         ($number:ty) => {
-            gather_primitive::<RunRefs, $number>(alloc, sources, plan)
+            gather_primitive::<RunRefs<&[Run]>, $number>(alloc, sources, plan)
         };
     }
     match_number_types! { first, gather,

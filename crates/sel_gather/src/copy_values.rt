@@ -1,6 +1,6 @@
 //! Values and bits, copied run by run.
 
-ghost use Rattle.std.specs.Prelude.{◌≡◌, ◌↔◌, ◌≤◌, ◌<◌, ◌+◌, ◌++◌, All, false, is_none, length, map, take, drop, IfOk, IfErr, OnOk};
+ghost use Rattle.std.specs.Prelude.{◌≡◌, ◌≤◌, ◌<◌, ◌+◌, ◌++◌, All, length, map, take, drop, IfOk, IfErr, OnOk};
 ghost use Rattle.std.specs.Option.{option_copied};
 ghost use Rattle.sel_bits.specs.Faults.{IsOutOfMemory};
 ghost use Rattle.sel_bits.specs.Limits.{max_rows};
@@ -21,13 +21,6 @@ use std::alloc::Global;
 // The run length up to which a copy moves this many values, a constant size, and truncates the
 // rest.
 const SHORT_RUN: usize = 8;
-
-/// Returns whether some run has no source.
-pub(crate) fn is_any_null(runs: &[Run]) -> bool
-    ensures { (result ≡ false) ↔ All (λ run. is_none run.source ≡ false) runs.now }
-{
-    runs.iter().any(|run| run.source.is_none())
-}
 
 /// Returns the values at the row references of a plan, copied by its runs, and `zero` for null
 /// references. Errors: `OutOfMemory`.

@@ -14,14 +14,15 @@ ghost use Rattle.sel_gather.specs.Sources.{columns_of, rows_of};
 ghost use Rattle.sel_gather.specs.Spans.{AreStarts};
 
 use crate::boolean::gather_boolean;
-use crate::item_refs::ItemRefs;
+use crate::item_runs::ItemRuns;
 use crate::lists::{child_of, children_of, run_of_list};
 use crate::match_number_types;
 use crate::nested::{blocks_over, lists_over};
 use crate::primitive::gather_primitive;
 use crate::row_refs::Plan;
+use crate::run_refs::RunRefs;
 use crate::runs::NO_ROWS;
-use crate::spans::{SpanRefs, list_spans};
+use crate::spans::{SpanRuns, list_spans};
 use sel_arrow::column::Column;
 use sel_arrow::match_numbers;
 use sel_bits::faults::{Limit, PolarsError, PolarsResult};
@@ -113,11 +114,13 @@ fn gather_spans<'a, P: Plan>(
     ensures { CollectsSome result (type_of first.now) (map child (columns_of sources.now))
         (joined_items 0 (pick Null (rows_of sources.now) (P.picks _plan.now))) }
 {
-    let items = &SpanRefs {
+    let items = &RunRefs {
         first: NO_ROWS,
-        starts,
-        ends: &ends[1..],
-        at: 0,
+        rest: SpanRuns {
+            starts,
+            ends: &ends[1..],
+            at: 0,
+        },
         left: need,
     };
     let children = [child_of(sources[0])];
@@ -220,11 +223,13 @@ fn gather_items<'a, P: Plan>(
     ensures { CollectsSome result (type_of first.now) (map child (columns_of sources.now))
         (joined_items width (pick Null (rows_of sources.now) (P.picks plan.now))) }
 {
-    let items = &ItemRefs {
+    let items = &RunRefs {
         first: NO_ROWS,
-        lists: plan.again(),
-        sources,
-        width,
+        rest: ItemRuns {
+            lists: plan.again(),
+            sources,
+            width,
+        },
         left: need,
     };
     if let [only] = sources {

@@ -16,7 +16,7 @@ mod flat_lists;
 pub mod gather;
 pub mod gather_values;
 mod growable;
-mod item_refs;
+mod item_runs;
 mod list_walk;
 mod lists;
 mod nested;

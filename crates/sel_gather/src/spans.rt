@@ -1,6 +1,6 @@
 //! Lists of integers or booleans of one column, gathered by the start of each list.
 
-ghost use Rattle.std.specs.Prelude.{◌≡◌, ◌≤◌, ◌<◌, ◌∷◌, ◌++◌, All, true, pos, length, map, IfOk, IfErr};
+ghost use Rattle.std.specs.Prelude.{◌≡◌, ◌≤◌, ◌<◌, ◌∷◌, All, true, pos, length, map, IfOk, IfErr};
 ghost use Rattle.sel_bits.specs.Limits.{max_rows};
 ghost use Rattle.sel_arrow.specs.Rows.{type_of, IsWellFormed};
 ghost use Rattle.sel_arrow.specs.Value.{Null};
@@ -8,14 +8,14 @@ ghost use Rattle.sel_gather.specs.Children.{is_listing, joined_items};
 ghost use Rattle.sel_gather.specs.Ends.{item_ends};
 ghost use Rattle.sel_gather.specs.Need.{ExceedsRows, IsLimitOrMemory};
 ghost use Rattle.sel_gather.specs.Picks.{pick, PickFits};
-ghost use Rattle.sel_gather.specs.Plans.{IsNear};
-ghost use Rattle.sel_gather.specs.Runs.{expand, unrolled};
+ghost use Rattle.sel_gather.specs.Runs.{expand};
 ghost use Rattle.sel_gather.specs.Sources.{rows_of};
 ghost use Rattle.sel_gather.specs.Spans.{spans, are_ends, AreStarts};
 
 use crate::lists::span_of_list;
 use crate::row_refs::Plan;
-use crate::runs::{NO_ROWS, Run, split_first};
+use crate::run_refs::Runs;
+use crate::runs::{NO_ROWS, Run};
 use sel_arrow::column::Column;
 use sel_bits::faults::{Limit, PolarsError, PolarsResult};
 use sel_bits::native::Offset;
@@ -63,40 +63,28 @@ pub(crate) fn list_spans<P: Plan>(
     Ok((ends, starts, end as usize))
 }
 
-/// An iterator over the row references of the items of lists of one column: those left of the run
-/// `first`, and those of the lists that begin at `starts` and end at `ends`, after `at` items.
+/// An iterator over the runs of the items of lists of one column. The lists begin at `starts` in
+/// the child and end at `ends` in the result, the first of them after `at` items.
 #[derive(Drop)]
-pub(crate) struct SpanRefs<'a> {
-    pub first: Run,
+pub(crate) struct SpanRuns<'a> {
     pub starts: &'a [u32],
     pub ends: &'a [i64],
     pub at: u32,
-    pub left: usize,
     pub ghost rising: { are_ends at ends.now ≡ true },
-    pub ghost count: { length (unrolled first ++ expand (spans starts.now at ends.now)) ≡ left },
-    pub ghost few: { left ≤ max_rows },
-    pub ghost near: { All IsNear (unrolled first ++ expand (spans starts.now at ends.now)) },
 }
 
-impl SpanRefs<'_> {
-    // Advances to the next list with items, unless items of the current one are left.
+impl Runs for SpanRuns<'_> {
+    ghost picks = { λ runs. expand (spans runs.starts.now runs.at runs.ends.now) };
+
     #[inline(always)]
-    fn ready(&mut self)
-        requires { 0 < self.old.left }
-        ensures picks { unrolled self.new.first ++
-            expand (spans self.new.starts.now self.new.at self.new.ends.now) ≡
-            unrolled self.old.first ++
-            expand (spans self.old.starts.now self.old.at self.old.ends.now) }
-        ensures some { 0 < self.new.first.len }
-        ensures left { self.new.left ≡ self.old.left }
-    {
-        let mut first = self.first;
+    fn next_run(&mut self) -> Run {
+        let mut run = NO_ROWS;
         let mut starts = self.starts;
         let mut ends = self.ends;
         let mut at = self.at;
-        while first.len == 0 {
+        while run.len == 0 {
             let end = ends[0].to_position() as u32;
-            first = Run {
+            run = Run {
                 source: Some(0),
                 start: starts[0],
                 len: end - at,
@@ -105,59 +93,25 @@ impl SpanRefs<'_> {
             starts = &starts[1..];
             ends = &ends[1..];
         }
-        self.first = first;
         self.starts = starts;
         self.ends = ends;
         self.at = at;
-    }
-}
-
-impl Plan for SpanRefs<'_> {
-    ghost picks = { λ refs. unrolled refs.first ++
-        expand (spans refs.starts.now refs.at refs.ends.now) };
-
-    #[inline(always)]
-    fn len(&self) -> usize {
-        self.left
-    }
-
-    #[inline(always)]
-    fn next(&mut self) -> Option<(u32, u32)> {
-        self.ready();
-        let (next, others) = split_first(self.first);
-        self.left -= 1;
-        self.first = others;
-        next
-    }
-
-    #[inline(always)]
-    fn next_run(&mut self) -> Run {
-        self.ready();
-        let run = self.first;
-        self.left -= run.len as usize;
-        self.first = NO_ROWS;
         run
     }
 
     #[inline(always)]
     fn again(&self) -> Self {
-        SpanRefs {
-            first: self.first,
+        SpanRuns {
             starts: self.starts,
             ends: self.ends,
             at: self.at,
-            left: self.left,
         }
     }
 
     // (a null list has no items)
-    fn has_nulls(&self) -> bool {
-        self.first.source.is_none()
-    }
-
     #[inline(always)]
-    fn is_wide(&self) -> bool {
-        true
+    fn has_nulls(&self) -> bool {
+        false
     }
 
     #[inline(always)]

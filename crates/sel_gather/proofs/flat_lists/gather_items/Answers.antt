@@ -5,6 +5,13 @@ use Rattle.sel_gather.proofs.flat_lists.gather_items.Goals as goal
 
 pub invariant_of-items : goal.invariant_of-items
 invariant_of-items g c =
+    let cs = c.args.sources.now in
+    let qs = g.P.Plan.picks c.again.result in
+    let fits = again_fits (type_of c.args.first.now) cs c.requires.lists c.requires.alike c.requires.formed c.args.width (g.P.Plan.picks c.args.plan.now) qs c.again.ensures c.requires.fits in
+    record { listing = c.requires.lists; formed = c.requires.formed; fits = fits_rows (rows_of cs) qs fits }
+
+pub invariant_of-items-2 : goal.invariant_of-items-2
+invariant_of-items-2 g c =
     let s = type_of c.args.first.now in
     let cs = c.args.sources.now in
     let w = c.args.width in
@@ -12,9 +19,6 @@ invariant_of-items g c =
     let qs = g.P.Plan.picks c.again.result in
     let fits = again_fits s cs c.requires.lists c.requires.alike c.requires.formed w ps qs c.again.ensures c.requires.fits in
     record {
-      listing = c.requires.lists;
-      formed = c.requires.formed;
-      fits = fits_rows (rows_of cs) qs fits;
       count = again_long s cs c.requires.lists c.requires.alike c.requires.formed w ps qs c.again.ensures c.requires.fits ∙ sym c.requires.need;
       few = c.requires.few;
       near = items_near cs c.requires.lists c.requires.formed (items_at cs w qs) (items_fit cs c.requires.lists c.requires.formed w qs fits);

@@ -5,11 +5,15 @@ use Rattle.sel_gather.proofs.flat_lists.gather_spans.Goals as goal
 
 pub invariant_of-items : goal.invariant_of-items
 invariant_of-items g c =
+    let ps = g.P.Plan.picks c.args._plan.now in
+    record { rising = last_rise c.args.sources.now c.requires.lists c.requires.formed ps c.args.starts.now c.args.ends.now c.requires.fits c.requires.starts c.requires.ends (omega (arith, c.requires.need, c.requires.few)) }
+
+pub invariant_of-items-2 : goal.invariant_of-items-2
+invariant_of-items-2 g c =
     let cs = c.args.sources.now in
     let ps = g.P.Plan.picks c.args._plan.now in
     let are = items_are cs c.requires.lists c.requires.formed ps c.args.starts.now c.args.ends.now c.requires.fits c.requires.starts c.requires.ends in
     record {
-      rising = last_rise cs c.requires.lists c.requires.formed ps c.args.starts.now c.args.ends.now c.requires.fits c.requires.starts c.requires.ends (omega (arith, c.requires.need, c.requires.few));
       count = ap length are ∙ items_long cs c.requires.lists c.requires.formed 0 ps c.requires.fits ∙ sym c.requires.need;
       few = c.requires.few;
       near = subst (All IsNear) (sym are) (items_near cs c.requires.lists c.requires.formed (items_at cs 0 ps) (items_fit cs c.requires.lists c.requires.formed 0 ps c.requires.fits));

@@ -1,8 +1,8 @@
-use Rattle.sel_gather.proofs.Common.{◌≡◌, ◌∷◌, ap, is_none, false, All-cons, Run}
-use Rattle.sel_gather.proofs.RunLists.{named_picked}
+use Rattle.sel_gather.proofs.Common.{All-append, IsPicked, unrolled}
+use Rattle.sel_gather.proofs.RunLists.{run_picked}
 use Rattle.sel_gather.proofs.run_refs.RunRefsPlan.has_nulls.Goals as goal
 
 pub returns-in-Some : goal.returns-in-Some
-returns-in-Some c =
+returns-in-Some g c =
     let refs = c.args.self.now in
-    λ e. named_picked (refs.first ∷ refs.rest.now) (All-cons (λ (r : Run). is_none r.source ≡ false) refs.first refs.rest.now (ap is_none c.in-Some.is) (c.is_any_null.ensures.0 e))
+    λ e. All-append IsPicked (unrolled refs.first) (g.R.Runs.picks refs.rest) (run_picked refs.first _ c.in-Some.is) (c.has_nulls.ensures e)
