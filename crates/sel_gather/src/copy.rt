@@ -21,7 +21,7 @@ use crate::match_number_types;
 use crate::nested::{blocks_over, lists_over, struct_over};
 use crate::null::collect_null;
 use crate::primitive::gather_primitive;
-use crate::run_refs::RunRefs;
+use crate::run_refs::{ListedRuns, RunRefs};
 use crate::runs::{NO_ROWS, Run};
 use crate::structs::{fields_at, split_runs};
 use crate::typed_arrays::{binaries_of, texts_of, views_of};
@@ -76,12 +76,12 @@ fn collect_like<'a>(
 {
     let plan = &RunRefs {
         first: NO_ROWS,
-        rest: runs,
+        rest: ListedRuns { runs },
         left: len,
     };
     macro_rules! gather {
         ($number:ty) => {
-            gather_primitive::<RunRefs<&[Run]>, $number>(alloc, sources, plan)
+            gather_primitive::<RunRefs<ListedRuns>, $number>(alloc, sources, plan)
         };
     }
     match_number_types! { first, gather,
@@ -115,7 +115,7 @@ fn collect_lists<'a>(
 {
     let plan = RunRefs {
         first: NO_ROWS,
-        rest: runs,
+        rest: ListedRuns { runs },
         left: len,
     };
     let (ends, below, need) = walk_lists(alloc, sources, &plan)?;
@@ -179,7 +179,7 @@ fn collect_blocks<'a>(
     let values = collect_items(alloc, child, sources, runs, size as u32, need as usize)?;
     let plan = RunRefs {
         first: NO_ROWS,
-        rest: runs,
+        rest: ListedRuns { runs },
         left: len,
     };
     let column = blocks_over(alloc, size, values, sources, &plan)?;

@@ -34,34 +34,40 @@ pub trait Runs: Sized + Drop {
     fn run_count(&self) -> usize;
 }
 
-impl Runs for &[Run] {
-    ghost picks = { λ runs. expand runs.now };
+/// An iterator over a slice of runs.
+#[derive(Drop)]
+pub struct ListedRuns<'a> {
+    pub runs: &'a [Run],
+}
+
+impl Runs for ListedRuns<'_> {
+    ghost picks = { λ listed. expand listed.runs.now };
 
     #[inline(always)]
     fn next_run(&mut self) -> Run {
         let mut run = NO_ROWS;
-        let mut rest = *self;
+        let mut rest = self.runs;
         while run.len == 0 {
             run = rest[0];
             rest = &rest[1..];
         }
-        *self = rest;
+        self.runs = rest;
         run
     }
 
     #[inline(always)]
     fn again(&self) -> Self {
-        *self
+        ListedRuns { runs: self.runs }
     }
 
     #[inline(always)]
     fn has_nulls(&self) -> bool {
-        self.iter().any(|run| run.source.is_none())
+        self.runs.iter().any(|run| run.source.is_none())
     }
 
     #[inline(always)]
     fn run_count(&self) -> usize {
-        self.len()
+        self.runs.len()
     }
 }
 

@@ -17,7 +17,7 @@ ghost use Rattle.sel_gather.specs.Sources.{columns_of, picked, rows_of};
 
 use crate::gather_values::validity_at;
 use crate::row_refs::Plan;
-use crate::run_refs::RunRefs;
+use crate::run_refs::{ListedRuns, RunRefs};
 use crate::runs::{NO_ROWS, Run};
 use sel_arrow::column::Column;
 use sel_bits::bitmap::Bitmap;
@@ -47,7 +47,7 @@ pub fn collect_validity(
 {
     let plan = RunRefs {
         first: NO_ROWS,
-        rest: runs,
+        rest: ListedRuns { runs },
         left: len,
     };
     gather_validity(alloc, sources, &plan)

@@ -1,9 +1,9 @@
 use Rattle.sel_gather.proofs.Common.{◌≡◌, ◌↔◌, All, false, is_none, rules, Run}
 use Rattle.sel_gather.proofs.RunLists.{named_picked}
-use Rattle.sel_gather.proofs.run_refs.RefSliceRunRuns.has_nulls.Goals as goal
+use Rattle.sel_gather.proofs.run_refs.ListedRunsRuns.has_nulls.Goals as goal
 
 pub returns : goal.returns
 returns c =
-    let runs = c.args.self.now.now in
+    let runs = c.args.self.now.runs.now in
     let named : (c.any.result ≡ false) ↔ All (λ (r : Run). is_none r.source ≡ false) runs = search rules in
     λ e. named_picked runs (named.0 e)
