@@ -1,4 +1,4 @@
-use Rattle.sel_gather.proofs.Common.{◌≡◌, All, arith, subst, items_at, IsPicked}
+use Rattle.sel_gather.proofs.Common.{◌≡◌, arith}
 use Rattle.sel_gather.proofs.ItemPicks.{items_picked_all, items_shown}
 use Rattle.sel_gather.proofs.item_runs.ItemRunsRuns.has_nulls.Goals as goal
 
@@ -10,5 +10,5 @@ returns-else-has_nulls g c =
 pub returns-else-self-ne0 : goal.returns-else-self-ne0
 returns-else-self-ne0 g c =
     let runs = c.args.self.now in
-    let zero : 0 ≡ runs.width = omega (arith, c.if-self-ne0.false) in
-    λ _. subst (λ w. All IsPicked (items_at runs.sources.now w (g.P.Plan.picks runs.lists))) zero (items_picked_all runs.sources.now (g.P.Plan.picks runs.lists))
+    let zero : runs.width ≡ 0 = omega (arith, c.if-self-ne0.false) in
+    λ _. rw zero (items_picked_all runs.sources.now (g.P.Plan.picks runs.lists))

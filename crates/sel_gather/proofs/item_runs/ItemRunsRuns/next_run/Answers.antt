@@ -1,4 +1,4 @@
-use Rattle.sel_gather.proofs.Common.{All, subst, All-head, All-tail, IsRow}
+use Rattle.sel_gather.proofs.Common.{All-head, All-tail, IsRow}
 use Rattle.sel_gather.proofs.{ItemPicks.lists_left, ItemPicks.next_list, ItemPicks.row_fits, ItemRuns.rows_of}
 use Rattle.sel_gather.proofs.item_runs.ItemRunsRuns.next_run.Goals as goal
 
@@ -15,9 +15,9 @@ loop-run-preserved g c =
 pub run_of_list-run-requires-clause-fits : goal.run_of_list-run-requires-clause-fits
 run_of_list-run-requires-clause-fits g c =
     let s = c.loop-run.self in
-    row_fits (rows_of s.sources.now) _ (All-head (IsRow (rows_of s.sources.now)) _ _ (subst (All (IsRow (rows_of s.sources.now))) c.next.ensures s.fits))
+    row_fits (rows_of s.sources.now) _ (All-head (IsRow (rows_of s.sources.now)) _ _ (rw c.next.ensures at s.fits))
 
 pub invariant_of-self-clause-fits : goal.invariant_of-self-clause-fits
 invariant_of-self-clause-fits g c =
     let s = c.loop-run.self in
-    All-tail (IsRow (rows_of s.sources.now)) _ _ (subst (All (IsRow (rows_of s.sources.now))) c.next.ensures s.fits)
+    All-tail (IsRow (rows_of s.sources.now)) _ _ (rw c.next.ensures at s.fits)
