@@ -1,7 +1,11 @@
 -- Broadcast rows by the kernels of their types, and null rows by a validity.
 use Rattle.sel_ternary.proofs.Common.{◌≡◌, ℕ, suc, ◌<◌, ◌∙◌, Bool, true, false, not, ◌&&◌, List, [], ◌∷◌, length, map, get_or, refl, ap, sym, subst, arith}
 use Rattle.sel_ternary.proofs.Common.{replicate, Option, None, if◌then◌else◌, list_all, append-nil, Bits, zip_with, hidden, Covers, Value, Null, Bytes, View}
-use Rattle.sel_ternary.proofs.Common.{pick, broadcast_true, broadcast_false, broadcast_both, first_row, length-map}
+use Rattle.sel_ternary.proofs.Common.{pick, broadcast_true, broadcast_false, broadcast_both, first_row}
+use Rattle.std.specs.Prelude.{◌≤◌, ◌+◌}
+use Rattle.sel_bits.specs.Limits.{max_buffers}
+use Rattle.sel_ternary.specs.Chosen.{chosen_rows, spread_rows, SideFits, SideIsValid}
+use Rattle.sel_ternary.specs.WordKernels.{HasRoom}
 use Rattle.sel_arrow.specs.Texts.{is_text}
 use Rattle.std.proofs.Common.{◌≢◌, ⊎_elim}
 use Rattle.std.specs.Prelude.{count_by}
@@ -56,6 +60,36 @@ nulled_then [] x = refl
 nulled_then (true ∷ ms) x = ap (λ l. Null ∷ l) (nulled_then ms x)
 nulled_then (false ∷ ms) x = ap (λ l. x ∷ l) (nulled_then ms x)
 
+pub null_then : (tc fc : Bool) (ms : List Bool) (ts fs : List Value) → tc ≡ false → first_row ts ≡ Null → SideFits fc (length fs) (length ms) → hidden (map not ms) (spread_rows fc ms fs) ≡ chosen_rows tc fc ms ts fs
+null_then false true ms ts fs row null fits = nulled_true ms fs fits ∙ ap (λ x. broadcast_true ms x fs) (sym null)
+null_then false false ms ts fs row null fits = nulled_then ms (first_row fs) ∙ ap (λ x. broadcast_both ms x (first_row fs)) (sym null)
+null_then true fc ms ts fs row null fits = absurd (cc row)
+
+pub null_otherwise : (tc fc : Bool) (ms : List Bool) (ts fs : List Value) → fc ≡ false → first_row fs ≡ Null → SideFits tc (length ts) (length ms) → hidden ms (spread_rows tc ms ts) ≡ chosen_rows tc fc ms ts fs
+null_otherwise true false ms ts fs row null fits = nulled_false ms ts fits ∙ ap (broadcast_false ms ts) (sym null)
+null_otherwise false false ms ts fs row null fits = nulled_otherwise ms (first_row ts) ∙ ap (broadcast_both ms (first_row ts)) (sym null)
+null_otherwise tc true ms ts fs row null fits = absurd (cc row)
+
+pub length-spread : (is_column : Bool) (ms : List Bool) (vs : List Value) → SideFits is_column (length vs) (length ms) → length (spread_rows is_column ms vs) ≡ length ms
+length-spread true ms vs fits = fits
+length-spread false ms vs fits = length-choose_of_two ms (first_row vs) (first_row vs)
+
+-- ---- the sides
+
+pub one_row : (is_column : Bool) (rows mask : ℕ) → SideFits is_column rows mask → is_column ≡ false → rows ≡ 1
+one_row true rows mask fits row = absurd (cc row)
+one_row false rows mask fits row = fits
+
+pub side_is_valid : (is_column : Bool) (vs : List Value) → (is_column ≡ false → first_row vs ≢ Null) → SideIsValid is_column vs
+side_is_valid true vs valid = tt
+side_is_valid false vs valid = valid refl
+
+pub has_room : (tc fc : Bool) (trues falses : ℕ) → trues + falses ≤ max_buffers → HasRoom tc fc trues falses
+has_room true true trues falses room = room
+has_room true false trues falses room = room
+has_room false true trues falses room = room
+has_room false false trues falses room = tt
+
 -- Rows under two validities are those under both at once.
 pub hidden_twice : (bs keep : List Bool) (vs : List Value) → length bs ≡ length keep → hidden (zip_with (λ x y. x && y) bs keep) vs ≡ hidden keep (hidden bs vs)
 hidden_twice [] [] vs long = refl
@@ -101,4 +135,4 @@ pub ruleset held_counts = held_count
 
 pub ruleset word_texts = (texts, first_text, hidden_text)
 
-pub ruleset null_rows = (one_null, nulled_true, nulled_false, nulled_otherwise, nulled_then, length-choose_of_two, length-map)
+pub ruleset null_rows = (one_null, one_valid)

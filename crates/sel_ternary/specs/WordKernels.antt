@@ -1,6 +1,7 @@
 -- The columns whose if-then-else has a kernel by the words of the mask, for its internal steps.
-use Rattle.std.specs.Prelude.{◌≡◌, ℕ, Bool, true, false, List, [], ◌∷◌, Option, Result, length}
+use Rattle.std.specs.Prelude.{◌≡◌, ◌≤◌, ◌+◌, ⊤, ℕ, Bool, true, false, List, [], ◌∷◌, Option, Result, length}
 use Rattle.std.specs.Prelude.{IfErr, IfOk, IfSome}
+use Rattle.sel_bits.specs.Limits.{max_buffers}
 use Rattle.sel_bits.specs.declared.faults.PolarsError.{PolarsError}
 use Rattle.sel_arrow.specs.Rows.{rows, type_of}
 use Rattle.sel_arrow.specs.Shape.{Shape, of_null, of_large_binary, of_large_list}
@@ -24,6 +25,11 @@ has_word_kernel s = true
 abbrev pub first_count : List (List (List ℕ)) → ℕ
 first_count [] = 0
 first_count (buffers ∷ others) = length buffers
+
+-- Two columns, or a column and a scalar, have no more data buffers than one column can have.
+abbrev pub HasRoom : Bool → Bool → ℕ → ℕ → Type 0
+HasRoom false false trues falses = ⊤
+HasRoom _ _ trues falses = trues + falses ≤ max_buffers
 
 -- A column of this type with these rows of these columns, which exceed no limit, or no column; or an
 -- error: out of memory, or a limit that they exceed.

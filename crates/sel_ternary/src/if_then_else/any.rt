@@ -6,7 +6,7 @@ ghost use Rattle.sel_arrow.specs.Rows.{rows, type_of, IsField};
 ghost use Rattle.sel_arrow.specs.Shape.{of_struct, shapes_of};
 ghost use Rattle.sel_arrow.specs.Value.{Null};
 ghost use Rattle.sel_ternary.specs.Choose.{choose, broadcast_true, broadcast_false, broadcast_both};
-ghost use Rattle.sel_ternary.specs.Chosen.{chosen_rows, first_row, SideFits};
+ghost use Rattle.sel_ternary.specs.Chosen.{chosen_rows, first_row, AreSides};
 ghost use Rattle.sel_ternary.specs.ChosenPicks.{bit_pick, chosen_picks, place_on};
 ghost use Rattle.sel_ternary.specs.Structs.{is_bare};
 ghost use Rattle.sel_ternary.specs.WordKernels.{ChoosesSome};
@@ -145,12 +145,8 @@ fn choice(
     true_column: bool,
     false_column: bool,
 ) -> PolarsResult<ArrayRef>
-    requires alike { type_of if_true.now.column ≡ type_of if_false.now.column }
-    requires true_side { SideFits true_column (length (rows if_true.now.column))
-        (length mask.now.bits) }
-    requires false_side { SideFits false_column (length (rows if_false.now.column))
-        (length mask.now.bits) }
-    requires few { length mask.now.bits ≤ max_rows }
+    requires { AreSides true_column false_column mask.now.bits if_true.now.column
+        if_false.now.column }
     ensures { GathersFrom result (if_true.now.column ∷ if_false.now.column ∷ [])
         (chosen_rows true_column false_column mask.now.bits (rows if_true.now.column)
         (rows if_false.now.column)) }
@@ -212,12 +208,8 @@ fn struct_choice(
 ) -> PolarsResult<ArrayRef>
     requires true_bare { is_bare if_true.now.column ≡ true }
     requires false_bare { is_bare if_false.now.column ≡ true }
-    requires alike { type_of if_true.now.column ≡ type_of if_false.now.column }
-    requires true_side { SideFits true_column (length (rows if_true.now.column))
-        (length mask.now.bits) }
-    requires false_side { SideFits false_column (length (rows if_false.now.column))
-        (length mask.now.bits) }
-    requires few { length mask.now.bits ≤ max_rows }
+    requires sides { AreSides true_column false_column mask.now.bits if_true.now.column
+        if_false.now.column }
     ensures { GathersFrom result (if_true.now.column ∷ if_false.now.column ∷ [])
         (chosen_rows true_column false_column mask.now.bits (rows if_true.now.column)
         (rows if_false.now.column)) }
@@ -256,15 +248,10 @@ fn field_choices(
 ) -> PolarsResult<Vec<Column>>
     requires true_bare { is_bare if_true.now.column ≡ true }
     requires false_bare { is_bare if_false.now.column ≡ true }
-    requires true_type { type_of if_true.now.column ≡
+    requires dtypes { type_of if_true.now.column ≡
         of_struct (shapes_of (map type_of firsts.now)) }
-    requires false_type { type_of if_false.now.column ≡
-        of_struct (shapes_of (map type_of firsts.now)) }
-    requires true_side { SideFits true_column (length (rows if_true.now.column))
-        (length mask.now.bits) }
-    requires false_side { SideFits false_column (length (rows if_false.now.column))
-        (length mask.now.bits) }
-    requires few { length mask.now.bits ≤ max_rows }
+    requires sides { AreSides true_column false_column mask.now.bits if_true.now.column
+        if_false.now.column }
     ensures parts { IfOk result (λ fields. map rows fields.items ≡
         parts_of (length firsts.now) (chosen_rows true_column false_column mask.now.bits
         (rows if_true.now.column) (rows if_false.now.column))) }
@@ -301,13 +288,9 @@ fn field_choice(
 ) -> PolarsResult<Column>
     requires true_bare { is_bare if_true.now.column ≡ true }
     requires false_bare { is_bare if_false.now.column ≡ true }
-    requires alike { type_of if_true.now.column ≡ type_of if_false.now.column }
     requires inside { j < length (fields_of if_true.now.column) }
-    requires true_side { SideFits true_column (length (rows if_true.now.column))
-        (length mask.now.bits) }
-    requires false_side { SideFits false_column (length (rows if_false.now.column))
-        (length mask.now.bits) }
-    requires few { length mask.now.bits ≤ max_rows }
+    requires sides { AreSides true_column false_column mask.now.bits if_true.now.column
+        if_false.now.column }
     ensures { Collects result (type_of (field j if_true.now.column))
         (field j if_true.now.column ∷ field j if_false.now.column ∷ [])
         (map (part_at j) (chosen_rows true_column false_column mask.now.bits
@@ -342,12 +325,8 @@ fn word_choice(
     true_column: bool,
     false_column: bool,
 ) -> PolarsResult<Option<ArrayRef>>
-    requires alike { type_of if_true.now.column ≡ type_of if_false.now.column }
-    requires true_side { SideFits true_column (length (rows if_true.now.column))
-        (length mask.now.bits) }
-    requires false_side { SideFits false_column (length (rows if_false.now.column))
-        (length mask.now.bits) }
-    requires few { length mask.now.bits ≤ max_rows }
+    requires { AreSides true_column false_column mask.now.bits if_true.now.column
+        if_false.now.column }
     ensures { ChoosesSome result (type_of if_true.now.column)
         (if_true.now.column ∷ if_false.now.column ∷ [])
         (chosen_rows true_column false_column mask.now.bits (rows if_true.now.column)
@@ -397,12 +376,8 @@ pub(crate) fn picked_choice(
     true_column: bool,
     false_column: bool,
 ) -> PolarsResult<ArrayRef>
-    requires alike { type_of if_true.now.column ≡ type_of if_false.now.column }
-    requires true_side { SideFits true_column (length (rows if_true.now.column))
-        (length mask.now.bits) }
-    requires false_side { SideFits false_column (length (rows if_false.now.column))
-        (length mask.now.bits) }
-    requires few { length mask.now.bits ≤ max_rows }
+    requires { AreSides true_column false_column mask.now.bits if_true.now.column
+        if_false.now.column }
     ensures { GathersFrom result (if_true.now.column ∷ if_false.now.column ∷ [])
         (chosen_rows true_column false_column mask.now.bits (rows if_true.now.column)
         (rows if_false.now.column)) }

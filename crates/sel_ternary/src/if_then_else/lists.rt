@@ -8,7 +8,7 @@ ghost use Rattle.sel_arrow.specs.Rows.{rows as column_rows, type_of};
 ghost use Rattle.sel_arrow.specs.Shape.{Shape, is_list_shape, is_block_shape, of_large_list, of_fixed_size_list};
 ghost use Rattle.sel_arrow.specs.declared.column.Column.{Column};
 ghost use Rattle.sel_ternary.specs.Choose.{choose, broadcast_true, broadcast_false, broadcast_both};
-ghost use Rattle.sel_ternary.specs.Chosen.{chosen_rows, SideFits};
+ghost use Rattle.sel_ternary.specs.Chosen.{chosen_rows, AreSides};
 ghost use Rattle.sel_ternary.specs.ListSides.{exceeded_lists, list_child, block_child};
 ghost use Rattle.sel_ternary.specs.Steps.{IsBelow};
 ghost use Rattle.sel_ternary.specs.Sides.{column, scalar, IsLimitOrMemory, ExceedsNone};
@@ -249,12 +249,8 @@ fn choose_shared<L: Lists>(
     false_column: bool,
 ) -> PolarsResult<L>
     requires kind { L.is_kind (type_of if_true.column) ≡ true }
-    requires alike { type_of if_true.column ≡ type_of if_false.column }
-    requires true_side { SideFits true_column (length (column_rows if_true.column))
-        (length mask.now.bits) }
-    requires false_side { SideFits false_column (length (column_rows if_false.column))
-        (length mask.now.bits) }
-    requires few { length mask.now.bits ≤ max_rows }
+    requires sides { AreSides true_column false_column mask.now.bits if_true.column
+        if_false.column }
     ensures rows { IfOk result (λ chosen. L.rows chosen ≡ chosen_rows true_column false_column
         mask.now.bits (column_rows if_true.column) (column_rows if_false.column)) }
     ensures dtype { IfOk result (λ chosen. L.shape chosen ≡ type_of if_true.column) }

@@ -28,8 +28,8 @@ field_choices-field_choice-requires t c =
     let first = c.args.if_true.now.column in
     let ss = shapes_of (map type_of c.args.firsts.now) in
     let long = ap length (listed_shapes (map type_of c.args.firsts.now)) ∙ length-map c.args.firsts.now type_of in
-    let count = bare_count first c.requires.true_bare ∙ ap (λ l. length (shape_list l)) (same_shapes first ss c.requires.true_bare c.requires.true_type) ∙ long in
-    (omega (arith, c.decreases), (c.requires.true_bare, (c.requires.false_bare, (c.requires.true_type ∙ sym c.requires.false_type, (omega (arith, c.loop-j-test.true, count), (c.requires.true_side, (c.requires.false_side, c.requires.few)))))))
+    let count = bare_count first c.requires.true_bare ∙ ap (λ l. length (shape_list l)) (same_shapes first ss c.requires.true_bare c.requires.dtypes) ∙ long in
+    (omega (arith, c.decreases), (c.requires.true_bare, (c.requires.false_bare, (omega (arith, c.loop-j-test.true, count), c.requires.sides))))
 
 pub field_choices-loop-j-preserved : goal.field_choices-loop-j-preserved
 field_choices-loop-j-preserved t c =
@@ -45,10 +45,10 @@ field_choices-loop-j-preserved t c =
     let old = c.loop-j.fields.items in
     let new : c.push.new.self.items ≡ old ++ one ∷ [] = c.in_ok-push.ensures.items in
     let part : rows one ≡ map (part_at j) vs = c.in_ok-field.ensures.rows in
-    let kind : type_of (field j first) ≡ get_or firsts j of_null = field_type first ss j of_null c.requires.true_type inside ∙ ap (λ l. get_or l j of_null) shapes in
+    let kind : type_of (field j first) ≡ get_or firsts j of_null = field_type first ss j of_null c.requires.dtypes inside ∙ ap (λ l. get_or l j of_null) shapes in
     let long : row_count one ≡ length c.args.mask.now.bits =
     sym (length-rows one) ∙ ap length part ∙ length-map vs (part_at j)
-    ∙ chosen_count first second c.args.true_column c.args.false_column c.args.mask.now.bits c.requires.true_bare c.requires.false_bare ss c.requires.true_type c.requires.false_type c.requires.true_side c.requires.false_side in
+    ∙ chosen_count first second c.args.true_column c.args.false_column c.args.mask.now.bits c.requires.true_bare c.requires.false_bare ss c.requires.dtypes (sym c.requires.sides.alike ∙ c.requires.dtypes) c.requires.sides.true_side c.requires.sides.false_side in
     let here = subst (λ s. ExceedsNone (exceeded_taken s (field j first ∷ field j second ∷ []) (map (part_at j) vs))) kind c.in_ok-field.ensures.within in
     record {
       parts = parts_more j vs (map rows old) (map rows c.push.new.self.items) (rows one) c.loop-j.invariant.parts (ap (map rows) new ∙ map-append rows old (one ∷ [])) part;
@@ -70,7 +70,7 @@ field_choices-returns-in_err-field-clause-refusal t c =
     let inside : j < length (shape_list ss) = omega (arith, c.loop-j-test.true, ap length shapes, length-map c.args.firsts.now type_of) in
     let vs = chosen_rows c.args.true_column c.args.false_column c.args.mask.now.bits (rows first) (rows second) in
     let p = err_from_is_err_and c.from_residual-in_err-field.result c.from_residual-in_err-field.ensures.1 in
-    let kind : type_of (field j first) ≡ get_or firsts j of_null = field_type first ss j of_null c.requires.true_type inside ∙ ap (λ l. get_or l j of_null) shapes in
+    let kind : type_of (field j first) ≡ get_or firsts j of_null = field_type first ss j of_null c.requires.dtypes inside ∙ ap (λ l. get_or l j of_null) shapes in
     let fault = c.in_err-field.field-0.0 in
     let here = subst (λ s. IsLimitOrMemory (exceeded_taken s (field j first ∷ field j second ∷ []) (map (part_at j) vs)) fault) kind c.in_err-field.ensures.refusal in
     let many : j < length firsts = omega (arith, c.loop-j-test.true, length-map c.args.firsts.now type_of) in
@@ -105,19 +105,19 @@ struct_choice-field_choices-requires t c =
     let kind : type_of first ≡ of_struct (shapes_of (map type_of c.deref.result.now)) =
     ap type_of (sym c.as_column.ensures.column ∙ c.in-Struct.is) ∙ type_of-Struct c.in-Struct.len c.in-Struct.firsts c.in-Struct.validity ∙ ap (λ l. of_struct (shapes_of (map type_of l))) (sym c.deref.ensures.value)
     in
-    (omega (arith, c.decreases), (c.requires.true_bare, (c.requires.false_bare, (kind, (sym c.requires.alike ∙ kind, (c.requires.true_side, (c.requires.false_side, c.requires.few)))))))
+    (omega (arith, c.decreases), (c.requires.true_bare, (c.requires.false_bare, (kind, c.requires.sides))))
 
 -- ---- a field
 
 pub field_choice-try_clone-requires : goal.field_choice-try_clone-requires
 field_choice-try_clone-requires t c =
     ap well_formed (c.field_of.ensures ∙ ap (field c.args.j) c.as_column.ensures.column)
-    ∙ first_formed c.args.if_true.now.column c.args.if_false.now.column c.args.true_column c.args.false_column c.args.mask.now.bits c.requires.true_bare c.requires.false_bare c.requires.alike c.requires.true_side c.requires.false_side c.args.j c.requires.inside c.args.if_true.now.formed c.args.if_false.now.formed
+    ∙ first_formed c.args.if_true.now.column c.args.if_false.now.column c.args.true_column c.args.false_column c.args.mask.now.bits c.requires.true_bare c.requires.false_bare c.requires.sides.alike c.requires.sides.true_side c.requires.sides.false_side c.args.j c.requires.inside c.args.if_true.now.formed c.args.if_false.now.formed
 
 pub field_choice-try_clone-requires-2 : goal.field_choice-try_clone-requires-2
 field_choice-try_clone-requires-2 t c =
     ap well_formed (c.field_of-2.ensures ∙ ap (field c.args.j) c.as_column-2.ensures.column)
-    ∙ second_formed c.args.if_true.now.column c.args.if_false.now.column c.args.true_column c.args.false_column c.args.mask.now.bits c.requires.true_bare c.requires.false_bare c.requires.alike c.requires.true_side c.requires.false_side c.args.j c.requires.inside c.args.if_true.now.formed c.args.if_false.now.formed
+    ∙ second_formed c.args.if_true.now.column c.args.if_false.now.column c.args.true_column c.args.false_column c.args.mask.now.bits c.requires.true_bare c.requires.false_bare c.requires.sides.alike c.requires.sides.true_side c.requires.sides.false_side c.args.j c.requires.inside c.args.if_true.now.formed c.args.if_false.now.formed
 
 pub field_choice-choice-requires : goal.field_choice-choice-requires
 field_choice-choice-requires t c =
@@ -125,7 +125,12 @@ field_choice-choice-requires t c =
     let second = copy_of c.in_ok-column-2.column _ (field c.args.j c.args.if_false.now.column) c.in_ok-column-2.ensures.rows c.in_ok-column-2.ensures.dtype c.in_ok-column-2.ensures.buffers (c.field_of-2.ensures ∙ ap (field c.args.j) c.as_column-2.ensures.column) in
     let smaller = field_size c.args.if_true.now.column c.args.j c.requires.true_bare c.requires.inside in (
       omega (arith, c.decreases, smaller, ap size_of first.same_type),
-      (copies_alike c.args.if_true.now.column c.args.if_false.now.column c.args.true_column c.args.false_column c.args.mask.now.bits c.requires.true_bare c.requires.false_bare c.requires.alike c.requires.true_side c.requires.false_side c.args.j c.requires.inside c.args.if_true.now.formed c.args.if_false.now.formed _ _ first second, (copy_true_side c.args.if_true.now.column c.args.if_false.now.column c.args.true_column c.args.false_column c.args.mask.now.bits c.requires.true_bare c.requires.false_bare c.requires.alike c.requires.true_side c.requires.false_side c.args.j c.requires.inside c.args.if_true.now.formed c.args.if_false.now.formed _ _ first second, (copy_false_side c.args.if_true.now.column c.args.if_false.now.column c.args.true_column c.args.false_column c.args.mask.now.bits c.requires.true_bare c.requires.false_bare c.requires.alike c.requires.true_side c.requires.false_side c.args.j c.requires.inside c.args.if_true.now.formed c.args.if_false.now.formed _ _ first second, c.requires.few))),
+      record {
+        alike = copies_alike c.args.if_true.now.column c.args.if_false.now.column c.args.true_column c.args.false_column c.args.mask.now.bits c.requires.true_bare c.requires.false_bare c.requires.sides.alike c.requires.sides.true_side c.requires.sides.false_side c.args.j c.requires.inside c.args.if_true.now.formed c.args.if_false.now.formed _ _ first second;
+        true_side = copy_true_side c.args.if_true.now.column c.args.if_false.now.column c.args.true_column c.args.false_column c.args.mask.now.bits c.requires.true_bare c.requires.false_bare c.requires.sides.alike c.requires.sides.true_side c.requires.sides.false_side c.args.j c.requires.inside c.args.if_true.now.formed c.args.if_false.now.formed _ _ first second;
+        false_side = copy_false_side c.args.if_true.now.column c.args.if_false.now.column c.args.true_column c.args.false_column c.args.mask.now.bits c.requires.true_bare c.requires.false_bare c.requires.sides.alike c.requires.sides.true_side c.requires.sides.false_side c.args.j c.requires.inside c.args.if_true.now.formed c.args.if_false.now.formed _ _ first second;
+        few = c.requires.sides.few;
+      },
     )
 
 pub field_choice-returns-in_err-column-3 : goal.field_choice-returns-in_err-column-3
@@ -138,7 +143,7 @@ field_choice-returns-in_err-column-3 t c =
       dtype = search rules;
       formed = search rules;
       within = search rules;
-      refusal = rw (p.1, p.2) (copies_refused c.args.if_true.now.column c.args.if_false.now.column c.args.true_column c.args.false_column c.args.mask.now.bits c.requires.true_bare c.requires.false_bare c.requires.alike c.requires.true_side c.requires.false_side c.args.j c.requires.inside c.args.if_true.now.formed c.args.if_false.now.formed _ _ first second c.in_err-column-3.field-0.0 c.in_err-column-3.ensures.refusal);
+      refusal = rw (p.1, p.2) (copies_refused c.args.if_true.now.column c.args.if_false.now.column c.args.true_column c.args.false_column c.args.mask.now.bits c.requires.true_bare c.requires.false_bare c.requires.sides.alike c.requires.sides.true_side c.requires.sides.false_side c.args.j c.requires.inside c.args.if_true.now.formed c.args.if_false.now.formed _ _ first second c.in_err-column-3.field-0.0 c.in_err-column-3.ensures.refusal);
     }
 
 pub field_choice-returns : goal.field_choice-returns
@@ -146,10 +151,10 @@ field_choice-returns t c =
     let first = copy_of c.in_ok-column.column _ (field c.args.j c.args.if_true.now.column) c.in_ok-column.ensures.rows c.in_ok-column.ensures.dtype c.in_ok-column.ensures.buffers (c.field_of.ensures ∙ ap (field c.args.j) c.as_column.ensures.column) in
     let second = copy_of c.in_ok-column-2.column _ (field c.args.j c.args.if_false.now.column) c.in_ok-column-2.ensures.rows c.in_ok-column-2.ensures.dtype c.in_ok-column-2.ensures.buffers (c.field_of-2.ensures ∙ ap (field c.args.j) c.as_column-2.ensures.column) in
     record {
-      rows = c.in_ok-column-3.ensures.rows ∙ copies_chosen c.args.if_true.now.column c.args.if_false.now.column c.args.true_column c.args.false_column c.args.mask.now.bits c.requires.true_bare c.requires.false_bare c.requires.alike c.requires.true_side c.requires.false_side c.args.j c.requires.inside c.args.if_true.now.formed c.args.if_false.now.formed _ _ first second;
+      rows = c.in_ok-column-3.ensures.rows ∙ copies_chosen c.args.if_true.now.column c.args.if_false.now.column c.args.true_column c.args.false_column c.args.mask.now.bits c.requires.true_bare c.requires.false_bare c.requires.sides.alike c.requires.sides.true_side c.requires.sides.false_side c.args.j c.requires.inside c.args.if_true.now.formed c.args.if_false.now.formed _ _ first second;
       dtype = c.in_ok-column-3.ensures.dtype ∙ first.same_type;
       formed = c.in_ok-column-3.field-0.formed;
-      within = copies_pass c.args.if_true.now.column c.args.if_false.now.column c.args.true_column c.args.false_column c.args.mask.now.bits c.requires.true_bare c.requires.false_bare c.requires.alike c.requires.true_side c.requires.false_side c.args.j c.requires.inside c.args.if_true.now.formed c.args.if_false.now.formed _ _ first second c.in_ok-column-3.ensures.within;
+      within = copies_pass c.args.if_true.now.column c.args.if_false.now.column c.args.true_column c.args.false_column c.args.mask.now.bits c.requires.true_bare c.requires.false_bare c.requires.sides.alike c.requires.sides.true_side c.requires.sides.false_side c.args.j c.requires.inside c.args.if_true.now.formed c.args.if_false.now.formed _ _ first second c.in_ok-column-3.ensures.within;
       refusal = search rules;
     }
 
@@ -177,7 +182,7 @@ struct_choice-invariant_of-result t c =
     let same = c.len.ensures in
     record {
       formed = fields_make c.len.result c.in_ok-fields.fields None
-          (record { few = omega (arith, same, c.requires.few); covered = λ v there. absurd (cc there); fields = subst (λ n. All (IsField n) c.in_ok-fields.fields.items) (sym same) c.in_ok-fields.ensures.formed });
+          (record { few = omega (arith, same, c.requires.sides.few); covered = λ v there. absurd (cc there); fields = subst (λ n. All (IsField n) c.in_ok-fields.fields.items) (sym same) c.in_ok-fields.ensures.formed });
     }
 
 pub struct_choice-returns : goal.struct_choice-returns
@@ -197,10 +202,10 @@ struct_choice-returns t c =
     record {
       rows = rows-Struct c.len.result fields None
           ∙ tuples_rebuilt (length fields.items) vs (map rows fields.items) None c.len.result
-          (λ k. subst (λ n. IsTuple n (get_or vs k Null)) count (chosen_tuples first second c.args.true_column c.args.false_column c.args.mask.now.bits c.requires.true_bare c.requires.false_bare (shapes_of firsts) kind (sym c.requires.alike ∙ kind) c.requires.true_side c.requires.false_side k))
-          (chosen_count first second c.args.true_column c.args.false_column c.args.mask.now.bits c.requires.true_bare c.requires.false_bare (shapes_of firsts) kind (sym c.requires.alike ∙ kind) c.requires.true_side c.requires.false_side ∙ sym same)
+          (λ k. subst (λ n. IsTuple n (get_or vs k Null)) count (chosen_tuples first second c.args.true_column c.args.false_column c.args.mask.now.bits c.requires.true_bare c.requires.false_bare (shapes_of firsts) kind (sym c.requires.sides.alike ∙ kind) c.requires.sides.true_side c.requires.sides.false_side k))
+          (chosen_count first second c.args.true_column c.args.false_column c.args.mask.now.bits c.requires.true_bare c.requires.false_bare (shapes_of firsts) kind (sym c.requires.sides.alike ∙ kind) c.requires.sides.true_side c.requires.sides.false_side ∙ sym same)
           (subst (λ n. map rows fields.items ≡ parts_of n vs) many c.in_ok-fields.ensures.parts)
-          (ap (λ n. replicate n true) same ∙ chosen_valid first second c.args.true_column c.args.false_column c.args.mask.now.bits c.requires.true_bare c.requires.false_bare (shapes_of firsts) kind (sym c.requires.alike ∙ kind) c.requires.true_side c.requires.false_side);
+          (ap (λ n. replicate n true) same ∙ chosen_valid first second c.args.true_column c.args.false_column c.args.mask.now.bits c.requires.true_bare c.requires.false_bare (shapes_of firsts) kind (sym c.requires.sides.alike ∙ kind) c.requires.sides.true_side c.requires.sides.false_side);
       dtype = type_of-Struct c.len.result fields None ∙ ap (λ l. of_struct (shapes_of l)) dtypes ∙ sym kind;
       within = subst (λ s. ExceedsNone (exceeded_taken s (first ∷ second ∷ []) vs)) (sym kind) c.in_ok-fields.ensures.within;
       refusal = search rules;
