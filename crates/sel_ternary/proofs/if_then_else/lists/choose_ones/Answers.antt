@@ -1,4 +1,4 @@
-use Rattle.sel_ternary.proofs.Common.{arith, sym, ◌∙◌, rows, few_rows_pass, broadcast_both, scalar, first_row}
+use Rattle.sel_ternary.proofs.Common.{arith, ap, length, sym, ◌∙◌, rows, few_rows_pass, broadcast_both, scalar, first_row}
 use Rattle.sel_arrow.specs.Nested.{list_of}
 use Rattle.sel_ternary.proofs.ListChoices.{answered_choice, refused_choice}
 use Rattle.sel_ternary.proofs.Validities.{length-choose_of_two}
@@ -15,3 +15,20 @@ returns-clause-refusal g c =
     refused_choice _ g.L.Lists.child _ (scalar c.args.if_true.now) (scalar c.args.if_false.now) _ _ c.in_ok-first.ensures.dtype (c.in_ok-second.ensures.dtype ∙ sym c.requires.alike) c.in_ok-first.ensures.below c.in_ok-second.ensures.below _ _
     (λ i. broadcast_both c.args.mask.now.bits (first_row (c.in_ok-first.ensures.rows i)) (first_row (c.in_ok-second.ensures.rows i)))
     c.choose_shared.ensures.refusal
+
+pub choose_shared-requires : goal.choose_shared-requires
+choose_shared-requires g c = record {
+  kind = c.in_ok-first.ensures.kind;
+  sides = record {
+    alike = c.in_ok-first.ensures.dtype ∙ c.requires.alike ∙ sym c.in_ok-second.ensures.dtype;
+    true_side = ap length c.in_ok-first.ensures.rows;
+    false_side = ap length c.in_ok-second.ensures.rows;
+    few = omega (arith, c.len.ensures, c.if-len-gt-MOST_ROWS.false);
+  };
+}
+
+pub returns-clause-rows : goal.returns-clause-rows
+returns-clause-rows g c = rw (c.in_ok-first.ensures.rows, c.in_ok-second.ensures.rows) at c.choose_shared.ensures.rows
+
+pub returns-clause-dtype : goal.returns-clause-dtype
+returns-clause-dtype g c = rw c.in_ok-first.ensures.dtype at c.choose_shared.ensures.dtype
