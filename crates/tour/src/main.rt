@@ -1,23 +1,14 @@
-//! Examples of the library: columns of each type, each kernel, and each error. `make tour` prints
-//! them.
+//! A short example for Rattle callers: a column of numbers, a filter, a take, an if-then-else,
+//! elements of lists, rows of several columns, and an error. `make tour` prints the results.
 #![tactic(auto)]
 
-mod choices;
-mod dictionaries;
-mod elements;
-mod errors;
-mod filters;
-mod joined;
-mod kinds;
-mod made;
-mod nested;
+mod examples;
 mod page;
-mod parts;
-mod stop;
-mod takes;
 mod together;
 
-use crate::stop::Stop;
+use crate::examples::{ages, broken_rule, chosen, kept, last_of_each, lists, taken};
+use crate::page::{Stop, show};
+use crate::together::together;
 use std::alloc::Global;
 use std::process::ExitCode;
 
@@ -34,31 +25,18 @@ fn main(rt: HostRuntime) -> ExitCode {
 /// Returns the output of all examples.
 fn tour(alloc: Global) -> Result<String, Stop> {
     let mut page = String::new(alloc);
-    columns(alloc, &mut page)?;
-    chosen(alloc, &mut page)?;
-    arranged(alloc, &mut page)?;
-    errors::errors(alloc, &mut page)?;
+    kernels(alloc, &mut page)?;
+    together(alloc, &mut page)?;
+    broken_rule(alloc, &mut page)?;
     Ok(page)
 }
 
-/// Prints columns and slices.
-fn columns(alloc: Global, page: &mut String) -> Result<(), Stop> {
-    kinds::kinds(alloc, page)?;
-    nested::nested(alloc, page)?;
-    parts::parts(alloc, page)
-}
-
-/// Prints the kernels that select rows.
-fn chosen(alloc: Global, page: &mut String) -> Result<(), Stop> {
-    filters::filters(alloc, page)?;
-    takes::takes(alloc, page)?;
-    choices::choices(alloc, page)
-}
-
-/// Prints the kernels that access elements or combine columns.
-fn arranged(alloc: Global, page: &mut String) -> Result<(), Stop> {
-    elements::elements(alloc, page)?;
-    joined::joined(alloc, page)?;
-    together::together(alloc, page)?;
-    dictionaries::dictionaries(alloc, page)
+/// Prints a column of ages, and what the kernels return for it.
+fn kernels(alloc: Global, page: &mut String) -> Result<(), Stop> {
+    show(alloc, page, "ages", ages(alloc))?;
+    show(alloc, page, "kept by [true,true,null,true]", kept(alloc))?;
+    show(alloc, page, "taken at [3,null,1]", taken(alloc))?;
+    show(alloc, page, "or 0 by [true,true,false,true]", chosen(alloc))?;
+    show(alloc, page, "lists of ages", lists(alloc, &[0, 2, 2, 4]))?;
+    show(alloc, page, "last of each list", last_of_each(alloc))
 }

@@ -9,16 +9,15 @@ ghost use Rattle.polars_compute.specs.Select.{is_true};
 ghost use Rattle.polars_compute.specs.SelectRows.{rows_of_arrays, selection_fits};
 ghost use Rattle.tour.specs.Together.{rows_at, source_picks};
 
-use crate::made::{numbers, texts, truths};
-use crate::page::{line, rows, title};
-use crate::stop::Stop;
+use crate::examples::ages;
+use crate::page::{Stop, line, rows};
 use polars_compute::filter::filter;
 use polars_compute::laws::law_select_rows;
 use polars_compute::select::{select_is_safe, select_rows};
 use sel_arrow::array::Array;
 use sel_arrow::array_ref::ArrayRef;
 use sel_arrow::boolean::BooleanArray;
-use sel_arrow::primitive::IdxArr;
+use sel_arrow::primitive::{IdxArr, PrimitiveArray};
 use sel_bits::faults::PolarsResult;
 use std::alloc::Global;
 
@@ -66,25 +65,32 @@ fn select_together(
 
 /// Prints how many rows a mask keeps, and rows of two columns at indices among them.
 pub fn together(alloc: Global, page: &mut String) -> Result<(), Stop> {
-    title(
-        page,
-        "select_rows: rows of several columns at indices among those that a mask keeps",
-    )?;
-    let mask = truths(alloc, &[Some(true), Some(true), None, Some(true)])?;
-    let indices = numbers(alloc, &[Some(2u32), None, Some(0)])?;
-    let columns = people_and_ages(alloc)?;
+    let rows = [Some(true), Some(true), None, Some(true)];
+    let mask = BooleanArray::from_options(alloc, &rows)?;
+    let indices = IdxArr::from_options(alloc, &[Some(2u32), None, Some(0)])?;
+    let count = counted(alloc, &mask)?;
+    line(page, "number of kept rows", &format!(in alloc; "{count}")?)?;
+    let columns = numbers_and_ages(alloc)?;
     let printed = print_selected(alloc, page, &columns, &mask, &indices);
     drop(columns);
     printed
 }
 
-fn people_and_ages(alloc: Global) -> Result<Vec<ArrayRef>, Stop> {
-    let ages = numbers(alloc, &[Some(31i64), None, Some(27), Some(45)])?;
-    let people = texts(
-        alloc,
-        &[Some("Ada"), Some("Grace"), Some("Emmy"), Some("Mary")],
-    )?;
-    Ok(vec![in alloc; people.into_ref(), ages.into_ref()]?)
+fn counted(alloc: Global, mask: &BooleanArray) -> Result<usize, Stop> {
+    let ages = ages(alloc)?;
+    if ages.len() != mask.len() {
+        drop(ages);
+        return Err(Stop::Unmet);
+    }
+    let count = count_kept(alloc, &ages, mask);
+    drop(ages);
+    Ok(count?)
+}
+
+fn numbers_and_ages(alloc: Global) -> Result<Vec<ArrayRef>, Stop> {
+    let numbers = PrimitiveArray::from_options(alloc, &[Some(1i64), Some(2), Some(3), Some(4)])?;
+    let ages = ages(alloc)?;
+    Ok(vec![in alloc; numbers.into_ref(), ages]?)
 }
 
 fn print_selected(
@@ -97,19 +103,15 @@ fn print_selected(
     if !select_is_safe(columns, mask, indices) {
         return Err(Stop::Unmet);
     }
-    let Some(first) = columns.first() else {
-        return Err(Stop::Unmet);
-    };
-    if first.len() != mask.len() {
-        return Err(Stop::Unmet);
-    }
-    let count = count_kept(alloc, first, mask)?;
-    let text = format!(in alloc; "{count}")?;
-    line(page, "rows kept by [true,true,null,true]", &text)?;
     let selected = select_together(alloc, columns, mask, indices)?;
-    for column in &selected {
-        rows(alloc, page, "at [2,null,0] among them", column)?;
-    }
+    let printed = print_all(alloc, page, &selected);
     drop(selected);
+    printed
+}
+
+fn print_all(alloc: Global, page: &mut String, columns: &[ArrayRef]) -> Result<(), Stop> {
+    for column in columns {
+        rows(alloc, page, "kept, then at [2,null,0]", column)?;
+    }
     Ok(())
 }
