@@ -20,17 +20,13 @@ pub fn are_bits(answer: PolarsResult<Bitmap>, bits: &[bool]) -> bool {
 }
 
 #[test]
-fn empty_bitmap(rt: HostRuntime) {
+fn bitmap_constructors(rt: HostRuntime) {
     let alloc = rt.alloc();
+    let bits = [true, false, false, true, true, false, false, true, true];
     begins(alloc);
     let answer = Bitmap::new(alloc);
     ends_by(alloc, &answer);
     assert!(rt; are_bits(answer, &[]));
-}
-
-#[test]
-fn bitmap_of_one_value(rt: HostRuntime) {
-    let alloc = rt.alloc();
     begins(alloc);
     let answer = Bitmap::new_with_value(alloc, true, 9);
     ends_by(alloc, &answer);
@@ -39,6 +35,10 @@ fn bitmap_of_one_value(rt: HostRuntime) {
     let answer = Bitmap::new_zeroed(alloc, 3);
     ends_by(alloc, &answer);
     assert!(rt; are_bits(answer, &[false; 3]));
+    begins(alloc);
+    let answer = Bitmap::from_bools(alloc, &bits);
+    ends_by(alloc, &answer);
+    assert!(rt; are_bits(answer, &bits));
 }
 
 fn takes_bytes(alloc: Global, bytes: Vec<u8>) -> bool {
@@ -55,16 +55,6 @@ fn takes_bytes(alloc: Global, bytes: Vec<u8>) -> bool {
 fn bitmap_from_bytes(rt: HostRuntime) -> Result<(), Fail> {
     assert!(rt; takes_bytes(rt.alloc(), vec![in rt.alloc(); 0b101u8]?));
     Ok(())
-}
-
-#[test]
-fn bitmap_from_booleans(rt: HostRuntime) {
-    let alloc = rt.alloc();
-    let bits = [true, false, false, true, true, false, false, true, true];
-    begins(alloc);
-    let answer = Bitmap::from_bools(alloc, &bits);
-    ends_by(alloc, &answer);
-    assert!(rt; are_bits(answer, &bits));
 }
 
 const FIRST: [bool; 4] = [true, true, false, false];
@@ -227,12 +217,12 @@ fn offsets_clone_does_not_allocate(rt: HostRuntime) -> Result<(), Fail> {
     Ok(())
 }
 
-/// Packs two words of 56 bits, of which only the first and the last bit are true.
+/// Packs words of 56 and 50 bits, of which only the bits 0, 103 and 105 are true.
 fn packs_words(alloc: Global) -> PolarsResult<Bitmap> {
     let mut packer = BitPacker::with_capacity(alloc, 0)?;
     packer.append(1, 56)?;
-    packer.append(1 << 55, 56)?;
-    packer.into_bitmap(112)
+    packer.append(0b101 << 47, 50)?;
+    packer.into_bitmap(106)
 }
 
 /// Packs three bits one by one.
@@ -261,22 +251,17 @@ fn packs_part(alloc: Global, source: &Bitmap) -> PolarsResult<Bitmap> {
     packer.into_bitmap(3)
 }
 
-/// Returns whether a call returned a bitmap of `len` bits with `set` true ones, or is out of
-/// memory.
-fn are_counted(answer: PolarsResult<Bitmap>, len: usize, set: usize) -> bool {
-    match answer {
-        Ok(bitmap) => bitmap.len() == len && bitmap.set_bits() == set,
-        Err(fault) => fault == PolarsError::OutOfMemory,
-    }
-}
-
 #[test]
 fn packer_appends_words_and_bits(rt: HostRuntime) {
     let alloc = rt.alloc();
     begins(alloc);
     let answer = packs_words(alloc);
     ends_by(alloc, &answer);
-    assert!(rt; are_counted(answer, 112, 2));
+    let mut bits = [false; 106];
+    bits[0] = true;
+    bits[103] = true;
+    bits[105] = true;
+    assert!(rt; are_bits(answer, &bits));
     begins(alloc);
     let answer = packs_bits(alloc);
     ends_by(alloc, &answer);
@@ -289,7 +274,7 @@ fn packer_appends_repeated_bit(rt: HostRuntime) {
     begins(alloc);
     let answer = packs_copies(alloc);
     ends_by(alloc, &answer);
-    assert!(rt; are_counted(answer, 70, 70));
+    assert!(rt; are_bits(answer, &[true; 70]));
 }
 
 #[test]

@@ -4,8 +4,7 @@ ghost use Rattle.sel_arrow.specs.Masked.{Covers};
 ghost use Rattle.sel_arrow.specs.Rows.{IsWellFormed};
 
 use crate::column_fixtures::{
-    copy_tells, has_bytes, has_bytes_at, has_numbers, has_own_dtype, has_text, has_truths, numbers,
-    one_buffer, part_tells, tells, truths, validity,
+    has_bytes, has_bytes_at, has_numbers, numbers, offsets, one_buffer, truths, validity,
 };
 use crate::fixtures::buffer;
 use sel_arrow::array::Array;
@@ -16,16 +15,15 @@ use sel_arrow::boolean::BooleanArray;
 use sel_arrow::column::Column;
 use sel_arrow::datatype::ArrowDataType;
 use sel_arrow::empty::new_empty_array;
+use sel_arrow::from_column::FromColumn;
 use sel_arrow::null::NullArray;
-use sel_arrow::primitive::{ArrowPrimitive, IdxArr, PrimitiveArray};
+use sel_arrow::primitive::{ArrowPrimitive, PrimitiveArray};
 use sel_arrow::utf8view::Utf8ViewArray;
 use sel_arrow::validity::{clone_validity, has_other_length, is_valid_at, sliced_validity};
 use sel_arrow::view::View;
 use sel_bits::bitmap::Bitmap;
 use sel_bits::buffer::Buffer;
-use sel_bits::faults::{MakeError, Malformed, PolarsResult};
-use sel_bits::native::Offset;
-use sel_bits::offsets::OffsetsBuffer;
+use sel_bits::faults::{MakeError, Malformed, PolarsError, PolarsResult};
 use std::alloc::Global;
 use std::fmt::Debug;
 use std::process::Abort;
@@ -45,21 +43,35 @@ const SHORT: View = View {
     offset: 7,
 };
 
-fn no_buffers(alloc: Global) -> PolarsResult<Buffer<Buffer<u8>>> {
-    Buffer::from_vec(Vec::new(alloc))
+// A byte that is not UTF-8.
+const BROKEN: View = View {
+    length: 1,
+    prefix: 0xFF,
+    ..SHORT
+};
+
+/// Returns a column of these views over a buffer of the first thirteen letters, or the rule that
+/// they break.
+fn views_of(
+    alloc: Global,
+    views: &[View],
+    valid: &[bool],
+) -> PolarsResult<Result<BinaryViewArray, MakeError>> {
+    let views = buffer(alloc, views)?;
+    let buffers = one_buffer(alloc, b"abcdefghijklm")?;
+    Ok(BinaryViewArray::try_new(views, buffers, validity(alloc, valid)?))
 }
 
-/// Returns the rule that one row of this view, over a buffer of the first thirteen letters, breaks.
+/// Returns the rule that one row of this view breaks.
 fn fault_of_view(alloc: Global, view: View, valid: bool) -> PolarsResult<Option<MakeError>> {
-    let views = buffer(alloc, &[view])?;
-    let buffers = one_buffer(alloc, b"abcdefghijklm")?;
-    Ok(BinaryViewArray::try_new(views, buffers, validity(alloc, &[valid])?).err())
+    Ok(views_of(alloc, &[view], &[valid])?.err())
 }
 
 /// Returns the rule that one row of this inline view breaks in a string column.
 fn fault_of_text(alloc: Global, view: View, valid: bool) -> PolarsResult<Option<MakeError>> {
     let views = buffer(alloc, &[view])?;
-    Ok(Utf8ViewArray::try_new(views, no_buffers(alloc)?, validity(alloc, &[valid])?).err())
+    let buffers = one_buffer(alloc, &[])?;
+    Ok(Utf8ViewArray::try_new(views, buffers, validity(alloc, &[valid])?).err())
 }
 
 fn malformed(rule: Malformed) -> Option<MakeError> {
@@ -95,21 +107,26 @@ fn validity_length_mismatch(rt: HostRuntime) {
     assert!(rt; fault_of_numbers(rt.alloc()) == fault);
 }
 
-/// Returns the rule that two bytes with offsets up to three break.
-fn fault_of_bytes(alloc: Global) -> Result<Option<MakeError>, Fail> {
-    let offsets = OffsetsBuffer::try_from(Vec::from_slice(alloc, &[0i32, 3])?)?;
-    let bytes = buffer(alloc, b"ab")?;
-    Ok(BinaryArray::try_new(offsets, bytes, validity(alloc, &[])?).err())
+/// Returns a column of rows of the bytes `_abcde`, or the rule that the offsets break.
+fn pieces_of(
+    alloc: Global,
+    bounds: &[i64],
+    valid: &[bool],
+) -> Result<Result<BinaryArray<i64>, MakeError>, Fail> {
+    let bounds = offsets(alloc, bounds)?;
+    let bytes = buffer(alloc, b"_abcde")?;
+    Ok(BinaryArray::try_new(bounds, bytes, validity(alloc, valid)?))
 }
 
 #[test]
 fn offsets_out_of_range(rt: HostRuntime) -> Result<(), Fail> {
-    assert!(rt; fault_of_bytes(rt.alloc())? == malformed(Malformed::OffsetRange));
+    let fault = pieces_of(rt.alloc(), &[0, 7], &[])?.err();
+    assert!(rt; fault == malformed(Malformed::OffsetRange));
     Ok(())
 }
 
 #[test]
-fn view_range_and_prefix(rt: HostRuntime) -> Result<(), Fail> {
+fn view_range_and_prefix(rt: HostRuntime) {
     let range = malformed(Malformed::ViewRange);
     let prefix = malformed(Malformed::ViewPrefix);
     let far = View {
@@ -131,87 +148,67 @@ fn view_range_and_prefix(rt: HostRuntime) -> Result<(), Fail> {
         (other, true, prefix),
         (other, false, prefix),
     ] {
-        assert!(rt;
-            fault_of_view(rt.alloc(), view, valid)? == wanted,
-            "at {view:?}"
-        );
+        let fault = fault_of_view(rt.alloc(), view, valid);
+        assert!(rt; fault == Ok(wanted), "at {view:?}");
     }
-    Ok(())
 }
 
 #[test]
-fn string_views_must_be_utf8(rt: HostRuntime) -> Result<(), Fail> {
-    let broken = View {
-        length: 1,
-        prefix: 0xFF,
-        ..SHORT
-    };
+fn string_views_must_be_utf8(rt: HostRuntime) {
     for (view, valid, wanted) in [
         (SHORT, true, None),
-        (broken, true, malformed(Malformed::Utf8)),
-        (broken, false, None),
+        (BROKEN, true, malformed(Malformed::Utf8)),
+        (BROKEN, false, None),
     ] {
-        assert!(rt;
-            fault_of_text(rt.alloc(), view, valid)? == wanted,
-            "at {view:?}"
-        );
+        let fault = fault_of_text(rt.alloc(), view, valid);
+        assert!(rt; fault == Ok(wanted), "at {view:?}");
     }
-    Ok(())
-}
-
-/// Returns whether the first row of a column of this view, over a buffer of the string, is the
-/// string.
-fn is_named(alloc: Global, view: View, text: &str) -> Result<bool, Fail> {
-    let buffers = one_buffer(alloc, text.as_bytes())?;
-    let column = Utf8ViewArray::try_new(buffer(alloc, &[view])?, buffers, None)?;
-    let is_single = column.len() == 1;
-    let is_text = has_text(alloc, &column, 0, Some(text));
-    drop(column);
-    Ok(is_single && is_text?)
 }
 
 #[test]
-fn view_from_bytes(rt: HostRuntime) -> Result<(), Fail> {
-    let table = [
-        ("abcdefgh", 8, 1684234849, 1751606885),
-        ("abcdefghijklm", 13, 1684234849, 0),
-        ("nopqrstuvwxyz", 13, 1903193966, 0),
+fn view_from_bytes(rt: HostRuntime) {
+    let table: [(&[u8], u32, u32, u32); 3] = [
+        (b"abcdefgh", 8, 1684234849, 1751606885),
+        (b"abcdefghijklm", 13, 1684234849, 0),
+        (b"nopqrstuvwxyz", 13, 1903193966, 0),
     ];
-    for (text, length, prefix, buffer_idx) in &table {
-        assert!(rt; text.len() < 100);
-        let view = View::new_from_bytes(text.as_bytes(), 0, 0);
+    for (bytes, length, prefix, buffer_idx) in table {
+        let offset = 0;
         let wanted = View {
-            length: *length,
-            prefix: *prefix,
-            buffer_idx: *buffer_idx,
-            offset: 0,
+            length,
+            prefix,
+            buffer_idx,
+            offset,
         };
-        assert!(rt; view == wanted);
-        assert!(rt; is_named(rt.alloc(), view, text)?);
+        assert!(rt; bytes.len() < 100 && View::new_from_bytes(bytes, 0, 0) == wanted);
     }
-    Ok(())
 }
 
-fn short_views(alloc: Global) -> Result<BinaryViewArray, Fail> {
-    let views = buffer(alloc, &[SHORT, SHORT])?;
-    let buffers = no_buffers(alloc)?;
-    Ok(BinaryViewArray::try_new(views, buffers, validity(alloc, &[true, false])?)?)
+/// Returns whether a column has three rows, `nulls` of them null, and this type.
+fn tells<A: Array>(column: &A, dtype: &ArrowDataType, nulls: usize) -> bool {
+    column.len() == 3
+        && !column.is_empty()
+        && column.null_count() == nulls
+        && column.has_nulls() == (nulls > 0)
+        && column.validity().is_some() == (nulls == 1)
+        && column.has_dtype(dtype)
 }
 
-/// Returns whether the rows are four letters and a null.
-fn are_letters(alloc: Global, column: &BinaryViewArray) -> PolarsResult<bool> {
-    Ok(
-        column.len() == 2
-            && has_bytes_at(alloc, column, 0, Some(b"abcd"))?
-            && has_bytes_at(alloc, column, 1, None)?,
-    )
+/// Returns whether the type that a column returns is its type.
+fn has_own_dtype<A: Array>(alloc: Global, column: &A) -> PolarsResult<bool> {
+    let dtype = column.dtype(alloc)?;
+    let is_own = column.has_dtype(&dtype);
+    drop(dtype);
+    Ok(is_own)
 }
 
-#[test]
-fn inline_views(rt: HostRuntime) -> Result<(), Fail> {
-    let column = short_views(rt.alloc())?;
-    assert!(rt; are_letters(rt.alloc(), &column) == Ok(true));
-    Ok(())
+/// Returns whether `nulls` of the two rows after the first are null.
+fn part_tells<A: Array + Drop>(alloc: Global, column: &A, nulls: usize) -> PolarsResult<bool> {
+    if column.len() != 3 {
+        return Ok(false);
+    }
+    let part = column.sliced(alloc, 1, 2)?;
+    Ok(part.len() == 2 && part.null_count() == nulls)
 }
 
 /// Checks the properties of the column, its slice and its clone, and returns the clone as a column
@@ -224,25 +221,12 @@ fn check_column<A: Array + Drop>(
     dtype: &ArrowDataType,
     nulls: (usize, usize),
 ) -> PolarsResult<ArrayRef> {
-    assert!(rt; has_properties(rt.alloc(), &column, dtype, nulls) == Ok(true));
-    let copy = column.try_clone(rt.alloc());
-    drop(column);
-    Ok(copy?.into_ref())
-}
-
-/// Returns whether the properties of the column, its slice and its clone are right.
-fn has_properties<A: Array + Drop>(
-    alloc: Global,
-    column: &A,
-    dtype: &ArrowDataType,
-    nulls: (usize, usize),
-) -> PolarsResult<bool> {
-    Ok(
-        tells(column, dtype, nulls.0)
-            && has_own_dtype(alloc, column)?
-            && part_tells(alloc, column, nulls.1)?
-            && copy_tells(alloc, column, dtype, nulls.0)?,
-    )
+    assert!(rt; tells(&column, dtype, nulls.0));
+    assert!(rt; has_own_dtype(rt.alloc(), &column) == Ok(true));
+    assert!(rt; part_tells(rt.alloc(), &column, nulls.1) == Ok(true));
+    let copy = column.try_clone(rt.alloc())?;
+    assert!(rt; tells(&copy, dtype, nulls.0) && copy.same_dtype(&column));
+    Ok(copy.into_ref())
 }
 
 /// Checks the same of the column, and of it as a column of any type.
@@ -253,25 +237,8 @@ fn check_erased<A: Array + Drop>(
     nulls: (usize, usize),
 ) -> PolarsResult<ArrayRef> {
     let erased = check_column(rt, column, dtype, nulls)?;
-    check_inside(rt, erased.as_column(), dtype, nulls.0);
+    assert!(rt; is_like_empty(rt.alloc(), erased.as_column(), dtype) == Ok(true));
     check_column(rt, erased, dtype, nulls)
-}
-
-/// Checks the same of the variant in a column of any type, and that the empty column of the type
-/// has the type.
-fn check_inside(
-    rt: &(impl Abort + Alloc<A = Global>),
-    column: &Column,
-    dtype: &ArrowDataType,
-    nulls: usize,
-)
-    requires { IsWellFormed column.now }
-{
-    let alloc = rt.alloc();
-    assert!(rt; is_like_empty(alloc, column, dtype) == Ok(true));
-    assert!(rt; has_part(alloc, column) == Ok(true));
-    assert!(rt; is_of_own_dtype(alloc, column) == Ok(true));
-    assert!(rt; copy_has_validity(alloc, column) == Ok(nulls == 1));
 }
 
 // Columns of every type are dropped by a call: an implicit drop is proved type by type.
@@ -289,59 +256,13 @@ fn is_like_empty(alloc: Global, column: &Column, dtype: &ArrowDataType) -> Polar
     Ok(is_like)
 }
 
-/// Returns whether the slice after two of three rows has one row.
-fn has_part(alloc: Global, column: &Column) -> PolarsResult<bool>
-    requires { IsWellFormed column.now }
-{
-    if column.len() != 3 {
-        return Ok(false);
+/// Returns the typed array in a column of any type, after a conversion to another type, which
+/// fails and returns the column.
+fn again<A: FromColumn, B: FromColumn>(erased: ArrayRef) -> Result<A, ArrayRef> {
+    match erased.into_array::<B>() {
+        Ok(other) => Err(other.into_ref()),
+        Err(back) => back.into_array::<A>(),
     }
-    let part = column.sliced(alloc, 2, 1)?;
-    let len = part.len();
-    drop(part);
-    Ok(len == 1)
-}
-
-/// Returns whether the type that the column returns is its type.
-fn is_of_own_dtype(alloc: Global, column: &Column) -> PolarsResult<bool>
-    requires { IsWellFormed column.now }
-{
-    let dtype = column.dtype(alloc)?;
-    let is_own = column.has_dtype(&dtype);
-    drop(dtype);
-    Ok(is_own)
-}
-
-/// Returns whether a clone of the column has a validity.
-fn copy_has_validity(alloc: Global, column: &Column) -> PolarsResult<bool>
-    requires { IsWellFormed column.now }
-{
-    let copy = column.try_clone(alloc)?;
-    let has_validity = copy.validity().is_some();
-    drop(copy);
-    Ok(has_validity)
-}
-
-/// Returns whether this type, and the type that `T` returns, are the type of such numbers.
-fn is_dtype_of<T: ArrowPrimitive>(dtype: &ArrowDataType) -> bool {
-    let made = T::column_dtype();
-    let is_dtype = T::is_column_dtype(dtype) && T::is_column_dtype(&made);
-    drop(made);
-    is_dtype
-}
-
-/// Checks a column of three numbers, its conversion to a column of any type, and the conversion
-/// back.
-fn check_numbers<T: ArrowPrimitive + Debug + PartialEq + Drop>(
-    rt: &(impl Abort + Alloc<A = Global>),
-    values: &[T; 3],
-    dtype: &ArrowDataType,
-) -> Result<(), Fail> {
-    assert!(rt; is_dtype_of::<T>(dtype));
-    let column = numbers(rt.alloc(), values.as_slice(), &[true, false, true])?;
-    let erased = check_erased(rt, column, dtype, (1, 1))?;
-    assert!(rt; are_numbers(rt.alloc(), erased, values)?);
-    Ok(())
 }
 
 /// Returns the typed array of a successful conversion.
@@ -355,26 +276,28 @@ fn taken<A>(found: Result<A, ArrayRef>) -> Result<A, Fail> {
     }
 }
 
-/// Returns the column that a failed conversion returns.
-fn kept<A: Drop>(found: Result<A, ArrayRef>) -> Result<ArrayRef, Fail> {
-    match found {
-        Ok(column) => {
-            drop(column);
-            Err(Fail::from("taken for another type"))
-        }
-        Err(back) => Ok(back),
-    }
+/// Checks a column of three numbers, its conversion to a column of any type, and the conversion
+/// back.
+fn check_numbers<T: ArrowPrimitive + Debug + PartialEq + Drop>(
+    rt: &(impl Abort + Alloc<A = Global>),
+    values: &[T; 3],
+    dtype: &ArrowDataType,
+) -> Result<(), Fail> {
+    let column = numbers(rt.alloc(), values.as_slice(), &[true, false, true])?;
+    let erased = check_erased(rt, column, dtype, (1, 1))?;
+    let column = taken(again::<PrimitiveArray<T>, NullArray>(erased))?;
+    let bits = validity(rt.alloc(), &[false, true, true])?;
+    assert!(rt; column.values().as_slice() == values.as_slice());
+    assert!(rt; keeps_numbers(column, bits, values));
+    Ok(())
 }
 
-/// Returns whether the column of any type has these numbers.
-fn are_numbers<T: ArrowPrimitive + PartialEq>(
-    alloc: Global,
-    erased: ArrayRef,
-    values: &[T; 3],
-) -> Result<bool, Fail> {
-    let column = taken(erased.into_array::<PrimitiveArray<T>>())?;
-    let bits = validity(alloc, &[false, true, true])?;
-    Ok(keeps_numbers(column, bits, values))
+/// Returns whether the column has these three rows.
+fn holds<T: ArrowPrimitive + PartialEq>(
+    column: &PrimitiveArray<T>,
+    rows: (Option<T>, Option<T>, Option<T>),
+) -> bool {
+    column.len() == 3 && (column.get(0), column.get(1), column.get(2)) == rows
 }
 
 /// Returns whether the column has these numbers, the second one null, and keeps them without a
@@ -386,39 +309,14 @@ fn keeps_numbers<T: ArrowPrimitive + PartialEq>(
 ) -> bool
     requires { Covers bits 3 }
 {
-    let is_masked = holds_masked(&column, values);
+    let is_masked = holds(&column, (Some(values[0]), None, Some(values[2])));
     let column = column.with_validity(None);
+    let is_whole = holds(&column, (Some(values[0]), Some(values[1]), Some(values[2])));
     if column.len() != 3 {
         return false;
     }
-    let is_whole = holds_all(&column, values);
     let column = column.with_validity(bits);
-    is_masked && is_whole && holds_behind(&column, values)
-}
-
-/// Returns whether the rows are these numbers, with the second one null.
-fn holds_masked<T: ArrowPrimitive + PartialEq>(
-    column: &PrimitiveArray<T>,
-    values: &[T; 3],
-) -> bool {
-    column.values().as_slice() == values.as_slice()
-        && column.len() == 3
-        && column.get(0) == Some(values[0])
-        && column.get(1).is_none()
-        && column.get(2) == Some(values[2])
-}
-
-/// Returns whether no row is null, and the second row is its number.
-fn holds_all<T: ArrowPrimitive + PartialEq>(column: &PrimitiveArray<T>, values: &[T; 3]) -> bool {
-    column.len() == 3 && column.null_count() == 0 && column.get(1) == Some(values[1])
-}
-
-/// Returns whether the first row is null and the second one is its number.
-fn holds_behind<T: ArrowPrimitive + PartialEq>(
-    column: &PrimitiveArray<T>,
-    values: &[T; 3],
-) -> bool {
-    column.len() == 3 && column.get(0).is_none() && column.get(1) == Some(values[1])
+    is_masked && is_whole && holds(&column, (None, Some(values[1]), Some(values[2])))
 }
 
 #[test]
@@ -444,78 +342,51 @@ fn is_error<T: Drop, E: Drop>(answer: Result<T, E>) -> bool {
     answer.is_err()
 }
 
-/// Returns the parts of a column of one index, after its conversion to a column of any type and
-/// back.
-fn one_index(alloc: Global) -> Result<(Buffer<u32>, Option<Bitmap>), Fail> {
-    let indices = IdxArr::try_new(buffer(alloc, &[5u32])?, None)?;
-    let ArrayRef { column } = indices.into_ref();
-    match u32::from_column(column) {
-        Ok(index) => Ok(index),
-        Err(column) => {
-            drop(column);
-            Err(Fail::from("another type"))
-        }
-    }
-}
-
 #[test]
 fn conversion_to_another_integer_type_fails(rt: HostRuntime) -> Result<(), Fail> {
-    let (values, bits) = one_index(rt.alloc())?;
-    assert!(rt; values.len() == 1 && bits.is_none());
+    let values = buffer(rt.alloc(), &[5u32])?;
+    assert!(rt; values.len() == 1);
     assert!(rt; is_error(i64::from_column(u32::into_column(values, None))));
     Ok(())
-}
-
-/// Returns the number of rows of the null column in a column of any type.
-fn nulls_again(erased: ArrayRef) -> Result<usize, Fail> {
-    let erased = kept(erased.into_array::<BooleanArray>())?;
-    Ok(taken(erased.into_array::<NullArray>())?.len())
 }
 
 #[test]
 fn null_columns(rt: HostRuntime) -> Result<(), Fail> {
     let erased = check_column(&rt, NullArray::try_new(3)?, &ArrowDataType::Null, (3, 2))?;
-    assert!(rt; nulls_again(erased)? == 3);
+    assert!(rt; taken(again::<NullArray, BooleanArray>(erased))?.len() == 3);
     Ok(())
 }
 
-/// Returns the boolean column in a column of any type.
-fn truths_again(erased: ArrayRef) -> Result<BooleanArray, Fail> {
-    let erased = kept(erased.into_array::<NullArray>())?;
-    taken(erased.into_array::<BooleanArray>())
+/// Returns whether the boolean column has these rows.
+fn has_truths(column: &BooleanArray, rows: &[Option<bool>]) -> bool {
+    if column.len() != rows.len() {
+        return false;
+    }
+    for (i, row) in rows.iter().enumerate() {
+        if column.get(i) != *row {
+            return false;
+        }
+    }
+    true
 }
 
 /// Returns whether the rows are these booleans, and the second one is true without the validity.
 fn are_truths(column: BooleanArray) -> bool {
-    if !has_truths(&column, &[Some(true), None, Some(false)]) || column.values().set_bits() != 2 {
-        return false;
-    }
+    let is_masked = has_truths(&column, &[Some(true), None, Some(false)]);
+    let is_counted = column.values().set_bits() == 2;
     let column = column.with_validity(None);
-    column.len() == 3 && column.get(1) == Some(true)
+    is_masked && is_counted && has_truths(&column, &[Some(true), Some(true), Some(false)])
 }
 
 #[test]
 fn boolean_columns(rt: HostRuntime) -> Result<(), Fail> {
     let column = truths(rt.alloc(), &[true, true, false], &[true, false, true])?;
     let erased = check_erased(&rt, column, &ArrowDataType::Boolean, (1, 1))?;
-    assert!(rt; are_truths(truths_again(erased)?));
+    assert!(rt; are_truths(taken(again::<BooleanArray, NullArray>(erased))?));
     Ok(())
 }
 
-/// Returns a column of the rows `ab`, empty and null.
-fn three_pieces<O: Offset>(alloc: Global, offsets: &[O]) -> Result<BinaryArray<O>, Fail> {
-    let offsets = OffsetsBuffer::try_from(Vec::from_slice(alloc, offsets)?)?;
-    let bytes = buffer(alloc, b"_abcde")?;
-    Ok(BinaryArray::try_new(offsets, bytes, validity(alloc, &[true, true, false])?)?)
-}
-
-/// Returns the binary column in a column of any type.
-fn bytes_again(erased: ArrayRef) -> Result<BinaryArray<i64>, Fail> {
-    let erased = kept(erased.into_array::<BinaryViewArray>())?;
-    taken(erased.into_array::<BinaryArray<i64>>())
-}
-
-/// Returns whether a slice of such a column shares its bytes.
+/// Returns whether a slice of three rows shares their bytes.
 fn shares_bytes(alloc: Global, column: &BinaryArray<i64>) -> PolarsResult<bool> {
     if column.len() != 3 {
         return Ok(false);
@@ -528,54 +399,21 @@ fn shares_bytes(alloc: Global, column: &BinaryArray<i64>) -> PolarsResult<bool> 
 }
 
 #[test]
-fn binary_columns_with_64_bit_offsets(rt: HostRuntime) -> Result<(), Fail> {
-    let column = three_pieces(rt.alloc(), &[1i64, 3, 3, 6])?;
+fn binary_columns(rt: HostRuntime) -> Result<(), Fail> {
+    let column = pieces_of(rt.alloc(), &[1, 3, 3, 6], &[true, true, false])??;
     let erased = check_erased(&rt, column, &ArrowDataType::LargeBinary, (1, 1))?;
-    assert!(rt; shares_bytes(rt.alloc(), &bytes_again(erased)?)?);
+    let column = taken(again::<BinaryArray<i64>, BinaryViewArray>(erased))?;
+    assert!(rt; shares_bytes(rt.alloc(), &column) == Ok(true));
+    assert!(rt; has_bytes(&column, &[Some(b"ab"), Some(b""), None]));
+    let column = column.with_validity(None);
+    assert!(rt; has_bytes(&column, &[Some(b"ab"), Some(b""), Some(b"cde")]));
     Ok(())
 }
 
-/// Returns whether the column has the rows `ab`, empty and null.
-fn are_pieces(column: &BinaryArray<i32>) -> bool {
-    column.len() == 3
-        && !column.is_empty()
-        && column.null_count() == 1
-        && column.has_nulls()
-        && column.validity().is_some()
-        && has_bytes(column, &[Some(b"ab"), Some(b""), None])
-}
+// A long string, a short one, and a null with a byte that is not UTF-8 in its slot.
+const VIEWS: [View; 3] = [WHOLE, SHORT, BROKEN];
 
-/// Returns whether no row is null, and the last one has the bytes of the null slot.
-fn are_all_pieces(column: &BinaryArray<i32>) -> bool {
-    column.len() == 3 && column.null_count() == 0 && column.get(2) == Some(b"cde".as_slice())
-}
-
-#[test]
-fn binary_columns_with_32_bit_offsets(rt: HostRuntime) -> Result<(), Fail> {
-    let column = three_pieces(rt.alloc(), &[1i32, 3, 3, 6])?;
-    assert!(rt; are_pieces(&column));
-    assert!(rt; are_all_pieces(&column.with_validity(None)));
-    Ok(())
-}
-
-/// Returns a column of views: a long string, a short one, and a null with a byte that is not UTF-8
-/// in its slot.
-fn three_views(alloc: Global) -> Result<BinaryViewArray, Fail> {
-    let broken = View {
-        length: 1,
-        prefix: 0xFF,
-        ..SHORT
-    };
-    let views = buffer(alloc, &[WHOLE, SHORT, broken])?;
-    let buffers = one_buffer(alloc, b"abcdefghijklm")?;
-    Ok(BinaryViewArray::try_new(views, buffers, validity(alloc, &[true, true, false])?)?)
-}
-
-/// Returns the view column in a column of any type.
-fn views_again(erased: ArrayRef) -> Result<BinaryViewArray, Fail> {
-    let erased = kept(erased.into_array::<Utf8ViewArray>())?;
-    taken(erased.into_array::<BinaryViewArray>())
-}
+const VALID: [bool; 3] = [true, true, false];
 
 /// Returns whether there are three views of strings over one data buffer.
 fn are_views(column: &BinaryViewArray) -> bool {
@@ -584,44 +422,25 @@ fn are_views(column: &BinaryViewArray) -> bool {
 
 /// Returns whether no row is null, and the last one is the byte that is not UTF-8.
 fn are_all_views(alloc: Global, column: &BinaryViewArray) -> PolarsResult<bool> {
-    Ok(
-        column.len() == 3
-            && column.null_count() == 0
-            && !column.is_utf8()
-            && has_bytes_at(alloc, column, 2, Some(&[0xFF]))?,
-    )
+    Ok(!column.has_nulls() && !column.is_utf8() && has_bytes_at(alloc, column, 2, Some(&[0xFF]))?)
 }
 
 #[test]
 fn binary_view_columns(rt: HostRuntime) -> Result<(), Fail> {
-    let views = three_views(rt.alloc())?;
+    let views = views_of(rt.alloc(), &VIEWS, &VALID)??;
     let erased = check_erased(&rt, views, &ArrowDataType::BinaryView, (1, 1))?;
-    let column = views_again(erased)?;
+    let column = taken(again::<BinaryViewArray, Utf8ViewArray>(erased))?;
     assert!(rt; are_views(&column));
     assert!(rt; are_all_views(rt.alloc(), &column.with_validity(None)) == Ok(true));
     Ok(())
 }
 
-/// Returns the string column in a column of any type.
-fn texts_again(erased: ArrayRef) -> Result<Utf8ViewArray, Fail> {
-    let erased = kept(erased.into_array::<BinaryArray<i64>>())?;
-    taken(erased.into_array::<Utf8ViewArray>())
-}
-
 /// Returns views of strings as a string column.
-fn texts_of(alloc: Global, views: &BinaryViewArray) -> Result<Utf8ViewArray, Fail> {
+fn texts_of(alloc: Global, views: &BinaryViewArray) -> PolarsResult<Utf8ViewArray> {
     if !views.is_utf8() {
-        return Err(Fail::from("not UTF-8"));
+        return Err(PolarsError::ComputeError);
     }
-    Ok(views.to_utf8view_unchecked(alloc)?)
-}
-
-/// Returns the three views as a string column.
-fn three_texts(alloc: Global) -> Result<Utf8ViewArray, Fail> {
-    let views = three_views(alloc)?;
-    let texts = texts_of(alloc, &views);
-    drop(views);
-    texts
+    views.to_utf8view_unchecked(alloc)
 }
 
 /// Returns whether the rows after the first are a short string and a null.
@@ -629,28 +448,10 @@ fn has_texts(alloc: Global, texts: &Utf8ViewArray) -> PolarsResult<bool> {
     if texts.len() != 3 {
         return Ok(false);
     }
-    let part = texts.sliced(alloc, 1, 2)?;
-    let are_so = are_a_text_and_a_null(alloc, &part);
-    drop(part);
-    are_so
-}
-
-/// Returns whether the rows are a short string and a null.
-fn are_a_text_and_a_null(alloc: Global, texts: &Utf8ViewArray) -> PolarsResult<bool> {
-    Ok(
-        texts.len() == 2
-            && has_text(alloc, texts, 0, Some("abcd"))?
-            && has_text(alloc, texts, 1, None)?,
-    )
-}
-
-/// Returns whether the binary view column of the strings has the same three rows, over the same
-/// data buffers.
-fn has_bytes_of_texts(alloc: Global, texts: &Utf8ViewArray) -> PolarsResult<bool> {
-    let bytes = texts.to_binview(alloc)?;
-    let are_so = are_bytes_of_texts(alloc, &bytes);
-    drop(bytes);
-    are_so
+    let is_short = texts
+        .get(alloc, 1)?
+        .is_some_and(|text| text.as_str() == "abcd");
+    Ok(is_short && texts.get(alloc, 2)?.is_none())
 }
 
 /// Returns whether the rows are the bytes of a long string, of a short one, and a null, over one
@@ -667,73 +468,49 @@ fn are_bytes_of_texts(alloc: Global, bytes: &BinaryViewArray) -> PolarsResult<bo
 
 #[test]
 fn string_columns(rt: HostRuntime) -> Result<(), Fail> {
-    let texts = three_texts(rt.alloc())?;
+    let alloc = rt.alloc();
+    let texts = texts_of(alloc, &views_of(alloc, &VIEWS, &VALID)??)?;
     assert!(rt; texts.views().len() == 3 && texts.data_buffers().len() == 1);
     let erased = check_erased(&rt, texts, &ArrowDataType::Utf8View, (1, 1))?;
-    let texts = texts_again(erased)?;
-    assert!(rt; has_texts(rt.alloc(), &texts) == Ok(true));
-    assert!(rt; has_bytes_of_texts(rt.alloc(), &texts) == Ok(true));
+    let texts = taken(again::<Utf8ViewArray, BinaryArray<i64>>(erased))?;
+    assert!(rt; has_texts(alloc, &texts) == Ok(true));
+    assert!(rt; are_bytes_of_texts(alloc, &texts.to_binview(alloc)?) == Ok(true));
     Ok(())
 }
 
 /// Returns whether each row is valid without a validity, in a slice and in a clone too.
-fn missing_is_valid() -> PolarsResult<bool> {
-    Ok(
-        !has_other_length(&None, 2)
-            && is_valid_at(&None, 1)
-            && sliced_validity(&None, 1, 2)?.is_none()
-            && clone_validity(&None)?.is_none(),
-    )
-}
-
-/// Returns whether the second of three rows is null in the validity, and in a slice of it.
-fn has_second_null(bits: &Option<Bitmap>) -> PolarsResult<bool>
-    requires { Covers bits.now 3 }
-{
-    let part = sliced_validity(bits, 1, 2)?;
-    Ok(
-        is_valid_at(bits, 0)
-            && !is_valid_at(bits, 1)
-            && !is_valid_at(&part, 0)
-            && is_valid_at(&part, 1),
-    )
+fn missing_is_valid() -> bool {
+    !has_other_length(&None, 2)
+        && is_valid_at(&None, 1)
+        && sliced_validity(&None, 1, 2).is_ok_and(|part| part.is_none())
+        && clone_validity(&None).is_ok_and(|copy| copy.is_none())
 }
 
 #[test]
 fn missing_validity(rt: HostRuntime) -> Result<(), Fail> {
     let bits = validity(rt.alloc(), &[true, false, true])?;
     assert!(rt; has_other_length(&bits, 2) && !has_other_length(&bits, 3));
-    assert!(rt; has_second_null(&bits) == Ok(true));
-    assert!(rt; clone_validity(&bits)?.is_some());
-    assert!(rt; missing_is_valid() == Ok(true));
+    assert!(rt; missing_is_valid());
     Ok(())
 }
 
-/// Returns whether numbers and a null become a column of them.
-fn are_number_options(alloc: Global) -> Result<bool, Fail> {
+/// Returns whether numbers and a null, and no numbers, become columns of them.
+fn are_number_options(alloc: Global) -> Result<bool, MakeError> {
     let rows = [Some(5i16), None, Some(-3)];
+    let none: [Option<u128>; 0] = [];
     let numbers = PrimitiveArray::from_options(alloc, &rows)?;
-    Ok(has_numbers(&numbers, &rows) && numbers.null_count() == 1)
+    let is_empty = PrimitiveArray::from_options(alloc, &none)?.is_empty();
+    Ok(is_empty && has_numbers(&numbers, &rows))
 }
 
 /// Returns whether booleans and a null become a column of them.
-fn are_truth_options(alloc: Global) -> Result<bool, Fail> {
+fn are_truth_options(alloc: Global) -> Result<bool, MakeError> {
     let rows = [None, Some(true), Some(false), Some(true)];
-    let truths = BooleanArray::from_options(alloc, &rows)?;
-    Ok(has_truths(&truths, &rows) && truths.null_count() == 1)
-}
-
-/// Returns whether no numbers become a column without rows.
-fn are_no_options(alloc: Global) -> Result<bool, Fail> {
-    let none: [Option<u128>; 0] = [];
-    let numbers = PrimitiveArray::from_options(alloc, &none)?;
-    Ok(numbers.is_empty())
+    Ok(has_truths(&BooleanArray::from_options(alloc, &rows)?, &rows))
 }
 
 #[test]
-fn columns_from_options(rt: HostRuntime) -> Result<(), Fail> {
-    assert!(rt; are_number_options(rt.alloc())?);
-    assert!(rt; are_truth_options(rt.alloc())?);
-    assert!(rt; are_no_options(rt.alloc())?);
-    Ok(())
+fn columns_from_options(rt: HostRuntime) {
+    assert!(rt; are_number_options(rt.alloc()) == Ok(true));
+    assert!(rt; are_truth_options(rt.alloc()) == Ok(true));
 }

@@ -18,8 +18,6 @@ mod columns;
 #[cfg(test)]
 mod filters;
 pub mod fixtures;
-#[cfg(test)]
-mod kernels;
 pub mod marks;
 #[cfg(test)]
 mod odd;
@@ -28,7 +26,5 @@ mod readers;
 #[cfg(test)]
 mod shared;
 pub mod threads;
-#[cfg(test)]
-mod values;
 #[cfg(test)]
 mod words;

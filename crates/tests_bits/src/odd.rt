@@ -10,6 +10,7 @@ use sel_bits::counted_bits::CountedBits;
 use sel_bits::faults::PolarsResult;
 use sel_filter::boolean::{
     filter_boolean_kernel, filter_boolean_kernel_pext, filter_boolean_kernel_sparse,
+    filter_counted_bits,
 };
 use sel_filter::primitive::{filter_runs, filter_values};
 use std::alloc::Global;
@@ -19,22 +20,23 @@ const OFFSETS: [usize; 13] = [0, 1, 2, 3, 4, 5, 6, 7, 8, 9, 63, 64, 65];
 
 const LENGTHS: [usize; 14] = [0, 1, 7, 8, 55, 56, 57, 63, 64, 65, 111, 112, 113, 130];
 
-// Returns the bit at a position of one of several patterns: mixed, seldom true, seldom false, and
-// in long runs.
+// Returns the bit at a position of one of several patterns: mixed, seldom true, seldom false, in
+// long runs, and true at the beginning.
 fn bit(kind: u8, i: usize) -> bool {
     match kind {
         0 => i % 3 == 0 || i % 7 == 1,
         1 => i % 64 == 62,
         2 => i % 64 != 5,
-        _ => i / 40 % 2 == 1,
+        3 => i / 40 % 2 == 1,
+        _ => i < 112,
     }
 }
 
 // Returns `len` bits of a pattern.
-fn bits(alloc: Global, kind: u8, len: usize) -> Result<Vec<bool>, Fail> {
-    let mut bits = Vec::new(alloc);
-    for i in 0..len {
-        bits.push(bit(kind, i))?;
+fn bits(alloc: Global, kind: u8, len: usize) -> PolarsResult<Vec<bool>> {
+    let mut bits = vec![in alloc; false; len]?;
+    for (i, place) in bits.iter_mut().enumerate() {
+        *place = bit(kind, i);
     }
     Ok(bits)
 }
@@ -48,15 +50,11 @@ fn bitmap(
     len: usize,
     outside: bool,
 ) -> Result<Bitmap, Fail> {
-    let mut all = Vec::new(alloc);
-    for _ in 0..offset {
-        all.push(outside)?;
-    }
-    for i in 0..len {
-        all.push(bit(kind, i))?;
-    }
-    for _ in 0..9 {
-        all.push(outside)?;
+    let mut all = vec![in alloc; outside; offset.saturating_add(len).saturating_add(9)]?;
+    for (i, place) in all.iter_mut().enumerate() {
+        if i >= offset && i - offset < len {
+            *place = bit(kind, i - offset);
+        }
     }
     let all = Bitmap::from_bools(alloc, &all)?;
     if offset > all.len() || len > all.len() - offset {
@@ -111,16 +109,17 @@ fn tells(bitmap: &Bitmap, bits: &[bool]) -> Result<bool, Fail> {
     )
 }
 
-// Returns whether the words of a bitmap have its bits.
+// Returns whether the words of a bitmap have its bits, and no others, and are counted.
 fn has_words(bitmap: &Bitmap, bits: &[bool]) -> bool {
     let mut words = AlignedWords::new(bitmap);
     let mut at = 0usize;
-    for _ in 0..=bits.len() {
+    for count in 0..=bits.len() as u64 {
         let Some((word, len)) = words.next() else {
-            return at == bits.len();
+            return at == bits.len() && words.words_read() == count;
         };
-        for k in 0..len.min(64) {
-            if bits.get(at.saturating_add(k)) != Some(&(word >> k & 1 == 1)) {
+        for k in 0..64usize {
+            let bit = bits.get(at.saturating_add(k)).copied().unwrap_or(false);
+            if (word >> k & 1 == 1) != (bit && k < len) {
                 return false;
             }
         }
@@ -129,13 +128,13 @@ fn has_words(bitmap: &Bitmap, bits: &[bool]) -> bool {
     false
 }
 
-// Returns whether the blocks of a bitmap have its bits.
+// Returns whether the blocks of a bitmap have its bits, and are counted.
 fn has_blocks(bitmap: &Bitmap, bits: &[bool]) -> bool {
     let mut blocks = U56Blocks::new(bitmap);
     let mut at = 0usize;
-    for _ in 0..=bits.len() {
+    for count in 0..=bits.len() as u64 {
         let Some(block) = blocks.next() else {
-            return at >= bits.len();
+            return at >= bits.len() && blocks.blocks_read() == count;
         };
         for k in 0..64usize {
             let bit = bits.get(at.saturating_add(k)).copied().unwrap_or(false);
@@ -151,7 +150,7 @@ fn has_blocks(bitmap: &Bitmap, bits: &[bool]) -> bool {
 #[test]
 fn bitmap_counts_and_readers_at_odd_offsets(rt: HostRuntime) -> Result<(), Fail> {
     let alloc = rt.alloc();
-    for kind in 0..4u8 {
+    for kind in 0..5u8 {
         for offset in OFFSETS {
             for len in LENGTHS {
                 let wanted = bits(alloc, kind, len)?;
@@ -185,40 +184,70 @@ fn made(rule: Rule, a: bool, b: bool) -> bool {
     }
 }
 
+// Returns whether each bit is the result of an operation on those of two bitmaps.
+fn is_joined(answer: &Bitmap, rule: Rule, first: &Bitmap, second: &Bitmap) -> bool {
+    if answer.len() != first.len() || answer.len() != second.len() {
+        return false;
+    }
+    for i in 0..answer.len() {
+        if answer.get_bit(i) != made(rule, first.get_bit(i), second.get_bit(i)) {
+            return false;
+        }
+    }
+    true
+}
+
 // Returns whether an operation on two bitmaps of the same length returns its result for each pair
 // of bits.
-fn joins(alloc: Global, rule: Rule, first: &Bitmap, second: &Bitmap) -> Result<bool, Fail> {
+fn joins(alloc: Global, rule: Rule, first: &Bitmap, second: &Bitmap) -> PolarsResult<bool> {
     if first.len() != second.len() {
         return Ok(false);
     }
     let answer = match rule {
-        Rule::And => first.and(alloc, second)?,
-        Rule::Or => first.or(alloc, second)?,
-        Rule::AndNot => first.and_not(alloc, second)?,
-        Rule::OrNot => first.or_not(alloc, second)?,
+        Rule::And => first.and(alloc, second),
+        Rule::Or => first.or(alloc, second),
+        Rule::AndNot => first.and_not(alloc, second),
+        Rule::OrNot => first.or_not(alloc, second),
     };
-    let mut wanted = Vec::new(alloc);
-    for i in 0..first.len() {
-        wanted.push(made(rule, first.get_bit(i), second.get_bit(i)))?;
+    Ok(is_joined(&answer?, rule, first, second))
+}
+
+// Returns whether each bit is that of the complement of a bitmap.
+fn is_opposite(opposite: &Bitmap, bits: &Bitmap) -> bool {
+    if opposite.len() != bits.len() {
+        return false;
     }
-    Ok(has_bits(&answer, &wanted))
+    for i in 0..bits.len() {
+        if opposite.get_bit(i) == bits.get_bit(i) {
+            return false;
+        }
+    }
+    true
+}
+
+// Returns whether each bit is that of the second bitmap where the first is true, else of the third.
+fn is_chosen(chosen: &Bitmap, first: &Bitmap, second: &Bitmap, third: &Bitmap) -> bool {
+    if (chosen.len(), second.len(), third.len()) != (first.len(), first.len(), first.len()) {
+        return false;
+    }
+    for i in 0..first.len() {
+        let (x, y, z) = (first.get_bit(i), second.get_bit(i), third.get_bit(i));
+        if chosen.get_bit(i) != ((x && y) || (!x && z)) {
+            return false;
+        }
+    }
+    true
 }
 
 // Returns whether the complement of a bitmap, and if-then-else with it as the mask, equal those of
 // single bits.
-fn turns(alloc: Global, first: &Bitmap, second: &Bitmap) -> Result<bool, Fail> {
-    if first.len() != second.len() {
+fn turns(alloc: Global, first: &Bitmap, second: &Bitmap, third: &Bitmap) -> PolarsResult<bool> {
+    if first.len() != second.len() || first.len() != third.len() {
         return Ok(false);
     }
     let opposite = first.not(alloc)?;
-    let chosen = Bitmap::choose(alloc, first, second, first)?;
-    let mut unlike = Vec::new(alloc);
-    let mut picked = Vec::new(alloc);
-    for i in 0..first.len() {
-        unlike.push(!first.get_bit(i))?;
-        picked.push(first.get_bit(i) && second.get_bit(i))?;
-    }
-    Ok(has_bits(&opposite, &unlike) && has_bits(&chosen, &picked))
+    let chosen = Bitmap::choose(alloc, first, second, third)?;
+    Ok(is_opposite(&opposite, first) && is_chosen(&chosen, first, second, third))
 }
 
 #[test]
@@ -230,9 +259,10 @@ fn operations_at_odd_offsets(rt: HostRuntime) -> Result<(), Fail> {
                 for outside in [true, false] {
                     let first = bitmap(alloc, 0, offset, len, outside)?;
                     let second = bitmap(alloc, 3, other, len, !outside)?;
-                    assert!(rt; turns(alloc, &first, &second)?);
+                    let third = bitmap(alloc, 1, offset, len, !outside)?;
+                    assert!(rt; turns(alloc, &first, &second, &third) == Ok(true));
                     for rule in [Rule::And, Rule::Or, Rule::AndNot, Rule::OrNot] {
-                        assert!(rt; joins(alloc, rule, &first, &second)?);
+                        assert!(rt; joins(alloc, rule, &first, &second) == Ok(true));
                     }
                 }
             }
@@ -241,38 +271,42 @@ fn operations_at_odd_offsets(rt: HostRuntime) -> Result<(), Fail> {
     Ok(())
 }
 
-// Returns the bits of the values where the mask is true.
-fn kept(alloc: Global, values: &Bitmap, mask: &Bitmap) -> Result<Vec<bool>, Fail> {
-    let mut kept = Vec::new(alloc);
-    for i in 0..values.len().min(mask.len()) {
-        if mask.get_bit(i) {
-            kept.push(values.get_bit(i))?;
+// Returns whether the bits are those of the values at these positions.
+fn has_bits_at(kept: &Bitmap, values: &Bitmap, places: &[usize]) -> bool {
+    if kept.len() != places.len() {
+        return false;
+    }
+    for (k, place) in places.iter().enumerate() {
+        if *place >= values.len() || kept.get_bit(k) != values.get_bit(*place) {
+            return false;
         }
     }
-    Ok(kept)
+    true
 }
 
-// Returns whether a filter of bits, and both kernels over readers, select these bits.
-fn filters(alloc: Global, values: &Bitmap, mask: &Bitmap) -> Result<bool, Fail> {
+// Returns whether the kernels that dispatch on the mask select the bits at these positions.
+fn filters(alloc: Global, values: &Bitmap, mask: &Bitmap, places: &[usize]) -> PolarsResult<bool> {
     if values.len() != mask.len() {
         return Ok(false);
     }
-    let wanted = kept(alloc, values, mask)?;
     let by_size = filter_boolean_kernel(alloc, values, mask)?;
+    let by_count = filter_counted_bits(alloc, values, mask, mask.set_bits())?;
+    Ok(has_bits_at(&by_size, values, places) && has_bits_at(&by_count, values, places))
+}
+
+// Returns whether the kernels over readers select the bits at these positions: the one reads each
+// block once, the other only these bits.
+fn reads(alloc: Global, values: &Bitmap, mask: &Bitmap, places: &[usize]) -> PolarsResult<bool> {
+    if values.len() != mask.len() {
+        return Ok(false);
+    }
     let mut blocks = U56Blocks::new(values);
     let by_blocks = filter_boolean_kernel_pext(alloc, &mut blocks, &mut U56Blocks::new(mask))?;
     let mut single = CountedBits::new(values);
     let by_bits = filter_boolean_kernel_sparse(alloc, &mut single, &mut AlignedWords::new(mask))?;
-    Ok(has_bits(&by_size, &wanted) && has_bits(&by_blocks, &wanted) && has_bits(&by_bits, &wanted))
-}
-
-// Returns the positions less than `len`.
-fn places(alloc: Global, len: usize) -> PolarsResult<Vec<usize>> {
-    let mut places = Vec::new(alloc);
-    for i in 0..len {
-        places.push(i)?;
-    }
-    Ok(places)
+    let counts = (blocks.blocks_read(), single.bits_read());
+    let are_kept = has_bits_at(&by_blocks, values, places) && has_bits_at(&by_bits, values, places);
+    Ok(are_kept && counts == (values.len().div_ceil(56) as u64, places.len() as u64))
 }
 
 // Returns the positions where the mask is true.
@@ -286,7 +320,20 @@ fn true_places(alloc: Global, mask: &Bitmap) -> PolarsResult<Vec<usize>> {
     Ok(places)
 }
 
-// Returns whether a filter of numbers, and one by runs, select these numbers.
+// Returns the greatest number of copies for these positions: one for each run of consecutive ones,
+// and one for each further word.
+fn most_copies(places: &[usize]) -> u64 {
+    let mut copies = 2u64;
+    for pair in places.windows(2) {
+        if pair[1] != pair[0].saturating_add(1) || pair[1] % 64 == 0 {
+            copies = copies.saturating_add(1);
+        }
+    }
+    copies
+}
+
+// Returns whether a filter of numbers, and one by runs, select these numbers, and the latter copies
+// each run at once.
 fn keeps(alloc: Global, numbers: &[usize], mask: &Bitmap, wanted: &[usize]) -> PolarsResult<bool> {
     if numbers.len() != mask.len() {
         return Ok(false);
@@ -294,27 +341,32 @@ fn keeps(alloc: Global, numbers: &[usize], mask: &Bitmap, wanted: &[usize]) -> P
     let kept = filter_values(alloc, numbers, mask)?;
     let mut out = BlockCopy::new(alloc, numbers);
     filter_runs(&mut out, &mut AlignedWords::new(mask))?;
-    Ok(kept.as_slice() == wanted && out.into_vec().as_slice() == wanted)
+    let is_by_runs = out.copies() <= most_copies(wanted);
+    Ok(is_by_runs && kept.as_slice() == wanted && out.into_vec().as_slice() == wanted)
 }
 
-// Returns whether both filters of the positions select those where the mask is true.
-fn keeps_places(alloc: Global, mask: &Bitmap) -> PolarsResult<bool> {
-    let places = places(alloc, mask.len())?;
-    let wanted = true_places(alloc, mask)?;
-    keeps(alloc, &places, mask, &wanted)
+// Returns whether both filters of the positions select these.
+fn keeps_places(alloc: Global, mask: &Bitmap, wanted: &[usize]) -> PolarsResult<bool> {
+    let mut places = vec![in alloc; 0usize; mask.len()]?;
+    for (i, place) in places.iter_mut().enumerate() {
+        *place = i;
+    }
+    keeps(alloc, &places, mask, wanted)
 }
 
 #[test]
 fn filters_at_odd_offsets(rt: HostRuntime) -> Result<(), Fail> {
     let alloc = rt.alloc();
-    for kind in 0..4u8 {
+    for kind in 0..5u8 {
         for offset in OFFSETS {
             for len in LENGTHS {
                 for outside in [true, false] {
                     let mask = bitmap(alloc, kind, offset, len, outside)?;
                     let values = bitmap(alloc, 0, 5, len, !outside)?;
-                    assert!(rt; filters(alloc, &values, &mask)?);
-                    assert!(rt; keeps_places(alloc, &mask)?);
+                    let places = true_places(alloc, &mask)?;
+                    assert!(rt; filters(alloc, &values, &mask, &places) == Ok(true));
+                    assert!(rt; reads(alloc, &values, &mask, &places) == Ok(true));
+                    assert!(rt; keeps_places(alloc, &mask, &places) == Ok(true));
                 }
             }
         }
