@@ -1,6 +1,7 @@
 //! The parts of the kernels with failing allocations: copies of items, runs, validities, data
 //! buffers, the rows of views, and if-then-else by words.
 
+use crate::masks::has_validity;
 use polars_compute::if_then_else::if_then_else_validity;
 use polars_compute::if_then_else::scalar::if_then_else_words;
 use sel_arrow::array::Array;
@@ -121,8 +122,7 @@ fn joins_validities(alloc: Global, bits: &Bitmap) -> PolarsResult<Option<Bitmap>
 /// Returns whether a call returned these bits as a validity, or is out of memory.
 fn is_validity(answer: PolarsResult<Option<Bitmap>>, bits: &[bool]) -> bool {
     match answer {
-        Ok(Some(validity)) => has_bits(&validity, bits),
-        Ok(None) => false,
+        Ok(validity) => has_validity(&validity, bits),
         Err(fault) => fault == PolarsError::OutOfMemory,
     }
 }

@@ -152,9 +152,10 @@ fn takes_blocks(alloc: Global) -> Result<bool, Fail> {
     let answer = take_blocks(&mut out, 3, &places, 0);
     ends_by(alloc, &answer);
     drop(places);
+    let copies = out.copies();
     let items = out.into_vec();
     Ok(match answer {
-        Ok(()) => items.as_slice() == ITEMS.as_slice(),
+        Ok(()) => copies == 2 && items.as_slice() == ITEMS.as_slice(),
         Err(fault) => fault == PolarsError::OutOfMemory && begins_items(&items),
     })
 }

@@ -14,7 +14,6 @@ use sel_arrow::utf8view::Utf8ViewArray;
 use sel_bits::bitmap::Bitmap;
 use sel_bits::faults::PolarsResult;
 use sel_ternary::if_then_else::IfThenElseKernel;
-use sel_text::read_type::parse_dtype;
 use std::alloc::Global;
 use std::test::Fail;
 
@@ -139,11 +138,21 @@ fn broadcasts_lists(
     scalar: &ArrayRef,
     as_true: &str,
     as_false: &str,
+    both: &str,
 ) -> Result<bool, Fail> {
     if !values.scalar_fits(scalar) {
         return Err(Fail::from("the list does not fit"));
     }
-    broadcasts(alloc, values, scalar, as_true, as_false)
+    Ok(
+        broadcasts(alloc, values, scalar, as_true, as_false)?
+            && broadcasts_both::<ListArray<i64>>(
+                alloc,
+                values.dtype(alloc)?,
+                scalar,
+                scalar,
+                both,
+            )?,
+    )
 }
 
 fn broadcasts_fixed_lists(
@@ -152,11 +161,21 @@ fn broadcasts_fixed_lists(
     scalar: &ArrayRef,
     as_true: &str,
     as_false: &str,
+    both: &str,
 ) -> Result<bool, Fail> {
     if !values.scalar_fits(scalar) {
         return Err(Fail::from("the list does not fit"));
     }
-    broadcasts(alloc, values, scalar, as_true, as_false)
+    Ok(
+        broadcasts(alloc, values, scalar, as_true, as_false)?
+            && broadcasts_both::<FixedSizeListArray>(
+                alloc,
+                values.dtype(alloc)?,
+                scalar,
+                scalar,
+                both,
+            )?,
+    )
 }
 
 #[test]
@@ -166,7 +185,8 @@ fn broadcast_lists(rt: HostRuntime) -> Result<(), Fail> {
     let scalar = parsed(alloc, "i64", "[3,null,3]")?;
     let as_true = "[[3,null,3],[3,null,3],[2,null],[3,null,3],[]]";
     let as_false = "[[1],null,[3,null,3],[7],[3,null,3]]";
-    let is_so = broadcasts_lists(alloc, &values, &scalar, as_true, as_false);
+    let both = "[[3,null,3],[3,null,3],[3,null,3],[3,null,3],[3,null,3]]";
+    let is_so = broadcasts_lists(alloc, &values, &scalar, as_true, as_false, both);
     drop(values);
     drop(scalar);
     assert!(rt; is_so?);
@@ -180,77 +200,10 @@ fn broadcast_fixed_size_lists(rt: HostRuntime) -> Result<(), Fail> {
     let scalar = parsed(alloc, "i64", "[3,9]")?;
     let as_true = "[[3,9],[3,9],[2,5],[3,9],[4,5]]";
     let as_false = "[[1,5],null,[3,9],[7,null],[3,9]]";
-    let is_so = broadcasts_fixed_lists(alloc, &values, &scalar, as_true, as_false);
+    let both = "[[3,9],[3,9],[3,9],[3,9],[3,9]]";
+    let is_so = broadcasts_fixed_lists(alloc, &values, &scalar, as_true, as_false, both);
     drop(values);
     drop(scalar);
     assert!(rt; is_so?);
-    Ok(())
-}
-
-// Returns the rows between two lists of a type.
-fn between_lists(
-    alloc: Global,
-    dtype: ArrowDataType,
-    if_true: &ArrayRef,
-    if_false: &ArrayRef,
-    rows: &str,
-) -> Result<bool, Fail> {
-    if !dtype.scalar_fits(if_true) || !dtype.scalar_fits(if_false) {
-        drop(dtype);
-        return Err(Fail::from("the lists do not fit"));
-    }
-    match dtype {
-        ArrowDataType::LargeList(_) => {
-            broadcasts_both::<ListArray<i64>>(alloc, dtype, if_true, if_false, rows)
-        }
-        ArrowDataType::FixedSizeList(..) => {
-            broadcasts_both::<FixedSizeListArray>(alloc, dtype, if_true, if_false, rows)
-        }
-        dtype => {
-            drop(dtype);
-            Err(Fail::from("not a type of lists"))
-        }
-    }
-}
-
-fn between(
-    alloc: Global,
-    dtype: &str,
-    first: &str,
-    second: &str,
-    rows: &str,
-) -> Result<bool, Fail> {
-    let Ok(dtype) = parse_dtype(alloc, dtype) else {
-        return Err(Fail::from("not a type"));
-    };
-    let if_true = match parsed(alloc, "i64", first) {
-        Ok(if_true) => if_true,
-        Err(fail) => {
-            drop(dtype);
-            return Err(fail);
-        }
-    };
-    match parsed(alloc, "i64", second) {
-        Ok(if_false) => {
-            let is_so = between_lists(alloc, dtype, &if_true, &if_false, rows);
-            drop(if_true);
-            drop(if_false);
-            is_so
-        }
-        Err(fail) => {
-            drop(if_true);
-            drop(dtype);
-            Err(fail)
-        }
-    }
-}
-
-#[test]
-fn broadcast_two_lists(rt: HostRuntime) -> Result<(), Fail> {
-    let alloc = rt.alloc();
-    let rows = "[[3,null],[3,null],[],[3,null],[]]";
-    assert!(rt; between(alloc, "list<i64>", "[3,null]", "[]", rows)?);
-    let rows = "[[3,5],[3,5],[1,null],[3,5],[1,null]]";
-    assert!(rt; between(alloc, "fixed<2,i64>", "[3,5]", "[1,null]", rows)?);
     Ok(())
 }

@@ -5,6 +5,7 @@ use crate::parsed::{fixed_lists, lists, parsed, prints, structs};
 use sel_arrow::array::Array;
 use sel_arrow::array_ref::ArrayRef;
 use sel_arrow::fixed_size_list::FixedSizeListArray;
+use sel_arrow::from_column::FromColumn;
 use sel_arrow::list::ListArray;
 use sel_arrow::structure::StructArray;
 use sel_bits::bitmap::Bitmap;
@@ -54,15 +55,11 @@ fn with_validity_replaces_the_nulls(rt: HostRuntime) -> Result<(), Fail> {
     Ok(())
 }
 
-// Returns whether a conversion to another type failed and returned the column, with these rows.
-fn gives_back<A: Drop>(
-    alloc: Global,
-    converted: Result<A, ArrayRef>,
-    rows: &str,
-) -> Result<bool, Fail> {
-    match converted {
+// Returns whether the conversion of a column to another type fails and returns the column.
+fn gives_back<A: FromColumn>(alloc: Global, dtype: &str, rows: &str) -> Result<bool, Fail> {
+    match parsed(alloc, dtype, rows)?.into_array::<A>() {
         Ok(other) => {
-            drop(other);
+            drop(other.into_ref());
             Ok(false)
         }
         Err(back) => prints(alloc, back, rows),
@@ -72,63 +69,65 @@ fn gives_back<A: Drop>(
 #[test]
 fn failed_conversion_returns_the_column(rt: HostRuntime) -> Result<(), Fail> {
     let alloc = rt.alloc();
-    let rows = "[[1,2],null,[3]]";
-    let column = parsed(alloc, "list<i64>", rows)?;
-    assert!(rt; gives_back(alloc, column.into_array::<StructArray>(), rows)?);
-    let rows = "[[1,2],null]";
-    let column = parsed(alloc, "fixed<2,i64>", rows)?;
-    assert!(rt; gives_back(alloc, column.into_array::<ListArray<i64>>(), rows)?);
+    assert!(rt; gives_back::<StructArray>(alloc, "list<i64>", "[[1,2],null,[3]]")?);
+    assert!(rt; gives_back::<ListArray<i64>>(alloc, "fixed<2,i64>", "[[1,2],null]")?);
     let rows = "[(1,true),(2,null),null]";
-    let column = parsed(alloc, "struct<i64,bool>", rows)?;
-    assert!(rt; gives_back(alloc, column.into_array::<FixedSizeListArray>(), rows)?);
+    assert!(rt; gives_back::<FixedSizeListArray>(alloc, "struct<i64,bool>", rows)?);
     Ok(())
 }
 
-// Returns whether a type, and a column of it, accept the rows as one list.
-fn accepts(alloc: Global, dtype: &str, row: &ArrayRef) -> Result<bool, Fail> {
-    let Ok(parsed_type) = parse_dtype(alloc, dtype) else {
-        return Err(Fail::from("not a type"));
-    };
-    let type_accepts = parsed_type.scalar_fits(row);
-    drop(parsed_type);
-    let column_accepts = match parsed(alloc, dtype, "[]")?.into_array::<ListArray<i64>>() {
-        Ok(lists) => {
-            let fits = lists.scalar_fits(row);
-            drop(lists);
+// Returns whether a type accepts the rows as one list.
+fn type_accepts(alloc: Global, dtype: &str, row: &ArrayRef) -> bool {
+    match parse_dtype(alloc, dtype) {
+        Ok(dtype) => {
+            let fits = dtype.scalar_fits(row);
+            drop(dtype);
             fits
         }
-        Err(back) => match back.into_array::<FixedSizeListArray>() {
-            Ok(lists) => {
-                let fits = lists.scalar_fits(row);
-                drop(lists);
-                fits
-            }
-            Err(back) => {
-                drop(back);
-                false
-            }
-        },
-    };
-    if type_accepts != column_accepts {
-        return Err(Fail::from("the type and the column differ"));
+        Err(_) => false,
     }
-    Ok(type_accepts)
+}
+
+// Returns whether a column of lists accepts the rows as one list.
+fn lists_accept(alloc: Global, row: &ArrayRef) -> Result<bool, Fail> {
+    let lists = lists(alloc, "list<i64>", "[]")?;
+    let fits = lists.scalar_fits(row);
+    drop(lists);
+    Ok(fits)
+}
+
+// Returns whether a column of lists of two rows accepts the rows as one list.
+fn fixed_lists_accept(alloc: Global, row: &ArrayRef) -> Result<bool, Fail> {
+    let lists = fixed_lists(alloc, "fixed<2,i64>", "[]")?;
+    let fits = lists.scalar_fits(row);
+    drop(lists);
+    Ok(fits)
+}
+
+// Returns whether columns of lists and of fixed-size lists, and their types, accept the rows.
+fn accept(alloc: Global, row: &ArrayRef) -> Result<(bool, bool, bool, bool), Fail> {
+    Ok((
+        lists_accept(alloc, row)?,
+        fixed_lists_accept(alloc, row)?,
+        type_accepts(alloc, "list<i64>", row),
+        type_accepts(alloc, "fixed<2,i64>", row),
+    ))
 }
 
 #[test]
 fn scalar_fits_checks_type_and_length(rt: HostRuntime) -> Result<(), Fail> {
     let alloc = rt.alloc();
-    for (dtype, of, row, fits) in [
-        ("list<i64>", "i64", "[7,8,9]", true),
-        ("list<i64>", "bool", "[true,false]", false),
-        ("fixed<2,i64>", "i64", "[8,9]", true),
-        ("fixed<2,i64>", "i64", "[7,8,9]", false),
-        ("struct<i64,bool>", "i64", "[8,9]", false),
+    for (dtype, row, as_list, as_fixed_list) in [
+        ("i64", "[7,8,9]", true, false),
+        ("i64", "[8,9]", true, true),
+        ("bool", "[true,false]", false, false),
     ] {
-        let row = parsed(alloc, of, row)?;
-        let accepted = accepts(alloc, dtype, &row);
+        let row = parsed(alloc, dtype, row)?;
+        let accepted = accept(alloc, &row);
+        let as_struct = type_accepts(alloc, "struct<i64,bool>", &row);
         drop(row);
-        assert!(rt; accepted? == fits, "{dtype}");
+        let wanted = (as_list, as_fixed_list, as_list, as_fixed_list);
+        assert!(rt; accepted? == wanted && !as_struct, "{dtype}");
     }
     Ok(())
 }

@@ -142,29 +142,17 @@ fn select_is_safe_checks_lengths_and_indices(rt: HostRuntime) -> Result<(), Fail
     Ok(())
 }
 
-// Returns one row of a list of 2,147,483,648 nulls.
-fn wide_list(alloc: Global) -> Result<ArrayRef, Fail> {
+// Returns a column of one row, a list of 2,147,483,648 nulls.
+fn wide_list(alloc: Global) -> Result<Vec<ArrayRef>, Fail> {
     let child = NullArray::try_new(2147483648)?.into_ref();
-    Ok(FixedSizeListArray::try_new(alloc, 2147483648, 1, child, None)?.into_ref())
-}
-
-fn push_number_and_wide_list(alloc: Global, columns: &mut Vec<ArrayRef>) -> Result<(), Fail> {
-    columns.push(parsed(alloc, "i64", "[7]")?)?;
-    columns.push(wide_list(alloc)?)?;
-    Ok(())
-}
-
-// Returns one row of a number, and one row of a list of 2,147,483,648 nulls.
-fn number_and_wide_list(alloc: Global) -> Result<Vec<ArrayRef>, Fail> {
-    let mut columns = Vec::with_capacity(alloc, 2)?;
-    let pushed = push_number_and_wide_list(alloc, &mut columns);
-    given(columns, pushed)
+    let list = FixedSizeListArray::try_new(alloc, 2147483648, 1, child, None)?;
+    Ok(vec![in alloc; list.into_ref()]?)
 }
 
 #[test]
 fn select_rows_exceeds_the_row_limit(rt: HostRuntime) -> Result<(), Fail> {
     let alloc = rt.alloc();
-    let columns = number_and_wide_list(alloc)?;
+    let columns = wide_list(alloc)?;
     let mask = truths(alloc, &[true], &[true]);
     let result = selected(alloc, &columns, mask, &[Some(0), Some(0)]);
     drop(columns);

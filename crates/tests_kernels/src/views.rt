@@ -22,11 +22,10 @@ fn far_bytes(alloc: Global, bytes: &[u8; 13]) -> Result<BinaryViewArray, Fail> {
     Ok(BinaryViewArray::try_new(views, one_buffer(alloc, bytes)?, None)?)
 }
 
-// Returns a column of 8 bytes in its view.
-fn near_bytes(alloc: Global) -> Result<BinaryViewArray, Fail> {
-    let views = buffer(alloc, &[View::new_from_bytes(b"abcdefgh", 0, 0)])?;
+// Returns a column of only this inline view.
+fn near_bytes(alloc: Global, view: View) -> Result<BinaryViewArray, Fail> {
     let none = Buffer::from_vec(Vec::new(alloc))?;
-    Ok(BinaryViewArray::try_new(views, none, None)?)
+    Ok(BinaryViewArray::try_new(buffer(alloc, &[view])?, none, None)?)
 }
 
 // Returns the only row of an if-then-else whose only mask bit is false.
@@ -70,20 +69,6 @@ fn view_of_false_values_refers_to_second_buffer(rt: HostRuntime) -> Result<(), F
     Ok(())
 }
 
-// Returns whether an inline view is unchanged.
-fn stays(alloc: Global, near: &BinaryViewArray, view: View, bytes: &[u8]) -> Result<bool, Fail> {
-    let chosen = otherwise(alloc, &far_bytes(alloc, LONG)?, near)?;
-    is_view(alloc, &chosen, view, bytes, 1)
-}
-
-#[test]
-fn inline_view_is_unchanged(rt: HostRuntime) -> Result<(), Fail> {
-    let near = near_bytes(rt.alloc())?;
-    let view = View::new_from_bytes(b"abcdefgh", 0, 0);
-    assert!(rt; stays(rt.alloc(), &near, view, b"abcdefgh")?);
-    Ok(())
-}
-
 // Four letters in an inline view with an arbitrary buffer index and offset.
 const FOUR: View = View {
     length: 4,
@@ -92,16 +77,17 @@ const FOUR: View = View {
     offset: 0,
 };
 
-// Returns a column of only this view.
-fn four_letters(alloc: Global) -> Result<BinaryViewArray, Fail> {
-    let none = Buffer::from_vec(Vec::new(alloc))?;
-    Ok(BinaryViewArray::try_new(buffer(alloc, &[FOUR])?, none, None)?)
+// Returns whether an inline view is unchanged.
+fn stays(alloc: Global, view: View, bytes: &[u8]) -> Result<bool, Fail> {
+    let chosen = otherwise(alloc, &far_bytes(alloc, LONG)?, &near_bytes(alloc, view)?)?;
+    is_view(alloc, &chosen, view, bytes, 1)
 }
 
 #[test]
-fn inline_view_with_arbitrary_buffer_index_is_unchanged(rt: HostRuntime) -> Result<(), Fail> {
-    let four = four_letters(rt.alloc())?;
-    assert!(rt; stays(rt.alloc(), &four, FOUR, b"abcd")?);
+fn inline_views_are_unchanged(rt: HostRuntime) -> Result<(), Fail> {
+    let eight = View::new_from_bytes(b"abcdefgh", 0, 0);
+    assert!(rt; stays(rt.alloc(), eight, b"abcdefgh")?);
+    assert!(rt; stays(rt.alloc(), FOUR, b"abcd")?);
     Ok(())
 }
 
