@@ -25,6 +25,7 @@ mod odd;
 mod readers;
 #[cfg(test)]
 mod shared;
-pub mod threads;
+#[cfg(test)]
+mod threads;
 #[cfg(test)]
 mod words;
