@@ -136,11 +136,12 @@ fn broadcasts_lists(
     alloc: Global,
     values: &ListArray<i64>,
     scalar: &ArrayRef,
+    other: &ArrayRef,
     as_true: &str,
     as_false: &str,
     both: &str,
 ) -> Result<bool, Fail> {
-    if !values.scalar_fits(scalar) {
+    if !values.scalar_fits(scalar) || !values.scalar_fits(other) {
         return Err(Fail::from("the list does not fit"));
     }
     Ok(
@@ -149,7 +150,7 @@ fn broadcasts_lists(
                 alloc,
                 values.dtype(alloc)?,
                 scalar,
-                scalar,
+                other,
                 both,
             )?,
     )
@@ -159,11 +160,12 @@ fn broadcasts_fixed_lists(
     alloc: Global,
     values: &FixedSizeListArray,
     scalar: &ArrayRef,
+    other: &ArrayRef,
     as_true: &str,
     as_false: &str,
     both: &str,
 ) -> Result<bool, Fail> {
-    if !values.scalar_fits(scalar) {
+    if !values.scalar_fits(scalar) || !values.scalar_fits(other) {
         return Err(Fail::from("the list does not fit"));
     }
     Ok(
@@ -172,7 +174,7 @@ fn broadcasts_fixed_lists(
                 alloc,
                 values.dtype(alloc)?,
                 scalar,
-                scalar,
+                other,
                 both,
             )?,
     )
@@ -183,12 +185,14 @@ fn broadcast_lists(rt: HostRuntime) -> Result<(), Fail> {
     let alloc = rt.alloc();
     let values = lists(alloc, "list<i64>", "[[1],null,[2,null],[7],[]]")?;
     let scalar = parsed(alloc, "i64", "[3,null,3]")?;
+    let other = parsed(alloc, "i64", "[4]")?;
     let as_true = "[[3,null,3],[3,null,3],[2,null],[3,null,3],[]]";
     let as_false = "[[1],null,[3,null,3],[7],[3,null,3]]";
-    let both = "[[3,null,3],[3,null,3],[3,null,3],[3,null,3],[3,null,3]]";
-    let is_so = broadcasts_lists(alloc, &values, &scalar, as_true, as_false, both);
+    let both = "[[3,null,3],[3,null,3],[4],[3,null,3],[4]]";
+    let is_so = broadcasts_lists(alloc, &values, &scalar, &other, as_true, as_false, both);
     drop(values);
     drop(scalar);
+    drop(other);
     assert!(rt; is_so?);
     Ok(())
 }
@@ -198,12 +202,14 @@ fn broadcast_fixed_size_lists(rt: HostRuntime) -> Result<(), Fail> {
     let alloc = rt.alloc();
     let values = fixed_lists(alloc, "fixed<2,i64>", "[[1,5],null,[2,5],[7,null],[4,5]]")?;
     let scalar = parsed(alloc, "i64", "[3,9]")?;
+    let other = parsed(alloc, "i64", "[null,4]")?;
     let as_true = "[[3,9],[3,9],[2,5],[3,9],[4,5]]";
     let as_false = "[[1,5],null,[3,9],[7,null],[3,9]]";
-    let both = "[[3,9],[3,9],[3,9],[3,9],[3,9]]";
-    let is_so = broadcasts_fixed_lists(alloc, &values, &scalar, as_true, as_false, both);
+    let both = "[[3,9],[3,9],[null,4],[3,9],[null,4]]";
+    let is_so = broadcasts_fixed_lists(alloc, &values, &scalar, &other, as_true, as_false, both);
     drop(values);
     drop(scalar);
+    drop(other);
     assert!(rt; is_so?);
     Ok(())
 }
