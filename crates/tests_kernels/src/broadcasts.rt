@@ -146,13 +146,7 @@ fn broadcasts_lists(
     }
     Ok(
         broadcasts(alloc, values, scalar, as_true, as_false)?
-            && broadcasts_both::<ListArray<i64>>(
-                alloc,
-                values.dtype(alloc)?,
-                scalar,
-                other,
-                both,
-            )?,
+            && broadcasts_both::<ListArray<i64>>(alloc, values.dtype(alloc)?, scalar, other, both)?,
     )
 }
 
