@@ -32,6 +32,17 @@ leading_all (true ∷ l) low = let first : true ≡ false = low 0 (omega arith) 
 leading_all (false ∷ l) low =
     let rest : leading_zeros l ≡ length l = leading_all l (λ i le lt. low (suc i) (omega arith) (omega arith)) in omega arith
 
+-- The same from an entry on.
+leading_after : (l : List Bool) (start z : ℕ) → start ≤ z → AreFalse l start z → get_or l z false ≡ true → leading_zeros (drop start l) ≡ z - start
+leading_after l start z after low here =
+    let place : start + (z - start) ≡ z = omega arith in
+    leading_found (drop start l) (z - start) (λ i le lt. get_or-drop start l i false ∙ low (start + i) (omega arith) (omega arith))
+    (get_or-drop start l (z - start) false ∙ ap (λ j. get_or l j false) place ∙ here)
+
+pub leading_rest : (l : List Bool) (start : ℕ) → start ≤ length l → AreFalse l start (length l) → leading_zeros (drop start l) ≡ length l - start
+leading_rest l start within low =
+    leading_all (drop start l) (λ i le lt. get_or-drop start l i false ∙ low (start + i) (omega arith) (omega (arith, length-drop start l))) ∙ length-drop start l
+
 pub leading_le : (l : List Bool) → leading_zeros l ≤ length l
 leading_le [] = omega arith
 leading_le (true ∷ l) = omega arith
@@ -95,22 +106,22 @@ module _ (l : List Bool) (at len word : ℕ) (is : word ≡ word_of (take len (d
       let place : at + (i - at) ≡ i = omega arith in
       ap (λ j. get_or l j false) (sym place) ∙ unset (i - at) (omega arith) (ap (λ w. bit_at w (i - at)) clear ∙ bit_at-zero (i - at))
 
-  -- The first word with a set bit.
-  pub lowest_set : word ≢ 0 → word < 2 ^ 64 → AreFalse l 0 at → (at + lowest_place w64 word < length l) × (leading_zeros l ≡ at + lowest_place w64 word)
-  lowest_set some fits low =
+  -- The first word with a set bit after false bits from `start` on.
+  pub lowest_set : word ≢ 0 → word < 2 ^ 64 → (start : ℕ) → start ≤ at → AreFalse l start at → (at + lowest_place w64 word < length l) × (leading_zeros (drop start l) ≡ at - start + lowest_place w64 word)
+  lowest_set some fits start after low =
       let t = lowest_place w64 word in
       let found = bit_at-trailing_zeros w64 word (omega arith) fits in
-      let below : t < len = set_below t found.1 in (
-        omega arith,
-        leading_found l (at + t)
-            (λ i le lt.
-            ⊎_elim (λ (before : i < at). low i le before)
-            (λ (after : at ≤ i).
-            let place : at + (i - at) ≡ i = omega arith in
-            ap (λ j. get_or l j false) (sym place) ∙ unset (i - at) (omega arith) (found.2 (i - at) (omega arith)))
-            (cases_lt i at))
-            (set t found.1),
-      )
+      let below : t < len = set_below t found.1 in
+      let first : leading_zeros (drop start l) ≡ at + t - start =
+      leading_after l start (at + t) (omega arith)
+      (λ i le lt.
+      ⊎_elim (λ (before : i < at). low i le before)
+      (λ (after : at ≤ i).
+      let place : at + (i - at) ≡ i = omega arith in
+      ap (λ j. get_or l j false) (sym place) ∙ unset (i - at) (omega arith) (found.2 (i - at) (omega arith)))
+      (cases_lt i at))
+      (set t found.1) in
+      (omega arith, omega (arith, first))
 
   -- The last word with a set bit; h is the position of the highest one.
   pub highest_set : (h : ℕ) → 2 ^ h ≤ word → word < 2 * 2 ^ h → AreFalse l (at + len) (length l) → (at + h < length l) × (trailing_zeros l ≡ length l - (at + h + 1))

@@ -337,16 +337,7 @@ impl Bitmap {
         ensures count { result ≡ leading_zeros self.now.bits }
         ensures within { result ≤ length self.now.bits }
     {
-        let mut at = 0;
-        while at < self.len() {
-            let len = (self.len() - at).min(MOST_BITS);
-            let word = self.word_at(at, len);
-            if word != 0 {
-                return at + word.trailing_zeros() as usize;
-            }
-            at += len;
-        }
-        at
+        self.zeros_from(0)
     }
 
     /// Returns the number of true bits before the first false bit.
@@ -354,16 +345,51 @@ impl Bitmap {
         ensures count { result ≡ leading_ones self.now.bits }
         ensures within { result ≤ length self.now.bits }
     {
-        let mut at = 0;
+        self.ones_from(0)
+    }
+
+    /// Returns the number of consecutive false bits from bit `start` on.
+    ///
+    /// # Requires
+    /// `start` is at most the length.
+    #[inline]
+    pub fn zeros_from(&self, start: usize) -> usize
+        requires { start ≤ length self.now.bits }
+        ensures count { result ≡ leading_zeros (drop start self.now.bits) }
+        ensures within { start + result ≤ length self.now.bits }
+    {
+        let mut at = start;
+        while at < self.len() {
+            let len = (self.len() - at).min(MOST_BITS);
+            let word = self.word_at(at, len);
+            if word != 0 {
+                return at - start + word.trailing_zeros() as usize;
+            }
+            at += len;
+        }
+        at - start
+    }
+
+    /// Returns the number of consecutive true bits from bit `start` on.
+    ///
+    /// # Requires
+    /// `start` is at most the length.
+    #[inline]
+    pub fn ones_from(&self, start: usize) -> usize
+        requires { start ≤ length self.now.bits }
+        ensures count { result ≡ leading_ones (drop start self.now.bits) }
+        ensures within { start + result ≤ length self.now.bits }
+    {
+        let mut at = start;
         while at < self.len() {
             let len = (self.len() - at).min(MOST_BITS);
             let word = word_by::<Not>(self, self, self, at, len);
             if word != 0 {
-                return at + word.trailing_zeros() as usize;
+                return at - start + word.trailing_zeros() as usize;
             }
             at += len;
         }
-        at
+        at - start
     }
 
     /// Returns the number of false bits after the last true bit.

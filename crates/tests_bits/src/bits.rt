@@ -43,6 +43,20 @@ fn take_leading_and_trailing_zeros_of_bitmap(rt: HostRuntime) -> Result<(), Fail
     Ok(())
 }
 
+#[test]
+fn count_equal_bits_from_a_bit(rt: HostRuntime) -> Result<(), Fail> {
+    let mut bits = [false; 200];
+    for k in 61..190 {
+        bits[k] = true;
+    }
+    let bitmap = Bitmap::from_bools(rt.alloc(), &bits)?.sliced(1, 199);
+    assert!(rt; bitmap.zeros_from(0) == 60 && bitmap.zeros_from(59) == 1);
+    assert!(rt; bitmap.zeros_from(60) == 0 && bitmap.zeros_from(189) == 10);
+    assert!(rt; bitmap.ones_from(60) == 129 && bitmap.ones_from(188) == 1);
+    assert!(rt; bitmap.ones_from(59) == 0 && bitmap.ones_from(199) == 0);
+    Ok(())
+}
+
 /// Returns whether the bits are three bits, the 120 bits of the source from its sixth on, seventy
 /// true ones, and two false ones.
 fn is_extended(packed: &Bitmap, source: &Bitmap) -> bool {

@@ -94,7 +94,7 @@ fn trailing(bits: &[bool]) -> usize {
 }
 
 // Returns whether the counts and the single bits of a bitmap equal those of a loop.
-fn tells(bitmap: &Bitmap, bits: &[bool]) -> Result<bool, Fail> {
+fn counts_equal(bitmap: &Bitmap, bits: &[bool]) -> Result<bool, Fail> {
     let mut front = bitmap.try_clone()?;
     let mut ones = bitmap.try_clone()?;
     let mut back = bitmap.try_clone()?;
@@ -156,7 +156,7 @@ fn bitmap_counts_and_readers_at_odd_offsets(rt: HostRuntime) -> Result<(), Fail>
                 let wanted = bits(alloc, kind, len)?;
                 for outside in [true, false] {
                     let bitmap = bitmap(alloc, kind, offset, len, outside)?;
-                    assert!(rt; tells(&bitmap, &wanted)?);
+                    assert!(rt; counts_equal(&bitmap, &wanted)?);
                     assert!(rt; has_words(&bitmap, &wanted) && has_blocks(&bitmap, &wanted));
                 }
             }

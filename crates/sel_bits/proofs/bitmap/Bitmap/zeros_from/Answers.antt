@@ -1,14 +1,14 @@
-use Rattle.std.proofs.Common.{◌≡◌, ◌+◌, ◌<◌, sym, length, arith, subst}
+use Rattle.std.proofs.Common.{◌≡◌, ◌+◌, ◌-◌, ◌<◌, sym, length, drop, arith, subst}
 use Rattle.std.specs.Int.{w64, trailing_zeros as lowest_place}
 use Rattle.sel_bits.specs.Bits.{leading_zeros}
-use Rattle.sel_bits.proofs.Zeros.{AreFalse, lowest_set, none_set, false_joined, leading_all}
-use Rattle.sel_bits.proofs.bitmap.Bitmap.leading_zeros.Goals as goal
+use Rattle.sel_bits.proofs.Zeros.{AreFalse, lowest_set, none_set, false_joined, leading_rest}
+use Rattle.sel_bits.proofs.bitmap.Bitmap.zeros_from.Goals as goal
 
 found : (c : goal.Then-word-ne0)
-    → (c.loop-at.at + lowest_place w64 c.word_at-word.result < length c.args.self.now.bits) × (leading_zeros c.args.self.now.bits ≡ c.loop-at.at + lowest_place w64 c.word_at-word.result)
+    → (c.loop-at.at + lowest_place w64 c.word_at-word.result < length c.args.self.now.bits) × (leading_zeros (drop c.args.start c.args.self.now.bits) ≡ c.loop-at.at - c.args.start + lowest_place w64 c.word_at-word.result)
 found c =
     lowest_set c.args.self.now.bits c.loop-at.at c.min-len.result c.word_at-word.result c.word_at-word.ensures (omega arith) c.if-word-ne0.true (omega arith)
-    c.loop-at.invariant.zeros
+    c.args.start c.loop-at.invariant.after c.loop-at.invariant.zeros
 
 pub overflow_add-result : goal.overflow_add-result
 overflow_add-result c = record { fits = omega (arith, found c) }
@@ -21,8 +21,9 @@ returns-then-word-ne0-clause-within c = omega (arith, found c)
 
 pub loop-at-preserved : goal.loop-at-preserved
 loop-at-preserved c = record {
+  after = omega arith;
   within = omega arith;
-  zeros = false_joined c.args.self.now.bits 0 c.loop-at.at (c.loop-at.at + c.min-len.result) c.loop-at.invariant.zeros
+  zeros = false_joined c.args.self.now.bits c.args.start c.loop-at.at (c.loop-at.at + c.min-len.result) c.loop-at.invariant.zeros
       (none_set c.args.self.now.bits c.loop-at.at c.min-len.result c.word_at-word.result c.word_at-word.ensures (omega arith) (omega arith));
 }
 
@@ -30,4 +31,4 @@ pub returns-clause-count : goal.returns-clause-count
 returns-clause-count c =
     let bits = c.args.self.now.bits in
     let end : c.loop-at.at ≡ length bits = omega arith in
-    rw end (sym (leading_all bits (subst (AreFalse bits 0) end c.loop-at.invariant.zeros)))
+    rw end (sym (leading_rest bits c.args.start (omega arith) (subst (AreFalse bits c.args.start) end c.loop-at.invariant.zeros)))
