@@ -11,8 +11,8 @@ pub struct Lane {
 
 /// An iterator over the row references of a horizontal flatten of `rows` rows.
 ///
-/// It has left `part` rows of column `lane` from row `at` on, then the parts of the later columns in
-/// row `row` of the result, then the later rows of the result: `left` row references in total.
+/// It has left `part` rows of column `lane` from row `at` on, then the parts of the later columns
+/// in row `row` of the result, then the later rows of the result: `left` row references in total.
 #[derive(Drop)]
 pub struct Woven<'a> {
     pub lanes: &'a [Lane],

@@ -12,8 +12,8 @@ impl<'a> Woven<'a> {
     /// Returns an iterator over the row references of `rows` rows.
     ///
     /// # Requires
-    /// There are `left` row references, at least one; no lane is empty, and each row reference is in
-    /// range.
+    /// There are `left` row references, at least one; no lane is empty, and each row reference is
+    /// in range.
     pub fn of_rows(lanes: &'a [Lane], rows: u32, left: u32) -> Woven<'a>
         requires some { 0 < left }
         requires left { HasLeft lanes.now left (rows_picks 0 rows lanes.now) }

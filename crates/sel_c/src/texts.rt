@@ -51,8 +51,8 @@ pub extern "C" fn sel_print(alloc: Global, of: &ColumnRef, out: &mut [u8], len: 
 }
 
 /// Writes the type as text, such as `list<i64>`, without a terminating zero and without spaces: as
-/// many bytes as fit into `out`. Returns in `len` the number of bytes of the whole text. `sel_parse`
-/// reads the types of at most 64 levels of children.
+/// many bytes as fit into `out`. Returns in `len` the number of bytes of the whole text.
+/// `sel_parse` reads the types of at most 64 levels of children.
 ///
 /// Errors: SEL_ERROR_NO_COLUMN: `of` is empty.
 #[unsafe(no_mangle)]

@@ -23,7 +23,8 @@ use Rattle.sel_text.specs.declared.build.NullSlots.TheVariants.{Zeros}
 -- The bytes are UTF-8, and their canonical spelling is the text of a type.
 abbrev pub IsTypeText : Shape → List ℕ → Type 0
 IsTypeText shape bytes =
-    IsTrue (widths_written shape) × IsTrue (is_utf8 bytes) × (spelled bytes ≡ Some (type_text shape))
+    IsTrue (widths_written shape) × IsTrue (is_utf8 bytes)
+    × (spelled bytes ≡ Some (type_text shape))
 
 -- The bytes are UTF-8, and their canonical spelling is the row text of values that fit a type.
 abbrev pub IsRowsText : Shape → List Value → List ℕ → Type 0

@@ -175,8 +175,8 @@ fn not_utf8_type(found: Result<Option<usize>, AllocError>) -> TextError
     }
 }
 
-/// Returns the error of row text that is not UTF-8: a syntax error where it was found, else a misfit
-/// at `place`.
+/// Returns the error of row text that is not UTF-8: a syntax error where it was found, else a
+/// misfit at `place`.
 fn not_utf8_rows(found: Result<Option<usize>, AllocError>, place: usize) -> TextError
     ensures syntax { (bytes : List ℕ) → IfOk found (HasFirstError is_row_notation bytes) →
         IsRowTextError bytes result }

@@ -23,8 +23,8 @@ pub record MayGather (sources : List (Bor Column)) (picks : List (Option (ℕ ×
   pub len : length picks ≡ count
   pub few : count ≤ max_rows
 
--- The sources are well-formed columns of this type, and each reference is null or refers to a row of
--- a source.
+-- The sources are well-formed columns of this type, and each reference is null or refers to a row
+-- of a source.
 pub record MayGatherAs (sources : List (Bor Column)) (shape : Shape) (picks : List (Option (ℕ × ℕ)))
     : Type 0 where
   pub alike : All (λ c. type_of c.now ≡ shape) sources

@@ -8,8 +8,8 @@ use Rattle.sel_gather.specs.ItemPicks.{item_picks}
 use Rattle.sel_gather.specs.Runs.{picks_of}
 use Rattle.sel_gather.specs.declared.runs.Run.{Run}
 
--- The run of the items of each list: it begins at the list's start, and is as long as the list's end
--- is behind the end before, the first of which is `at`.
+-- The run of the items of each list: it begins at the list's start, and is as long as the list's
+-- end is behind the end before, the first of which is `at`.
 abbrev pub spans : List ℕ → ℕ → List ℤ → List Run
 spans [] at ends = []
 spans (start ∷ starts) at [] = []

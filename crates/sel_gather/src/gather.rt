@@ -1,8 +1,8 @@
 //! Gathers rows from several columns of one type at the row references of a plan.
 //!
-//! Integers and booleans are gathered one row reference at a time, and fixed-size lists of them list
-//! by list. Lists are read once, and only the runs of their items are built. For all other types the
-//! row references are first converted to runs, since nested rows are copied by runs too.
+//! Integers and booleans are gathered one row reference at a time, and fixed-size lists of them
+//! list by list. Lists are read once, and only the runs of their items are built. For all other
+//! types the row references are first converted to runs, since nested rows are copied by runs too.
 
 ghost use Rattle.std.specs.Prelude.{◌≡◌, ◌≤◌, ◌<◌, All, length};
 ghost use Rattle.sel_bits.specs.Limits.{max_rows};

@@ -13,7 +13,8 @@ use Rattle.sel_lent.specs.Buffers.{bytes_of, count_over, integers_of, rows_over,
 use Rattle.sel_lent.specs.Held.{Held}
 
 -- On success, the handle has a column of this type with these rows; on error, it is unchanged.
-pub record MakesColumn (code : ℕ) (before after : handle.Held) (shape : Shape) (values : List Value) : Type 0 where
+pub record MakesColumn (code : ℕ) (before after : handle.Held) (shape : Shape)
+    (values : List Value) : Type 0 where
   pub rows : Makes code before after (λ made. rows made.column ≡ values)
   pub dtype : Makes code before after (λ made. type_of made.column ≡ shape)
 

@@ -31,8 +31,8 @@ abbrev pub HasRoom : Bool → Bool → ℕ → ℕ → Type 0
 HasRoom false false trues falses = ⊤
 HasRoom _ _ trues falses = trues + falses ≤ max_buffers
 
--- A column of this type with these rows of these columns, which exceed no limit, or no column; or an
--- error: out of memory, or a limit that they exceed.
+-- A column of this type with these rows of these columns, which exceed no limit, or no column; or
+-- an error: out of memory, or a limit that they exceed.
 pub record ChoosesSome (result : Result (Option ArrayRef) PolarsError) (shape : Shape)
     (columns : List Column) (values : List Value) : Type 0 where
   pub rows : IfOk result (λ made. IfSome made (λ chosen. rows chosen.column ≡ values))

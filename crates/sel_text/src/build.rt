@@ -434,8 +434,8 @@ fn blocks(
     }
 }
 
-/// Builds the child of a fixed-size list column. Checks the number of its rows before it lists them,
-/// and only counts them if they are of the null type, which has no data.
+/// Builds the child of a fixed-size list column. Checks the number of its rows before it lists
+/// them, and only counts them if they are of the null type, which has no data.
 #[cycle(building)]
 fn block_child(
     dtype: &ArrowDataType,

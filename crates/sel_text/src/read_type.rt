@@ -57,8 +57,8 @@ pub fn parse_dtype(alloc: Global, text: &str) -> Result<ArrowDataType, TextError
     }
 }
 
-/// Returns the error of a text that is not read as a type: a syntax error with its position wherever
-/// there is one, else that of a limit.
+/// Returns the error of a text that is not read as a type: a syntax error with its position
+/// wherever there is one, else that of a limit.
 fn located(alloc: Global, text: &str, error: TextError) -> TextError
     ensures syntax { IsTypeTextError text.now result }
     ensures place { IsOffsetWithin (length text.now) result }

@@ -14,8 +14,8 @@ use std::fmt;
 /// or the length of the text.
 #[derive(Debug, Clone, Copy, PartialEq, Eq)]
 pub enum TextError {
-    /// The text is not that of rows, or of a type. The position is that of the first byte with which
-    /// no such text goes on, or the length of the text if it ends too soon.
+    /// The text is not that of rows, or of a type. The position is that of the first byte with
+    /// which no such text goes on, or the length of the text if it ends too soon.
     Syntax { at: usize },
     /// The value at this position does not fit the type.
     Type { at: usize },

@@ -137,7 +137,7 @@ fn moves_a_word(alloc: Global) -> bool {
 }
 
 /// Returns whether the functions on offsets and numbers return the right values.
-fn tells_numbers(alloc: Global) -> bool {
+fn converts_numbers(alloc: Global) -> bool {
     begins_free(alloc);
     let signs = ((-1i64).is_negative(), 3i32.is_below(5));
     let places = (5i64.to_position(), 7u8.to_usize());
@@ -160,6 +160,6 @@ fn copies_nothing(alloc: Global) -> bool {
 fn word_and_number_functions_do_not_allocate(rt: HostRuntime) {
     assert!(rt; works_on_words(rt.alloc()));
     assert!(rt; moves_a_word(rt.alloc()));
-    assert!(rt; tells_numbers(rt.alloc()));
+    assert!(rt; converts_numbers(rt.alloc()));
     assert!(rt; copies_nothing(rt.alloc()));
 }

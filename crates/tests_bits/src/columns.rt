@@ -185,7 +185,7 @@ fn view_from_bytes(rt: HostRuntime) {
 }
 
 /// Returns whether a column has three rows, `nulls` of them null, and this type.
-fn tells<A: Array>(column: &A, dtype: &ArrowDataType, nulls: usize) -> bool {
+fn has_properties<A: Array>(column: &A, dtype: &ArrowDataType, nulls: usize) -> bool {
     column.len() == 3
         && !column.is_empty()
         && column.null_count() == nulls
@@ -203,7 +203,7 @@ fn has_own_dtype<A: Array>(alloc: Global, column: &A) -> PolarsResult<bool> {
 }
 
 /// Returns whether `nulls` of the two rows after the first are null.
-fn part_tells<A: Array + Drop>(alloc: Global, column: &A, nulls: usize) -> PolarsResult<bool> {
+fn part_has_nulls<A: Array + Drop>(alloc: Global, column: &A, nulls: usize) -> PolarsResult<bool> {
     if column.len() != 3 {
         return Ok(false);
     }
@@ -221,11 +221,11 @@ fn check_column<A: Array + Drop>(
     dtype: &ArrowDataType,
     nulls: (usize, usize),
 ) -> PolarsResult<ArrayRef> {
-    assert!(rt; tells(&column, dtype, nulls.0));
+    assert!(rt; has_properties(&column, dtype, nulls.0));
     assert!(rt; has_own_dtype(rt.alloc(), &column) == Ok(true));
-    assert!(rt; part_tells(rt.alloc(), &column, nulls.1) == Ok(true));
+    assert!(rt; part_has_nulls(rt.alloc(), &column, nulls.1) == Ok(true));
     let copy = column.try_clone(rt.alloc())?;
-    assert!(rt; tells(&copy, dtype, nulls.0) && copy.same_dtype(&column));
+    assert!(rt; has_properties(&copy, dtype, nulls.0) && copy.same_dtype(&column));
     Ok(copy.into_ref())
 }
 

@@ -1,5 +1,5 @@
-//! Rows of several columns, with contracts that follow from those of the library: worked proofs of a
-//! caller.
+//! Rows of several columns, with contracts that follow from those of the library: worked proofs of
+//! a caller.
 
 ghost use Rattle.std.specs.Prelude.{◌≡◌, IsTrue, IfOk, IfErr, count_by, length};
 ghost use Rattle.sel_arrow.specs.Columns.{boolean_rows, primitive_rows};
