@@ -48,11 +48,11 @@ impl BitSlice<'_> {
     /// Returns bit `i`.
     ///
     /// # Requires
-    /// `i` is less than the number of bits, and the position of a row.
+    /// `i` is less than the number of bits, and at most 2^32 - 1.
     #[inline(always)]
     pub(crate) fn get(&self, i: usize) -> bool
         requires inside { i < length self.now }
-        requires few { i < max_rows }
+        requires few { i ≤ max_rows }
         ensures { result ≡ slice_index_or self.now i false }
     {
         let at = self.shift + i;

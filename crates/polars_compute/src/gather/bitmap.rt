@@ -8,6 +8,7 @@ ghost use Rattle.sel_arrow.specs.Columns.{primitive_rows};
 ghost use Rattle.sel_arrow.specs.Masked.{number_rows};
 ghost use Rattle.polars_compute.specs.Pick.{all_within, all_below, pick, pick_of, place_pick};
 
+use crate::gather::bit_slice::BitSlice;
 use sel_arrow::primitive::IdxArr;
 use sel_bits::bitmap::Bitmap;
 use sel_bits::faults::PolarsResult;
@@ -162,9 +163,11 @@ fn word_of_rows(
 {
     // The number of indices fits in `usize`.
     let _whole = places.len();
+    let source = BitSlice::of(values);
+    let bits = BitSlice::of(valid);
     let mut word = 0;
     for k in 0..len {
-        let bit = bit_if(values, places[at + k], valid.get_bit(at + k), filler);
+        let bit = bit_if(&source, places[at + k], bits.get(at + k), filler);
         word += u64::from(bit) << k;
     }
     word
@@ -184,12 +187,12 @@ fn first_bit(values: &Bitmap) -> bool
 ///
 /// Reads the first bit where `valid` is false, so that no branch depends on it.
 #[inline(always)]
-fn bit_if(values: &Bitmap, place: u32, valid: bool, filler: bool) -> bool
-    ensures { result ≡ (if valid then slice_index_or values.now.bits place filler else filler) }
+fn bit_if(values: &BitSlice, place: u32, valid: bool, filler: bool) -> bool
+    ensures { result ≡ (if valid then slice_index_or values.now place filler else filler) }
 {
     let at = if valid { place as usize } else { 0 };
     let bit = if at < values.len() {
-        values.get_bit(at)
+        values.get(at)
     } else {
         filler
     };

@@ -8,6 +8,7 @@ ghost use Rattle.sel_arrow.specs.Masked.{hidden, number_rows};
 ghost use Rattle.polars_compute.specs.Pick.{all_within, take_rows, pick, pick_of};
 ghost use Rattle.polars_compute.specs.Steps.{near_index, near_place};
 
+use crate::gather::bit_slice::BitSlice;
 use crate::gather::validity::{narrowed_validity, take_validity};
 use sel_arrow::array::Array;
 use sel_arrow::primitive::{IdxArr, PrimitiveArray};
@@ -165,9 +166,10 @@ fn take_valid_places<T: Copy>(
         (map pick_of (number_rows pos places.now (Some valid.now)))) }
     ensures refusal { IfErr result IsOutOfMemory }
 {
+    let bits = BitSlice::of(valid);
     let mut taken = Vec::with_capacity(alloc, places.len())?;
     for k in 0..places.len() {
-        taken.push_reserved(value_if(values, places[k], valid.get_bit(k), filler));
+        taken.push_reserved(value_if(values, places[k], bits.get(k), filler));
     }
     Ok(taken)
 }

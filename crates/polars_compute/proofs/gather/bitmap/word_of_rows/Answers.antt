@@ -1,4 +1,4 @@
-use Rattle.polars_compute.proofs.Common.{◌≡◌, ◌+◌, ◌*◌, ◌%◌, ◌^◌, ◌∙◌, [], ◌∷◌, Some, drop, get_or, map, pos, take, ap, arith, if◌then◌else◌, take_all, from_bool}
+use Rattle.polars_compute.proofs.Common.{◌≡◌, ◌+◌, ◌*◌, ◌%◌, ◌^◌, ◌∙◌, [], ◌∷◌, Some, drop, false, get_or, map, pos, take, ap, arith, if◌then◌else◌, take_all, from_bool}
 use Rattle.polars_compute.proofs.Common.{word_of, word_of-next, word_of-few, number_rows, length-number_rows, pick, pick_of}
 use Rattle.sel_bits.proofs.WordsOf.{length_part}
 use Rattle.polars_compute.proofs.Takes.{found_at, length-pick}
@@ -15,7 +15,8 @@ next c =
     let all = pick c.args.filler (bs ∷ []) (map pick_of rows) in
     let count = length-number_rows pos places (Some valid) in
     let long = length_part c.args.at c.args.len all (omega (arith, length-pick c.args.filler (bs ∷ []) rows, count, c.requires.within)) in
-    let bit = c.bit_if-bit.ensures ∙ ap (λ b. if b then get_or bs (get_or places (c.args.at + c.loop-k.k) 0) c.args.filler else c.args.filler) c.get_bit.ensures
+    let named = c.get.ensures ∙ ap (λ l. get_or l (c.args.at + c.loop-k.k) false) c.of-bits.ensures in
+    let bit = c.bit_if-bit.ensures ∙ (λ i. if named i then get_or (c.of-source.ensures i) (get_or places (c.args.at + c.loop-k.k) 0) c.args.filler else c.args.filler)
     ∙ found_at c.args.filler bs places valid (c.args.at + c.loop-k.k) (omega (arith, c.requires.within, c.loop-k-test.true)) c.requires.long in
     word_of-next (take c.args.len (drop c.args.at all)) c.loop-k.k c.loop-k.word c.from.result (omega (arith, long, c.loop-k-test.true)) (omega (arith, long, c.requires.few)) c.loop-k.invariant
     (c.from.ensures ∙ ap from_bool (taken_at bs c.args.filler rows c.args.at c.args.len c.loop-k.k c.bit_if-bit.result c.loop-k-test.true (omega (arith, count, c.requires.within)) bit))
