@@ -220,6 +220,38 @@ static void test_selections(void) {
     sel_free(&out);
 }
 
+/* Checks a filter of all rows: it has added the block of its handle alone, and its result outlives the column. */
+static void shares(sel_status status, sel_column *column, sel_column *kept, long before) {
+    const int64_t all[4] = {10, 20, 30, 40};
+    IS(done(status));
+    if (status == SEL_OK) {
+        IS(blocks_in_use() == before + 1);
+        sel_free(column);
+        IS(holds(kept, all, 4));
+    }
+    sel_free(column);
+    sel_free(kept);
+}
+
+static void test_filters_of_all_rows(void) {
+    const uint8_t bits[1] = {15};
+    sel_column mask = {0};
+    sel_selection by = {0};
+    IS(done(sel_selection_of_bits(bits, 1, 4, &by)));
+    DONE(sel_boolean_new(bits, 1, 4, SEL_ALL_VALID, &mask));
+    for (int call = 0; call < 3 && mask.at != NULL && by.at != NULL; call++) {
+        sel_column column = tens(), kept = {0};
+        const long before = blocks_in_use();
+        if (column.at == NULL) break;
+        const sel_status status = call == 0 ? sel_filter(&column, &mask, &kept)
+                                  : call == 1 ? sel_filter_selection(&column, &by, &kept)
+                                              : sel_filter_bits(&column, bits, 1, 4, &kept);
+        shares(status, &column, &kept, before);
+    }
+    sel_free(&mask);
+    sel_selection_free(&by);
+}
+
 static void test_takes(void) {
     const uint32_t at[3] = {3, 9, 0};
     const uint8_t bits[1] = {5};
@@ -489,8 +521,8 @@ static void test_short_validities(void) {
 
 static void (*const tests[])(void) = {
     test_nulls, test_booleans, test_int8, test_int16, test_int32, test_int64, test_uint8, test_uint16, test_uint32,
-    test_uint64, test_int128, test_uint128, test_whole, test_filters, test_selections, test_takes, test_reverse, test_bytes, test_lists, test_structs,
-    test_views, test_choices, test_broadcasts, test_chosen_kinds, test_flattens, test_collected_rows, test_dictionaries, test_equal_rows, test_prints, test_prints_types,
+    test_uint64, test_int128, test_uint128, test_whole, test_filters, test_selections, test_filters_of_all_rows, test_takes, test_reverse, test_bytes,
+    test_lists, test_structs, test_views, test_choices, test_broadcasts, test_chosen_kinds, test_flattens, test_collected_rows, test_dictionaries, test_equal_rows, test_prints, test_prints_types,
     test_parses, test_misread_texts, test_parse_memory, test_flatten_limits, test_list_limits, test_empty_inputs, test_empty_outputs, test_strings,
     test_short_validities,
 };

@@ -23,7 +23,7 @@ pub extern "C" fn sel_filter(
 ) -> u32
     ensures { Filters result of.now.tree mask.now.tree out.old.tree out.new.tree }
 {
-    let Some(column) = of.column() else {
+    let Some(column) = of.shared() else {
         return NO_COLUMN;
     };
     let Some(by) = mask.column() else {
@@ -46,7 +46,7 @@ pub extern "C" fn sel_filter_bits(
 ) -> u32
     ensures { FiltersByBits result of.now.tree out.old.tree out.new.tree mask.now len }
 {
-    let Some(column) = of.column() else {
+    let Some(column) = of.shared() else {
         return NO_COLUMN;
     };
     filter_bits_into(alloc, column, mask, len, out)

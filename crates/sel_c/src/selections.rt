@@ -92,7 +92,7 @@ pub extern "C" fn sel_filter_selection(
 ) -> u32
     ensures { FiltersBySelection result of.now.tree by.now.selection out.old.tree out.new.tree }
 {
-    let Some(column) = of.column() else {
+    let Some(column) = of.shared() else {
         return NO_COLUMN;
     };
     let Some(selection) = by.selection() else {

@@ -7,7 +7,7 @@ ghost use Rattle.sel_ffi.specs.Status.{ok, no_column, index_out_of_bounds, held_
 use sel_arrow::array::Array;
 use sel_ffi::column_ref::ColumnRef;
 use sel_ffi::handle::Handle;
-use sel_ffi::status::{INDEX_OUT_OF_BOUNDS, NO_COLUMN, OUT_OF_MEMORY, put, put_shared};
+use sel_ffi::status::{INDEX_OUT_OF_BOUNDS, NO_COLUMN, OUT_OF_MEMORY, put, put_again};
 use std::alloc::Global;
 
 /// Returns in `out` the `len` rows of `of` from row `off` on. The result shares the buffers of
@@ -52,10 +52,7 @@ pub extern "C" fn sel_share(alloc: Global, of: &ColumnRef, out: &mut Handle) -> 
     let Some(shared) = of.shared() else {
         return NO_COLUMN;
     };
-    match shared.try_clone() {
-        Ok(shared) => put_shared(alloc, shared, out),
-        Err(_) => OUT_OF_MEMORY,
-    }
+    put_again(alloc, shared, out)
 }
 
 /// Frees the column of `of`, if there is one. `of` is empty afterwards.

@@ -1,4 +1,5 @@
 pub mod Alike
+pub mod AllKept
 pub mod Below
 pub mod Common
 pub mod Counts

@@ -1,8 +1,6 @@
 //! Filters by masks that are prepared once.
 
-ghost use Rattle.std.specs.Prelude.{◌≡◌, ◌≤◌, [], Some};
-ghost use Rattle.sel_arrow.specs.Depth.{depth};
-ghost use Rattle.sel_arrow.specs.Rows.{type_of};
+ghost use Rattle.std.specs.Prelude.{◌≡◌, [], Some};
 ghost use Rattle.sel_calls.specs.Selections.{Prepares, PreparesColumn, PreparesBits, FiltersBySelection};
 
 use crate::selection_handle::SelectionHandle;
@@ -12,7 +10,8 @@ use sel_arrow::array_ref::ArrayRef;
 use sel_arrow::column::Column;
 use sel_ffi::handle::Handle;
 use sel_ffi::inputs::copied_bits;
-use sel_ffi::status::{LENGTH_MISMATCH, OK, OUT_OF_MEMORY, UNSUPPORTED_TYPE, put};
+use sel_ffi::shared_column::SharedColumn;
+use sel_ffi::status::{LENGTH_MISMATCH, OK, OUT_OF_MEMORY, UNSUPPORTED_TYPE, put, put_again};
 use std::alloc::Global;
 
 /// Stores in `out` the selection of the rows where `mask` is true and valid.
@@ -72,24 +71,27 @@ pub fn put_selection(alloc: Global, selection: Selection, out: &mut SelectionHan
     }
 }
 
-/// Stores in `out` the rows of `column` that `selection` selects.
+/// Stores in `out` the rows of `column` that `selection` selects. If these are all rows, the result
+/// shares the column.
 ///
 /// Errors: `LENGTH_MISMATCH` if the column does not have as many rows as the selection's mask;
 /// `OUT_OF_MEMORY`.
 pub fn filter_selected_into(
     alloc: Global,
-    column: &ArrayRef,
+    column: &SharedColumn,
     selection: &Selection,
     out: &mut Handle,
 ) -> u32
-    requires { depth (type_of column.now.column) ≤ 128 }
     ensures { FiltersBySelection result (Some column.now) (Some selection.now)
         out.old.tree out.new.tree }
 {
-    if column.len() != selection.len() {
+    if column.column().len() != selection.len() {
         return LENGTH_MISMATCH;
     }
-    match filter_selected(alloc, column, selection) {
+    if selection.count == selection.len() {
+        return put_again(alloc, column, out);
+    }
+    match filter_selected(alloc, column.column(), selection) {
         Ok(kept) => put(alloc, kept, out),
         Err(_) => OUT_OF_MEMORY,
     }

@@ -180,3 +180,16 @@ pub fn put_shared(alloc: Global, shared: SharedColumn, out: &mut Handle) -> u32
         }
     }
 }
+
+/// Stores in `out` a second owner of `column`, and frees the column that `out` had. Copies nothing.
+///
+/// Errors: `OUT_OF_MEMORY`; then `out` is unchanged.
+pub fn put_again(alloc: Global, column: &SharedColumn, out: &mut Handle) -> u32
+    ensures column { Makes result out.old.tree out.new.tree (λ made. made ≡ column.now) }
+    ensures status { result ≤ out_of_memory }
+{
+    match column.try_clone() {
+        Ok(shared) => put_shared(alloc, shared, out),
+        Err(_) => OUT_OF_MEMORY,
+    }
+}
