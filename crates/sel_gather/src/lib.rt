@@ -1,9 +1,10 @@
 //! Gathers rows from several columns of one type, nested to any depth.
 //!
-//! Which rows: `row_refs` has iterators over row references, `runs` has runs of consecutive rows.
-//! Their rows: `gather` at row references, `copy` by runs, `one_source` from a single column. Each
-//! takes a column apart by its type, and a file for each kind of column (`primitive`, `boolean`,
-//! `binary`, `view`, `lists` and `list_walk`, `structs`, `null`) copies its part.
+//! Which rows: `row_refs` has iterators over row references, `runs` has runs of consecutive rows,
+//! `run_refs` iterators over them. Their rows: `gather` at row references, `copy` by runs,
+//! `one_source` from a single column. Each takes a column apart by its type, and a file for each
+//! kind of column (`primitive`, `boolean`, `binary`, `view`, `lists` and `list_walk`, `structs`,
+//! `null`) copies its part.
 #![tactic(auto)]
 
 mod binary;
@@ -25,7 +26,7 @@ pub mod one_source;
 mod primitive;
 mod repeat;
 pub mod row_refs;
-mod run_refs;
+pub mod run_refs;
 pub mod runs;
 mod spans;
 mod structs;

@@ -72,7 +72,7 @@ impl Runs for ListedRuns<'_> {
 }
 
 /// An iterator over the row references of runs: those left of the run `first`, and those of the
-/// runs `rest`. In total there are `left`.
+/// runs `rest`. In total there are `left`, at most 2^32 - 1, and each row number is less than 2^32.
 #[derive(Drop)]
 pub struct RunRefs<R: Runs> {
     pub first: Run,

@@ -16,8 +16,8 @@ pub struct Run {
     pub len: u32,
 }
 
-/// A run of no rows.
-pub(crate) const NO_ROWS: Run = Run {
+/// A run of no rows, the `first` of a [`RunRefs`](crate::run_refs::RunRefs) before its first run.
+pub const NO_ROWS: Run = Run {
     source: Some(0),
     start: 0,
     len: 0,
