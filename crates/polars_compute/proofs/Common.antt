@@ -57,7 +57,6 @@ pub use Rattle.sel_gather.proofs.Depths.{one_size, size_of, sizes_of}
 pub use Rattle.sel_gather.proofs.Grown.{finished}
 pub use Rattle.sel_gather.proofs.ItemRuns.{listed_values}
 pub use Rattle.sel_gather.proofs.JoinedRows.{offsets_of, same_numbers}
-pub use Rattle.sel_gather.proofs.KeptBlocks.{Passes}
 pub use Rattle.sel_gather.proofs.ListParts.{few_rows}
 pub use Rattle.sel_gather.proofs.RunLists.{length-unrolled_from}
 pub use Rattle.sel_gather.proofs.Thinned.{memory_alone}
@@ -65,8 +64,8 @@ pub use Rattle.sel_gather.proofs.Within.{few_rows_pass, rows_pass}
 pub use Rattle.sel_gather.specs.Children.{items_in, joined_items, part_at}
 pub use Rattle.sel_gather.specs.Need.{ExceedsRows, IsLimitOrMemory, exceeded_taken}
 pub use Rattle.sel_gather.specs.Picks.{PickFits}
-pub use Rattle.sel_gather.specs.Plans.{IsPicked}
-pub use Rattle.sel_gather.specs.Runs.{expand, picks_of}
+pub use Rattle.sel_gather.specs.Plans.{IsNear, IsPicked}
+pub use Rattle.sel_gather.specs.Runs.{picks_of}
 pub use Rattle.sel_gather.specs.Sources.{first_type}
 pub use Rattle.sel_gather.specs.Validity.{bits_for}
 pub use Rattle.std.proofs.Common.{All, Bool, Bor, Box, Global, IfNone, IfOk, IfSome, IsTrue, List, None, Option, SFits, Some, Vec, [], add-one, ap, append-nil}

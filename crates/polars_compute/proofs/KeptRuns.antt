@@ -1,7 +1,7 @@
 -- Runs of the positions that a mask selects, and of those at indices.
-use Rattle.polars_compute.proofs.Common.{◌≡◌, All, ℕ, ◌+◌, ◌<◌, pos, negsuc, true, false, Bool, List, [], ◌∷◌, length, map, cond, refl, sym, ◌∙◌, arith, get_or, IsTrue}
-use Rattle.polars_compute.proofs.Common.{None, ltb-true, sum_by-cons, count_true, number_rows, Value, Null, Number, pick, PickFits, IsPicked, pick_of, place_pick}
-use Rattle.polars_compute.proofs.Common.{is_within, all_within, select, kept, kept_from, map-map, found, All-map, all_at}
+use Rattle.polars_compute.proofs.Common.{◌≡◌, All, ℕ, ◌+◌, ◌≤◌, ◌<◌, pos, negsuc, true, false, Bool, List, [], ◌∷◌, length, map, cond, refl, ap, sym, ◌∙◌, arith, get_or, IsTrue}
+use Rattle.polars_compute.proofs.Common.{None, ltb-true, sum_by-cons, count_true, number_rows, Value, Null, Number, pick, PickFits, IsPicked, IsNear, max_rows, pick_of, place_pick}
+use Rattle.polars_compute.proofs.Common.{is_within, all_within, select, kept, kept_from, map-map, found, All-map, all_at, unwrap_or}
 use Rattle.polars_compute.proofs.Places.{selected, kept_below}
 use Rattle.std.proofs.lemmas.List.Elements.{All-from_get_or}
 
@@ -13,6 +13,15 @@ picked_kept xs ms long = map-map (found Null (xs ∷ [])) place_pick (kept ms) �
 pub kept_fit : (xs : List Value) (ms : List Bool) → length xs ≡ length ms → All (PickFits (xs ∷ [])) (map place_pick (kept ms))
 kept_fit xs ms long =
     All-map (PickFits (xs ∷ [])) place_pick (kept ms) (All-from_get_or (λ place. place < length xs) (kept ms) 0 (λ k h. omega (arith, kept_below ms k h, long)))
+
+-- None of their row references is null, and each is small.
+pub kept_picked : (places : List ℕ) → All IsPicked (map place_pick places)
+kept_picked places = All-map IsPicked place_pick places (λ k d h. tt)
+
+pub kept_near : (ms : List Bool) → length ms ≤ max_rows → All IsNear (map place_pick (kept ms))
+kept_near ms few =
+    All-map IsNear place_pick (kept ms) (All-from_get_or (λ place. IsNear (place_pick place)) (kept ms) 0
+    (λ k h p is. let place : get_or (kept ms) k 0 ≡ p.1 = ap (λ o. (unwrap_or {T = ℕ × ℕ} o (0, 0)).1) is in omega (arith, kept_below ms k h, place, few)))
 
 -- The row references of indices in bounds are in bounds.
 pub within_fit : (xs indices : List Value) → IsTrue (all_within (length xs) indices) → All (PickFits (xs ∷ [])) (map pick_of indices)

@@ -1,6 +1,6 @@
 -- The positions that a mask selects.
-use Rattle.polars_compute.proofs.Common.{◌≡◌, ℕ, zero, suc, ◌+◌, ◌<◌, Bool, true, false, List, [], ◌∷◌, ◌++◌, length, map, drop, get_or, Option, refl, ap, sym, ◌∙◌}
-use Rattle.polars_compute.proofs.Common.{arith, add-one, append_assoc, range_with_len, drop-drop, get_or-drop, map-append, leading_zeros, picks_of, Passes, place_pick}
+use Rattle.polars_compute.proofs.Common.{◌≡◌, ℕ, zero, suc, ◌+◌, ◌<◌, Bool, true, false, List, [], ◌∷◌, ◌++◌, length, map, drop, get_or, refl, ap, sym, ◌∙◌}
+use Rattle.polars_compute.proofs.Common.{arith, add-one, range_with_len, drop-drop, get_or-drop, length-map, map-append, leading_zeros, picks_of, place_pick, subst}
 use Rattle.polars_compute.proofs.Common.{select, kept, kept_from}
 use Rattle.sel_bits.specs.Bits.{leading_ones}
 
@@ -22,18 +22,28 @@ ones_step (true ∷ l) at =
     ap (λ k. at ∷ k) (ones_step l (at + 1) ∙ ap (λ k. range_with_len (at + 1) n ++ kept_from k (drop n l)) next)
     ∙ ap (λ k. range_with_len at k ++ kept_from (at + (n + 1)) (drop k (true ∷ l))) (sym (add-one n))
 
--- One more run of positions.
-pub places_more : (l after rest all : List Bool) (z n : ℕ) → Passes l after rest z n → (at : ℕ) (so_far new : List (Option (ℕ × ℕ))) → so_far ++ map place_pick (kept_from at l) ≡ map place_pick (kept all) →
-    new ≡ so_far ++ picks_of 0 (at + z) n → new ++ map place_pick (kept_from (at + z + n) rest) ≡ map place_pick (kept all)
-places_more l after rest all z n passes at so_far new before is =
-    let zeros : kept_from at l ≡ kept_from (at + z) after = zeros_step l at ∙ ap (λ k. kept_from (at + k) (drop k l)) (sym passes.zeros) ∙ ap (kept_from (at + z)) (sym passes.cut) in
-    let ones : kept_from (at + z) after ≡ range_with_len (at + z) n ++ kept_from (at + z + n) rest =
-    ones_step after (at + z) ∙ ap (λ k. range_with_len (at + z) k ++ kept_from (at + z + k) (drop k after)) (sym passes.ones) ∙ ap (λ r. range_with_len (at + z) n ++ kept_from (at + z + n) r) (sym passes.left)
-    in
-    ap (λ k. k ++ map place_pick (kept_from (at + z + n) rest)) is
-    ∙ append_assoc so_far (picks_of 0 (at + z) n) (map place_pick (kept_from (at + z + n) rest))
-    ∙ ap (λ k. so_far ++ k) (sym (ap (map place_pick) (zeros ∙ ones) ∙ map-append place_pick (range_with_len (at + z) n) (kept_from (at + z + n) rest)))
-    ∙ before
+some_ones : (l : List Bool) (at : ℕ) → 0 < length (kept_from at l) → 0 < leading_ones (drop (leading_zeros l) l)
+some_ones [] at h = absurd (omega (arith, h))
+some_ones (true ∷ l) at h = omega arith
+some_ones (false ∷ l) at h = subst (λ k. 0 < leading_ones (drop k (false ∷ l))) (sym (add-one (leading_zeros l))) (some_ones l (at + 1) h)
+
+-- The positions that are left after one more run, which is not empty if there is a position.
+module _ (bits : List Bool) (at z n : ℕ) (zeros : z ≡ leading_zeros (drop at bits)) (ones : n ≡ leading_ones (drop (at + z) bits)) where
+  pub run_kept : map place_pick (kept_from at (drop at bits)) ≡ picks_of 0 (at + z) n ++ map place_pick (kept_from (at + z + n) (drop (at + z + n) bits))
+  run_kept =
+      let skipped : kept_from at (drop at bits) ≡ kept_from (at + z) (drop (at + z) bits) =
+      zeros_step (drop at bits) at ∙ ap (λ k. kept_from (at + k) (drop k (drop at bits))) (sym zeros) ∙ ap (kept_from (at + z)) (drop-drop z at bits)
+      in
+      let passed : kept_from (at + z) (drop (at + z) bits) ≡ range_with_len (at + z) n ++ kept_from (at + z + n) (drop (at + z + n) bits) =
+      ones_step (drop (at + z) bits) (at + z) ∙ ap (λ k. range_with_len (at + z) k ++ kept_from (at + z + k) (drop k (drop (at + z) bits))) (sym ones)
+      ∙ ap (λ l. range_with_len (at + z) n ++ kept_from (at + z + n) l) (drop-drop n (at + z) bits)
+      in
+      ap (map place_pick) (skipped ∙ passed) ∙ map-append place_pick (range_with_len (at + z) n) (kept_from (at + z + n) (drop (at + z + n) bits))
+
+  pub run_some : 0 < length (map place_pick (kept_from at (drop at bits))) → 0 < n
+  run_some left =
+      let ones_left = ap leading_ones (sym (drop-drop z at bits) ∙ ap (λ k. drop k (drop at bits)) zeros) in
+      omega (arith, ones, ones_left, some_ones (drop at bits) at (omega (arith, left, length-map (kept_from at (drop at bits)) place_pick)))
 
 -- ---- each position is in bounds
 

@@ -1,41 +1,64 @@
 //! Row references of one column, built from a mask or from indices.
 
-ghost use Rattle.std.specs.Prelude.{◌≡◌, ◌≤◌, ◌<◌, slice_index_or, length, map, IfOk, IfErr};
-ghost use Rattle.sel_bits.specs.Faults.{IsOutOfMemory};
+ghost use Rattle.std.specs.Prelude.{◌≡◌, ◌≤◌, ◌<◌, slice_index_or, drop, length, map};
 ghost use Rattle.sel_bits.specs.Limits.{max_rows};
 ghost use Rattle.sel_arrow.specs.Columns.{primitive_rows};
 ghost use Rattle.sel_arrow.specs.Value.{Null};
-ghost use Rattle.sel_gather.specs.Runs.{expand};
 ghost use Rattle.polars_compute.specs.Pick.{pick_of, place_pick};
-ghost use Rattle.polars_compute.specs.Select.{kept};
+ghost use Rattle.polars_compute.specs.Select.{kept_from};
 
 use sel_arrow::array::Array;
 use sel_arrow::primitive::IdxArr;
 use sel_bits::bitmap::Bitmap;
-use sel_bits::faults::PolarsResult;
 use sel_bits::words::{first_word, whole_word};
 use sel_gather::row_refs::Places;
-use sel_gather::runs::{Run, push_run};
-use std::alloc::Global;
+use sel_gather::run_refs::Runs;
+use sel_gather::runs::Run;
 
-/// Returns the maximal runs of true bits in `mask`, in order.
-pub(crate) fn runs_of_mask(alloc: Global, mask: &Bitmap) -> PolarsResult<Vec<Run>>
-    requires { length mask.now.bits ≤ max_rows }
-    ensures picks { IfOk result (λ runs. expand runs.items ≡
-        map place_pick (kept mask.now.bits)) }
-    ensures refusal { IfErr result IsOutOfMemory }
-{
-    let mut runs = Vec::with_capacity(alloc, count_runs(mask))?;
-    let mut rest = mask.try_clone()?;
-    let mut start = 0;
-    while !rest.is_empty() {
-        start += rest.take_leading_zeros() as u32;
-        let len = rest.take_leading_ones() as u32;
-        let source = Some(0);
-        push_run(&mut runs, Run { source, start, len })?;
-        start += len;
+/// An iterator over the maximal runs of true bits in `mask`, as rows of source 0, from bit `at` on.
+///
+/// A run is read from the mask when it is next, so that the runs are not listed.
+#[derive(Drop)]
+pub(crate) struct MaskRuns<'a> {
+    pub(crate) mask: &'a Bitmap,
+    pub(crate) at: usize,
+    pub(crate) ghost within: { at ≤ length mask.now.bits },
+    pub(crate) ghost few: { length mask.now.bits ≤ max_rows },
+}
+
+impl Runs for MaskRuns<'_> {
+    ghost picks = { λ runs. map place_pick (kept_from runs.at (drop runs.at runs.mask.now.bits)) };
+
+    #[inline(always)]
+    fn next_run(&mut self) -> Run {
+        let start = self.at + self.mask.zeros_from(self.at);
+        let len = self.mask.ones_from(start);
+        self.at = start + len;
+        Run {
+            source: Some(0),
+            start: start as u32,
+            len: len as u32,
+        }
     }
-    Ok(runs)
+
+    #[inline(always)]
+    fn again(&self) -> Self {
+        MaskRuns {
+            mask: self.mask,
+            at: self.at,
+        }
+    }
+
+    #[inline(always)]
+    fn has_nulls(&self) -> bool {
+        false
+    }
+
+    // (also the runs before bit `at`)
+    #[inline(always)]
+    fn run_count(&self) -> usize {
+        count_runs(self.mask)
+    }
 }
 
 /// Returns the number of maximal runs of true bits in `mask`. Only capacity depends on the result.

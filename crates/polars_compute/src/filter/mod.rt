@@ -16,7 +16,7 @@ pub mod primitive;
 pub mod scalar;
 pub mod selection;
 
-use crate::runs::runs_of_mask;
+use crate::runs::MaskRuns;
 pub use boolean::filter_boolean_kernel;
 use boolean::{filter_counted_booleans, filter_validity};
 use fixed_size_list::filter_child;
@@ -31,7 +31,9 @@ use sel_arrow::primitive::{ArrowPrimitive, PrimitiveArray};
 use sel_arrow::utf8view::Utf8ViewArray;
 use sel_bits::bitmap::Bitmap;
 use sel_bits::faults::PolarsResult;
-use sel_gather::one_source::collect_one;
+use sel_gather::gather::collect_rising;
+use sel_gather::run_refs::RunRefs;
+use sel_gather::runs::NO_ROWS;
 pub use selection::Selection;
 use selection::first_kept;
 use std::alloc::Global;
@@ -265,7 +267,8 @@ fn filter_lists(
     Ok(ArrayRef { column })
 }
 
-/// Returns the rows of a column whose bit is set, copied by runs.
+/// Returns the rows of a column whose bit is set, gathered by the runs of set bits, which are read
+/// from the mask and not listed.
 ///
 /// The kept rows require no more rows or bytes at any depth than all rows, so no limit is exceeded.
 fn filter_runs(
@@ -283,9 +286,14 @@ fn filter_runs(
     ensures dtype { IfOk result (λ kept. type_of kept.column ≡ type_of column.now) }
     ensures refusal { IfErr result IsOutOfMemory }
 {
-    let runs = runs_of_mask(alloc, mask)?;
-    let kept = collect_one(alloc, column, &runs, count)?;
-    Ok(kept)
+    let plan = RunRefs {
+        first: NO_ROWS,
+        rest: MaskRuns { mask, at: 0 },
+        left: count,
+    };
+    let sources = [column];
+    let column = collect_rising(alloc, &sources, &plan)?;
+    Ok(ArrayRef { column })
 }
 
 /// Returns one null for each set bit of `_mask`.

@@ -1,30 +1,33 @@
-use Rattle.polars_compute.proofs.Common.{◌∷◌, [], All, ◌∙◌, ap, sym, subst, length, length-map, err_from_is_err_and, rows, type_of, Null, pick, PickFits, expand}
-use Rattle.polars_compute.proofs.Common.{memory_alone, exceeded_limits, place_pick, kept}
-use Rattle.polars_compute.proofs.KeptRuns.{picked_kept, kept_fit, count_kept}
+use Rattle.polars_compute.proofs.Common.{◌∷◌, [], ◌∙◌, arith, sym, subst, length, length-map, map, err_from_is_err_and, rows, type_of, Null, pick}
+use Rattle.polars_compute.proofs.Common.{memory_alone, exceeded_limits, exceeded_taken, place_pick, kept}
+use Rattle.std.proofs.lemmas.List.Sums.{count_by-le-length}
+use Rattle.sel_gather.proofs.OneSource.{one_source}
+use Rattle.polars_compute.proofs.KeptRuns.{picked_kept, kept_fit, kept_near, count_kept}
 use Rattle.polars_compute.proofs.Needs.{kept_fits}
 use Rattle.polars_compute.proofs.filter.filter_runs.Goals as goal
 
-pub collect_one-requires-clause-fits : goal.collect_one-requires-clause-fits
-collect_one-requires-clause-fits c =
-    let runs = ap expand c.deref.ensures.value ∙ c.in_ok-runs.ensures.picks in
-    subst (All (PickFits (rows c.args.column.now ∷ []))) (sym runs) (kept_fit (rows c.args.column.now) c.args.mask.now.bits c.requires.long)
+pub invariant_of-plan-2 : goal.invariant_of-plan-2
+invariant_of-plan-2 c =
+    let mask = c.args.mask.now.bits in
+    record {
+      count = length-map (kept mask) place_pick ∙ count_kept mask ∙ sym c.requires.count;
+      few = omega (arith, c.requires.count, count_by-le-length (λ b. b) mask, c.requires.few);
+      near = kept_near mask c.requires.few;
+    }
 
-pub collect_one-requires-clause-len : goal.collect_one-requires-clause-len
-collect_one-requires-clause-len c =
-    let runs = ap expand c.deref.ensures.value ∙ c.in_ok-runs.ensures.picks in
-    ap length runs ∙ length-map (kept c.args.mask.now.bits) place_pick ∙ count_kept c.args.mask.now.bits ∙ sym c.requires.count
+pub collect_rising-requires-clause-fits : goal.collect_rising-requires-clause-fits
+collect_rising-requires-clause-fits c = kept_fit (rows c.args.column.now) c.args.mask.now.bits c.requires.long
 
-pub returns-in_err-kept-clause-refusal : goal.returns-in_err-kept-clause-refusal
-returns-in_err-kept-clause-refusal c =
-    let p = err_from_is_err_and c.from_residual-in_err-kept.result c.from_residual-in_err-kept.ensures.1 in
-    let runs = ap expand c.deref.ensures.value ∙ c.in_ok-runs.ensures.picks in
-    let picked = ap (pick Null (rows c.args.column.now ∷ [])) runs ∙ picked_kept (rows c.args.column.now) c.args.mask.now.bits c.requires.long in
+pub returns-in_err-column-clause-refusal : goal.returns-in_err-column-clause-refusal
+returns-in_err-column-clause-refusal c =
+    let p = err_from_is_err_and c.from_residual.result c.from_residual.ensures.1 in
     let column = c.args.column.now in
+    let mask = c.args.mask.now.bits in
+    let picked = pick Null (rows column ∷ []) (map place_pick (kept mask)) in
     rw (p.1, p.2)
-    (memory_alone (exceeded_limits (type_of column) (pick Null (rows column ∷ []) (expand c.deref.result.now))) c.in_err-kept.field-0.0
-    (λ limit h. kept_fits column c.requires.formed c.args.mask.now.bits limit (subst (λ l. exceeded_limits (type_of column) l limit) picked h)) c.in_err-kept.ensures.refusal)
+    (memory_alone (exceeded_taken (type_of column) (column ∷ []) picked) c.in_err-column.field-0.0
+    (λ limit h. kept_fits column c.requires.formed mask limit (subst (λ l. exceeded_limits (type_of column) l limit) (picked_kept (rows column) mask c.requires.long) (one_source column c.requires.formed picked limit h)))
+    c.in_err-column.ensures.refusal)
 
 pub returns-clause-rows : goal.returns-clause-rows
-returns-clause-rows c =
-    let runs = ap expand c.deref.ensures.value ∙ c.in_ok-runs.ensures.picks in
-    c.in_ok-kept.ensures.rows ∙ ap (pick Null (rows c.args.column.now ∷ [])) runs ∙ picked_kept (rows c.args.column.now) c.args.mask.now.bits c.requires.long
+returns-clause-rows c = c.in_ok-column.ensures.rows ∙ picked_kept (rows c.args.column.now) c.args.mask.now.bits c.requires.long
