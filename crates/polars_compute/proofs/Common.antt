@@ -13,13 +13,11 @@ pub use Rattle.polars_compute.specs.Need.{so_many_bytes, so_many_rows}
 pub use Rattle.polars_compute.specs.Pick.{all_below, all_within, found, is_within, pick, pick_of, place_pick, take_rows}
 pub use Rattle.polars_compute.specs.Reverse.{last_to_first}
 pub use Rattle.polars_compute.specs.Select.{effective_mask, is_true, kept, kept_from, select}
-pub use Rattle.polars_compute.specs.Spans.{EndsBy, span_bytes, span_rows}
 pub use Rattle.polars_compute.specs.Steps.{entry_place, narrowed, near_index, near_place}
 pub use Rattle.polars_compute.specs.TakenFields.{exceeded_in_taken}
 pub use Rattle.polars_compute.specs.Trim.{IsRun}
-pub use Rattle.polars_compute.specs.ValidPicks.{live_index, valid_pick}
+pub use Rattle.polars_compute.specs.ValidPicks.{bit_or_true, live_index, valid_pick}
 pub use Rattle.polars_compute.specs.Widths.{row_width}
-pub use Rattle.polars_compute.specs.declared.gather.generic_binary.Span.{Span}
 pub use Rattle.sel_arrow.proofs.ByteRows.{get_or-pieces, length-pieces}
 pub use Rattle.sel_arrow.proofs.Lists.{all_at, and_first, and_second, both}
 pub use Rattle.sel_arrow.proofs.NestedParts.{mapped_more, tuples_type}

@@ -2,7 +2,6 @@ pub mod BlockNeeds
 pub mod BlockTakes
 pub mod BlockTests
 pub mod Blocks
-pub mod Collects
 pub mod Common
 pub mod Dictionaries
 pub mod EntryPlaces

@@ -1,154 +1,235 @@
--- Binary rows at indices, as spans of bytes.
-use Rattle.polars_compute.proofs.Common.{◌≡◌, ℕ, zero, suc, ◌+◌, ◌-◌, ◌≤◌, ◌<◌, ℤ, pos, Bool, true, false, List, [], ◌∷◌, length, map, take, drop, get_or, replicate}
-use Rattle.polars_compute.proofs.Common.{Option, Some, None, refl, ap, sym, ◌∙◌, subst, arith, if◌then◌else◌, ◌<ℤ◌, length-map, get_or_past, Bits, hidden, masked, Covers}
-use Rattle.polars_compute.proofs.Common.{IsRising, magnitudes, last_offset, pieces, rows_between, get_or-pieces, length-pieces, Value, Null, validities, bits_for}
-use Rattle.polars_compute.proofs.Common.{ends_from, joined_bytes, Limit, ByteLimit, PolarsError, refused_more, byte_count, bytes_needed, ExceedsBytes, IsLimitOrMemory}
-use Rattle.polars_compute.proofs.Common.{found, pick, pick_of, take_rows, is_within, all_within, span_bytes, span_rows, live_index, valid_pick, Span, map-map, offsets_of}
-use Rattle.polars_compute.proofs.Common.{same_numbers, and_first, and_second}
+-- Binary rows at indices: where they begin in the bytes of their source, and where they end in the result.
+use Rattle.polars_compute.proofs.Common.{◌≡◌, ℕ, zero, suc, ◌+◌, ◌-◌, ◌≤◌, ◌<◌, ℤ, pos, Bool, true, false, List, [], ◌∷◌, ◌++◌, length, map, take, drop, get_or, negsuc, ◌≤ℤ◌}
+use Rattle.polars_compute.proofs.Common.{Option, Some, None, refl, ap, sym, ◌∙◌, subst, arith, if◌then◌else◌, length-map, length-replicate, get_or-map, take_more, ltb-true, map-append, append-nil, zero-add, flat_map-append, option_map, ints}
+use Rattle.polars_compute.proofs.Common.{Bits, hidden, masked, number_rows, Covers, valid_at, length-number_rows, length-part, IsRising, last_offset, pieces, rows_between, get_or-pieces, length-pieces}
+use Rattle.polars_compute.proofs.Common.{Value, Null, Number, is_valid, validities, bits_for, finished, ends_from, joined_bytes, byte_count, bytes_needed, all_at, and_first, and_second, nat_lt, magnitudes, offsets_of, same_numbers}
+use Rattle.polars_compute.proofs.Common.{found, pick_of, take_rows, is_within, all_within, live_index, valid_pick, bit_or_true}
+use Rattle.std.specs.List.{AllZip}
+use Rattle.std.proofs.lemmas.Slice.Zip.{all_zipped_more}
 use Rattle.sel_arrow.specs.Pieces.{byte_rows}
 use Rattle.sel_arrow.specs.Value.{Bytes}
-use Rattle.sel_gather.proofs.JoinedRows.{rebuilt as rebuilt_rows}
-use Rattle.polars_compute.specs.JoinedBytes.{AllBytesRows}
-use Rattle.polars_compute.proofs.Takes.{hidden_trues, length-pick, row_taken, within_as}
+use Rattle.sel_bits.specs.Offsets.{IsOffsets}
+use Rattle.sel_bits.specs.Signs.{magnitude}
+use Rattle.sel_bits.proofs.OffsetLemmas.{shown_at}
+use Rattle.sel_gather.proofs.JoinedRows.{built_rows, column_bytes, ends-append, needed-append, needed_part, picked_bytes, rebuilt}
+use Rattle.polars_compute.specs.JoinedBytes.{bytes_of}
+use Rattle.polars_compute.specs.Spans.{AreStarts, BeginsAt}
+use Rattle.polars_compute.proofs.Takes.{by_validity, length-pick, within_as}
 
--- ---- rows of which none is null
+-- ---- the indices of valid rows
 
-pub length-span_rows : (bytes : List ℕ) (spans : List Span) → length (span_rows bytes spans) ≡ length spans
-length-span_rows bytes spans = length-map spans (λ span. Bytes (span_bytes bytes span))
-
-all_bytes : {A : Type 0} (f : A → List ℕ) → (xs : List A) → AllBytesRows (map (λ x. Bytes (f x)) xs)
-all_bytes f [] k h = absurd (omega (arith, h))
-all_bytes f (x ∷ xs) zero h = tt
-all_bytes f (x ∷ xs) (suc k) h = all_bytes f xs k (omega (arith, h))
-
-all_valid : {A : Type 0} (f : A → List ℕ) → (xs : List A) → replicate (length xs) true ≡ validities (map (λ x. Bytes (f x)) xs)
-all_valid f [] = refl
-all_valid f (x ∷ xs) = ap (λ l. true ∷ l) (all_valid f xs)
-
--- A column that is built from the spans has their rows.
-pub rebuilt : (bytes : List ℕ) (spans : List Span) → byte_rows (0 ∷ ends_from 0 (span_rows bytes spans)) (joined_bytes (span_rows bytes spans)) None ≡ span_rows bytes spans
-rebuilt bytes spans =
-    rebuilt_rows (span_rows bytes spans) None (length spans) (all_bytes (span_bytes bytes) spans) (length-span_rows bytes spans) (all_valid (span_bytes bytes) spans)
-
-pub pos_same : (m n : ℕ) → pos m ≡ pos n → m ≡ n
-pos_same m n e = cc
-
--- Rows that need as many bytes exceed the same limits.
-pub exceeds_as : (greatest : ℤ) (rows others : List Value) (fault : PolarsError) → bytes_needed rows ≡ bytes_needed others → IsLimitOrMemory (ExceedsBytes greatest rows) fault → IsLimitOrMemory (ExceedsBytes greatest others) fault
-exceeds_as greatest rows others fault same = refused_more (ExceedsBytes greatest rows) (ExceedsBytes greatest others) fault one
+one_live : (validity : Option Bits) (rows : List Value) (index : Value) → Covers validity (length rows) → is_within (length rows) index ≡ true →
+    found Null (rows ∷ []) (pick_of (live_index validity index)) ≡ found Null (masked validity rows ∷ []) (pick_of index)
+one_live validity rows (Number (pos i)) covers within =
+    by (valid_at validity i) ∙ by_validity (valid_at validity i) validity rows i (get_or rows i Null) refl (ltb-true i (length rows) within) covers refl
   where
-    one : (limit : Limit) → ExceedsBytes greatest rows limit → ExceedsBytes greatest others limit
-    one ByteLimit h = subst (λ n. greatest <ℤ pos n) same h
-    one limit h = absurd h
+    by : (b : Bool) → found Null (rows ∷ []) (pick_of (if b then Number (pos i) else Null)) ≡ (if b then get_or rows i Null else Null)
+    by true = refl
+    by false = refl
+one_live validity rows index covers within = refl
 
--- ---- the span between two offsets
+-- The rows at these indices, without the validity, are those at the indices.
+pub live_taken : (validity : Option Bits) (rows indices : List Value) → Covers validity (length rows) → all_within (length rows) indices ≡ true →
+    take_rows rows (map (live_index validity) indices) ≡ take_rows (masked validity rows) indices
+live_taken validity rows [] covers within = refl
+live_taken validity rows (index ∷ indices) covers within =
+    (λ i. one_live validity rows index covers (and_first _ _ within) i ∷ live_taken validity rows indices covers (and_second _ _ within) i)
 
--- No part begins at the last offset or after it.
-pub span_none : (ms bytes : List ℕ) (valid : Bool) (place : ℕ) → length ms ≤ (if valid then place else 0) + 1 → [] ≡ (if valid then get_or (pieces ms bytes) place [] else [])
-span_none ms bytes true place past = sym (get_or_past (pieces ms bytes) place [] (omega (arith, length-pieces ms bytes, past)))
-span_none ms bytes false place past = refl
+-- ---- the index and the row at a position
 
-pub span_part : (ms bytes : List ℕ) (valid : Bool) (place start end : ℕ) → (if valid then place else 0) + 1 < length ms →
-    start ≡ get_or ms (if valid then place else 0) 0 → end ≡ get_or ms ((if valid then place else 0) + 1) 0 →
-    take (if valid then end - start else 0) (drop start bytes) ≡ (if valid then get_or (pieces ms bytes) place [] else [])
-span_part ms bytes true place start end inside from to =
-    (λ i. take (to i - from i) (drop (from i) bytes)) ∙ sym (get_or-pieces ms bytes place (omega (arith, inside)))
-span_part ms bytes false place start end inside from to = refl
+-- The bits of a validity, each read from the bits alone.
+pub bit_valid : (validity : Option Bits) (k : ℕ) → bit_or_true (option_map (λ v. v.bits) validity) k ≡ valid_at validity k
+bit_valid None k = refl
+bit_valid (Some v) k = refl
 
-pub span_ends : (ms : List ℕ) (valid : Bool) (at start end : ℕ) → IsRising ms → at + 1 < length ms → start ≡ get_or ms at 0 → end ≡ get_or ms (at + 1) 0 →
-    start + (if valid then end - start else 0) ≤ last_offset ms
-span_ends ms true at start end rises inside from to =
-    omega (arith, from, to, rises.rising at (at + 1) (omega arith) inside, rises.rising (at + 1) (length ms - 1) (omega (arith, inside)) (omega (arith, inside)))
-span_ends ms false at start end rises inside from to =
-    omega (arith, from, rises.rising at (length ms - 1) (omega (arith, inside)) (omega (arith, inside)))
+module _ (places : List ℕ) (validity : Option Bits) (k : ℕ) (inside : k < length places) (covers : Covers validity (length places)) where
+  abbrev indices : List Value
+  indices = number_rows pos places validity
 
--- ---- one index
+  index_at : get_or indices k Null ≡ (if valid_at validity k then Number (pos (get_or places k 0)) else Null)
+  index_at =
+      let number = λ (x : ℕ). Number (pos x) in
+      sym
+      (by_validity (valid_at validity k) validity (map number places) k (number (get_or places k 0)) refl (rw length-map inside) (λ v there. rw length-map (covers v there)) (sym (get_or-map number places k 0 Null inside)))
 
-module _ (validity : Option Bits) (parts : List (List ℕ)) (covers : Covers validity (length parts)) where
-  one_live : (index : Value) (b : Bool) → valid_pick validity (pick_of index) ≡ b →
-      (if b then Bytes (found [] (parts ∷ []) (pick_of (if b then index else Null))) else Null) ≡ (if valid_pick validity (pick_of index) then Bytes (found [] (parts ∷ []) (pick_of index)) else Null)
-  one_live index true e = ap (λ c. if c then Bytes (found [] (parts ∷ []) (pick_of index)) else Null) (sym e)
-  one_live index false e = ap (λ c. if c then Bytes (found [] (parts ∷ []) (pick_of index)) else Null) (sym e)
+  below : k < length indices
+  below = omega (arith, length-number_rows pos places validity, inside)
 
-  -- The row at an index, by the index of a valid row.
-  one_row : (index : Value) → is_within (length parts) index ≡ true →
-      (if valid_pick validity (pick_of index) then Bytes (found [] (parts ∷ []) (pick_of (live_index validity index))) else Null) ≡ found Null (masked validity (map Bytes parts) ∷ []) (pick_of index)
-  one_row index within = one_live index (valid_pick validity (pick_of index)) refl ∙ row_taken Bytes validity parts [] index covers within
+  -- A valid index refers to a row.
+  pub place_within : (n : ℕ) (valid : Bool) → all_within n indices ≡ true → valid ≡ valid_at validity k → valid ≡ true → get_or places k 0 < n
+  place_within n valid within is set =
+      let here : is_within n (if valid then Number (pos (get_or places k 0)) else Null) ≡ true = ap (λ b. is_within n (if b then Number (pos (get_or places k 0)) else Null)) is ∙ sym (ap (is_within n) index_at) ∙ all_at (is_within n) indices k Null within below in
+      ltb-true (get_or places k 0) n (sym (ap (λ b. is_within n (if b then Number (pos (get_or places k 0)) else Null)) set) ∙ here)
 
-  counted : (index : Value) (b : Bool) → valid_pick validity (pick_of index) ≡ b →
-      byte_count (Bytes (found [] (parts ∷ []) (pick_of (if b then index else Null)))) ≡ byte_count (if b then Bytes (found [] (parts ∷ []) (pick_of (if b then index else Null))) else Null)
-  counted index true e = refl
-  counted index false e = refl
-
-  one_count : (index : Value) → is_within (length parts) index ≡ true →
-      byte_count (Bytes (found [] (parts ∷ []) (pick_of (live_index validity index)))) ≡ byte_count (found Null (masked validity (map Bytes parts) ∷ []) (pick_of index))
-  one_count index within = counted index (valid_pick validity (pick_of index)) refl ∙ ap byte_count (one_row index within)
-
-  -- ---- all indices
-
-  list_live : (indices : List Value) → all_within (length parts) indices ≡ true →
-      hidden (map (valid_pick validity) (map pick_of indices)) (map Bytes (pick [] (parts ∷ []) (map pick_of (map (live_index validity) indices)))) ≡ take_rows (masked validity (map Bytes parts)) indices
-  list_live [] within = refl
-  list_live (index ∷ indices) within =
-      (λ i. one_row index (and_first _ _ within) i ∷ list_live indices (and_second _ _ within) i)
-
-  -- Null rows have empty spans, so the spans need as many bytes as the rows.
-  pub need_live : (indices : List Value) → all_within (length parts) indices ≡ true →
-      bytes_needed (map Bytes (pick [] (parts ∷ []) (map pick_of (map (live_index validity) indices)))) ≡ bytes_needed (take_rows (masked validity (map Bytes parts)) indices)
-  need_live [] within = refl
-  need_live (index ∷ indices) within =
-      omega (arith, one_count index (and_first _ _ within), need_live indices (and_second _ _ within))
-
-  pub rows_live : (taken : Option Bits) (ys : List (List ℕ)) (indices : List Value) → all_within (length parts) indices ≡ true →
-      ys ≡ pick [] (parts ∷ []) (map pick_of (map (live_index validity) indices)) → bits_for (length indices) taken ≡ map (valid_pick validity) (map pick_of indices) →
-      masked taken (map Bytes ys) ≡ take_rows (masked validity (map Bytes parts)) indices
-  rows_live (Some bits) ys indices within values valid = (λ i. hidden (valid i) (map Bytes (values i))) ∙ list_live indices within
-  rows_live None ys indices within values valid =
-      sym (hidden_trues (length indices) (map Bytes ys)) ∙ (λ i. hidden (valid i) (map Bytes (values i))) ∙ list_live indices within
+  pub row_at : (rows : List Value) (valid : Bool) → valid ≡ valid_at validity k → get_or (take_rows rows indices) k Null ≡ found Null (rows ∷ []) (pick_of (if valid then Number (pos (get_or places k 0)) else Null))
+  row_at rows valid is =
+      get_or-map (found Null (rows ∷ [])) (map pick_of indices) k None Null (omega (arith, below, length-map indices pick_of))
+      ∙ ap (found Null (rows ∷ [])) (get_or-map pick_of indices k Null None below)
+      ∙ ap (λ index. found Null (rows ∷ []) (pick_of index)) (index_at ∙ ap (λ b. if b then Number (pos (get_or places k 0)) else Null) (sym is))
 
 -- ---- the column
 
+module _ (parts : List (List ℕ)) where
+  bits_of : (bits : List Bool) (places : List ℕ) → length bits ≡ length places → all_within (length parts) (hidden bits (map (λ x. Number (pos x)) places)) ≡ true →
+      bits ≡ validities (take_rows (map Bytes parts) (hidden bits (map (λ x. Number (pos x)) places)))
+  bits_of [] [] same within = refl
+  bits_of (true ∷ bits) (place ∷ places) same within =
+      let rest = all_within (length parts) (hidden bits (map (λ x. Number (pos x)) places)) in
+      let row = get_or-map Bytes parts place [] Null (ltb-true place (length parts) (and_first (nat_lt place (length parts)) rest within)) in
+      (λ i. is_valid (sym row i) ∷ bits_of bits places (omega (arith, same)) (and_second (nat_lt place (length parts)) rest within) i)
+  bits_of (false ∷ bits) (place ∷ places) same within = ap (λ l. false ∷ l) (bits_of bits places (omega (arith, same)) within)
+  bits_of bits places same within = absurd (omega (arith, same))
+
+long : (n : ℕ) (validity : Option Bits) → Covers validity n → length (bits_for n validity) ≡ n
+long n None covers = length-replicate n true
+long n (Some v) covers = covers v refl
+
+module _ (offsets bytes places : List ℕ) (validity : Option Bits) (covers : Covers validity (length places)) (within : all_within (rows_between offsets) (number_rows pos places validity) ≡ true) where
+  abbrev rows : List Value
+  rows = take_rows (byte_rows offsets bytes None) (number_rows pos places validity)
+
+  bits : bits_for (length places) validity ≡ validities rows
+  bits =
+      let shown = finished (λ (x : ℕ). Number (pos x)) places validity (bits_for (length places) validity) (length places) refl refl in
+      let inside = within_as (rows_between offsets) (length (pieces offsets bytes)) (number_rows pos places validity) (sym (length-pieces offsets bytes)) within in
+      bits_of (pieces offsets bytes) (bits_for (length places) validity) places (long (length places) validity covers) (sym (ap (all_within (length (pieces offsets bytes))) shown) ∙ inside)
+      ∙ ap (λ l. validities (take_rows (byte_rows offsets bytes None) l)) (sym shown)
+
+  pub count : length rows ≡ length places
+  count = length-pick Null (byte_rows offsets bytes None ∷ []) (number_rows pos places validity) ∙ length-number_rows pos places validity
+
+  -- A column of the rows' ends and bytes, with the validity of the indices, has the rows.
+  pub column_rows : byte_rows (0 ∷ ends_from 0 rows) (joined_bytes rows) validity ≡ rows
+  column_rows = rebuilt rows validity (length places) (picked_bytes (byte_rows offsets bytes) (column_bytes offsets bytes) (None ∷ []) (map pick_of (number_rows pos places validity))) count bits
+
+-- ---- two offsets
+
+-- Values of which the numbers are offsets.
 pub magnitudes_are : {T : Type 0} (number : T → ℤ) → (xs : List T) (ns : List ℕ) → map number xs ≡ map pos ns → IsRising ns → magnitudes number xs ≡ ns
 magnitudes_are number xs ns e rises = same_numbers (magnitudes number xs) ns (sym (offsets_of number xs ns e rises).positive ∙ e)
 
--- The spans are those of the rows at the indices.
-pub record AreTaken (offsets bytes : List ℕ) (validity : Option Bits) (indices : List Value) (spans : List Span) : Type 0 where
-  pub rows : (taken : Option Bits) → bits_for (length indices) taken ≡ map (valid_pick validity) (map pick_of indices) →
-      masked taken (span_rows bytes spans) ≡ take_rows (byte_rows offsets bytes validity) indices
-  pub need : bytes_needed (span_rows bytes spans) ≡ bytes_needed (take_rows (byte_rows offsets bytes validity) indices)
-  pub count : length spans ≡ length indices
+module _ {T : Type 0} (number : T → ℤ) (offsets : List T) (are : IsOffsets number offsets) (place : ℕ) where
+  ordered : (valid : Bool) → (valid ≡ true → place + 1 < length offsets) → ((if valid then place else 0) ≤ (if valid then place + 1 else 0)) × ((if valid then place + 1 else 0) < length (magnitudes number offsets))
+  ordered true inside = (omega arith, omega (arith, inside refl, length-map offsets (λ x. magnitude (number x))))
+  ordered false inside = (omega arith, omega (arith, are.rising.some))
 
-module _ (offsets bytes : List ℕ) (validity : Option Bits) (indices live : List Value) (spans : List Span)
-    (covers : Covers validity (rows_between offsets)) (within : all_within (rows_between offsets) indices ≡ true) (live_is : live ≡ map (live_index validity) indices)
-    (spans_are : map (span_bytes bytes) spans ≡ pick [] (pieces offsets bytes ∷ []) (map pick_of live)) where
-  parts : List (List ℕ)
-  parts = pieces offsets bytes
+  module _ (valid : Bool) (inside : valid ≡ true → place + 1 < length offsets) where
+    pub start_shown : (at : ℕ) (x : T) → at ≡ (if valid then place else 0) → x ≡ get_or offsets at x → number x ≡ pos (get_or (magnitudes number offsets) (if valid then place else 0) 0)
+    start_shown at x at_is is =
+        shown_at number offsets (magnitudes number offsets) (if valid then place else 0) x are.positive (omega (arith, (ordered valid inside).0, (ordered valid inside).1)) (is ∙ ap (λ i. get_or offsets i x) at_is)
 
-  covered : Covers validity (length parts)
-  unfolding parts
-  covered = λ v there. covers v there ∙ sym (length-pieces offsets bytes)
+    pub end_shown : (at : ℕ) (x : T) → at ≡ (if valid then place + 1 else 0) → x ≡ get_or offsets at x → number x ≡ pos (get_or (magnitudes number offsets) (if valid then place + 1 else 0) 0)
+    end_shown at x at_is is = shown_at number offsets (magnitudes number offsets) (if valid then place + 1 else 0) x are.positive (ordered valid inside).1 (is ∙ ap (λ i. get_or offsets i x) at_is)
 
-  inside : all_within (length parts) indices ≡ true
-  unfolding parts
-  inside = within_as (rows_between offsets) (length parts) indices (sym (length-pieces offsets bytes)) within
+    pub span_rises : get_or (magnitudes number offsets) (if valid then place else 0) 0 ≤ get_or (magnitudes number offsets) (if valid then place + 1 else 0) 0
+    span_rises = are.rising.rising (if valid then place else 0) (if valid then place + 1 else 0) (ordered valid inside).0 (ordered valid inside).1
 
-  listed : map (span_bytes bytes) spans ≡ pick [] (parts ∷ []) (map pick_of (map (live_index validity) indices))
-  unfolding parts
-  listed = spans_are ∙ ap (λ l. pick [] (pieces offsets bytes ∷ []) (map pick_of l)) live_is
+-- ---- a row between two offsets
 
-  spans_rows : (taken : Option Bits) → bits_for (length indices) taken ≡ map (valid_pick validity) (map pick_of indices) →
-      masked taken (map (λ span. Bytes (span_bytes bytes span)) spans) ≡ take_rows (byte_rows offsets bytes validity) indices
-  unfolding parts
-  spans_rows taken valid =
-      ap (masked taken) (sym (map-map Bytes (span_bytes bytes) spans)) ∙ rows_live validity parts covered taken (map (span_bytes bytes) spans) indices inside listed valid
+-- The row begins at a position of the bytes, and has this number of bytes.
+pub record IsSpan (bytes : List ℕ) (row : Value) (start len : ℕ) : Type 0 where
+  pub begins : BeginsAt bytes row (pos start)
+  pub count : byte_count row ≡ len
 
-  spans_need : bytes_needed (map (λ span. Bytes (span_bytes bytes span)) spans) ≡ bytes_needed (take_rows (byte_rows offsets bytes validity) indices)
-  unfolding parts
-  spans_need = ap bytes_needed (sym (map-map Bytes (span_bytes bytes) spans) ∙ ap (map Bytes) listed) ∙ need_live validity parts covered indices inside
+part_span : (bytes : List ℕ) (start len : ℕ) → start + len ≤ length bytes → IsSpan bytes (Bytes (take len (drop start bytes))) start len
+part_span bytes start len fits =
+    let long = length-part bytes start len fits in
+    record { begins = (omega (arith, long, fits), ap (λ n. take n (drop start bytes)) (sym long)); count = long }
 
-  spans_count : length spans ≡ length indices
-  spans_count =
-      sym (length-map spans (span_bytes bytes)) ∙ ap (λ (l : List (List ℕ)). length l) spans_are ∙ length-pick [] (pieces offsets bytes ∷ []) live ∙ ap (λ (l : List Value). length l) live_is ∙ length-map indices (live_index validity)
+module _ (offsets bytes : List ℕ) (rises : IsRising offsets) (room : last_offset offsets ≤ length bytes) where
+  pub span_of : (valid : Bool) (place start len : ℕ) → (valid ≡ true → place < rows_between offsets) → start ≡ get_or offsets (if valid then place else 0) 0 →
+      start + len ≡ get_or offsets (if valid then place + 1 else 0) 0 → IsSpan bytes (found Null (byte_rows offsets bytes None ∷ []) (pick_of (if valid then Number (pos place) else Null))) start len
+  span_of true place start len within from to =
+      let below : place < rows_between offsets = within refl in
+      let fits : start + len ≤ length bytes = omega (arith, below, to, room, rises.rising (place + 1) (length offsets - 1) (omega (arith, below)) (omega (arith, below))) in
+      let long : get_or offsets (place + 1) 0 - get_or offsets place 0 ≡ len = omega (arith, from, to) in
+      let row = get_or-map Bytes (pieces offsets bytes) place [] Null (omega (arith, below, length-pieces offsets bytes)) ∙ ap Bytes (get_or-pieces offsets bytes place below ∙ (λ i. take (long i) (drop (sym from i) bytes))) in
+      subst (λ v. IsSpan bytes v start len) (sym row) (part_span bytes start len fits)
+  span_of false place start len within from to =
+      record { begins = (omega (arith, from, room, rises.rising 0 (length offsets - 1) (omega arith) (omega (arith, rises.some))), refl); count = omega (arith, from, to) }
 
-  pub spans_taken : AreTaken offsets bytes validity indices spans
-  spans_taken = record { rows = spans_rows; need = spans_need; count = spans_count }
+-- Row k of the rows at the indices, by the offsets and the places in slices.
+module _ {T : Type 0} (number : T → ℤ) (slice : List T) (offsets bytes : List ℕ) (shown : map number slice ≡ map pos offsets) (rises : IsRising offsets) (room : last_offset offsets ≤ length bytes)
+    (named places : List ℕ) (named_is : named ≡ places) (validity : Option Bits) (covers : Covers validity (length places)) (within : all_within (rows_between offsets) (number_rows pos places validity) ≡ true)
+    (k : ℕ) (inside : k < length named) where
+  here : k < length places
+  here = omega (arith, inside, ap (λ (l : List ℕ). length l) named_is)
+
+  pub placed : (valid : Bool) → valid ≡ bit_or_true (option_map (λ v. v.bits) validity) k → valid ≡ true → get_or named k 0 + 1 < length slice
+  placed valid is set =
+      let below = place_within places validity k here covers (rows_between offsets) valid within (is ∙ bit_valid validity k) set in
+      omega (arith, below, ap (λ l. get_or l k 0) named_is, simp length-map at (ap length shown))
+
+  pub spanned : (valid : Bool) (len : ℕ) → valid ≡ bit_or_true (option_map (λ v. v.bits) validity) k →
+      get_or (magnitudes number slice) (if valid then get_or named k 0 else 0) 0 + len ≡ get_or (magnitudes number slice) (if valid then get_or named k 0 + 1 else 0) 0 →
+      IsSpan bytes (get_or (take_rows (byte_rows offsets bytes None) (number_rows pos places validity)) k Null) (get_or (magnitudes number slice) (if valid then get_or named k 0 else 0) 0) len
+  spanned valid len is to =
+      let ms = magnitudes_are number slice offsets shown rises in
+      let known = is ∙ bit_valid validity k in
+      let start = get_or (magnitudes number slice) (if valid then get_or named k 0 else 0) 0 in
+      let span = span_of offsets bytes rises room valid (get_or places k 0) start len (place_within places validity k here covers (rows_between offsets) valid within known)
+      (λ i. get_or (ms i) (if valid then get_or (named_is i) k 0 else 0) 0) (to ∙ (λ i. get_or (ms i) (if valid then get_or (named_is i) k 0 + 1 else 0) 0)) in
+      subst (λ v. IsSpan bytes v start len) (sym (row_at places validity k here covers (byte_rows offsets bytes None) valid known)) span
+
+-- ---- one more row
+
+end_from : (start : ℕ) (rows : List Value) (k : ℕ) → k ≤ length rows → get_or (start ∷ ends_from start rows) k 0 ≡ start + bytes_needed (take k rows)
+end_from start rows zero h = omega arith
+end_from start [] (suc k) h = absurd (omega (arith, h))
+end_from start (row ∷ rows) (suc k) h = omega (arith, end_from (start + byte_count row) rows k (omega (arith, h)))
+
+zip_at : {A B : Type 0} (R : A → B → Type 0) (xs : List A) (ys : List B) (k : ℕ) (d : A) (e : B) → AllZip R xs ys → k < length xs → R (get_or xs k d) (get_or ys k e)
+zip_at R [] ys k d e all h = absurd (omega (arith, h))
+zip_at R (x ∷ xs) [] k d e all h = absurd all
+zip_at R (x ∷ xs) (y ∷ ys) zero d e all h = all.0
+zip_at R (x ∷ xs) (y ∷ ys) (suc k) d e all h = zip_at R xs ys k d e all.1 (omega (arith, h))
+
+pub length-ends : {T : Type 0} (number : T → ℤ) → (ends : List T) (rows : List Value) → map number ends ≡ map pos (0 ∷ ends_from 0 rows) → length ends ≡ length rows + 1
+length-ends number ends rows is = omega (arith, simp length-map at (ap length is), built_rows rows)
+
+-- No row begins before the first byte.
+pub from_first : (bytes : List ℕ) (row : Value) (start : ℤ) → BeginsAt bytes row start → pos 0 ≤ℤ start
+from_first bytes row (pos start) begins = omega (arith, ints)
+from_first bytes row (negsuc start) begins = absurd begins
+
+module _ (rows : List Value) (k : ℕ) (inside : k < length rows) where
+  pub needed_more : bytes_needed (take (k + 1) rows) ≡ bytes_needed (take k rows) + byte_count (get_or rows k Null)
+  needed_more = omega (arith, ap bytes_needed (take_more rows k Null inside), needed-append (take k rows) (get_or rows k Null ∷ []))
+
+  pub needed_below : bytes_needed (take k rows) + byte_count (get_or rows k Null) ≤ bytes_needed rows
+  needed_below = omega (arith, needed_more, needed_part rows (k + 1))
+
+  ends_more : ends_from 0 (take (k + 1) rows) ≡ ends_from 0 (take k rows) ++ (bytes_needed (take k rows) + byte_count (get_or rows k Null)) ∷ []
+  ends_more =
+      ap (ends_from 0) (take_more rows k Null inside) ∙ ends-append 0 (take k rows) (get_or rows k Null ∷ [])
+      ∙ ap (λ n. ends_from 0 (take k rows) ++ (n + byte_count (get_or rows k Null)) ∷ []) (zero-add (bytes_needed (take k rows)))
+
+  pub ended_more : {T : Type 0} (number : T → ℤ) → (old new : List T) (last : T) (end : ℕ) → map number old ≡ map pos (0 ∷ ends_from 0 (take k rows)) → new ≡ old ++ last ∷ [] → number last ≡ pos end →
+      end ≡ bytes_needed (take k rows) + byte_count (get_or rows k Null) → map number new ≡ map pos (0 ∷ ends_from 0 (take (k + 1) rows))
+  ended_more number old new last end so_far pushed is end_is =
+      let ends = ends_from 0 (take k rows) in
+      ap (map number) pushed ∙ map-append number old (last ∷ []) ∙ (λ i. so_far i ++ is i ∷ [])
+      ∙ sym (map-append pos (0 ∷ ends) (end ∷ [])) ∙ ap (λ n. map pos ((0 ∷ ends) ++ n ∷ [])) end_is ∙ ap (λ l. map pos (0 ∷ l)) (sym ends_more)
+
+  pub started_more : {T : Type 0} (number : T → ℤ) → (bytes : List ℕ) (old new : List T) (start : T) (s : ℕ) → AreStarts number bytes (take k rows) old → new ≡ old ++ start ∷ [] → number start ≡ pos s →
+      BeginsAt bytes (get_or rows k Null) (pos s) → AreStarts number bytes (take (k + 1) rows) new
+  started_more {T} number bytes old new start s so_far pushed is begins =
+      let begins_at : Value → T → Type 0 = λ v x. BeginsAt bytes v (number x) in
+      let more = all_zipped_more begins_at (take k rows) old (get_or rows k Null) start so_far (subst (BeginsAt bytes (get_or rows k Null)) (sym is) begins) in
+      subst (λ l. AllZip begins_at l new) (sym (take_more rows k Null inside)) (subst (AllZip begins_at (take k rows ++ get_or rows k Null ∷ [])) (sym pushed) more)
+
+  pub joined_more : joined_bytes (take (k + 1) rows) ≡ joined_bytes (take k rows) ++ bytes_of (get_or rows k Null)
+  joined_more =
+      ap joined_bytes (take_more rows k Null inside) ∙ flat_map-append bytes_of (take k rows) (get_or rows k Null ∷ [])
+      ∙ ap (λ l. joined_bytes (take k rows) ++ l) (append-nil (bytes_of (get_or rows k Null)))
+
+  -- The end and the start of row k.
+  pub end_at : {T : Type 0} (number : T → ℤ) → (ends : List T) (end : T) → map number ends ≡ map pos (0 ∷ ends_from 0 rows) → end ≡ get_or ends (k + 1) end →
+      number end ≡ pos (bytes_needed (take k rows) + byte_count (get_or rows k Null))
+  end_at number ends end are is =
+      shown_at number ends (0 ∷ ends_from 0 rows) (k + 1) end are (omega (arith, inside, built_rows rows)) is
+      ∙ ap pos (end_from 0 rows (k + 1) (omega (arith, inside)) ∙ zero-add (bytes_needed (take (k + 1) rows)) ∙ needed_more)
+
+  pub start_at : {T : Type 0} (number : T → ℤ) → (bytes : List ℕ) (starts : List T) (start : T) → AreStarts number bytes rows starts → start ≡ get_or starts k start → BeginsAt bytes (get_or rows k Null) (number start)
+  start_at number bytes starts start are is =
+      subst (λ x. BeginsAt bytes (get_or rows k Null) (number x)) (sym is) (zip_at (λ v x. BeginsAt bytes v (number x)) rows starts k Null start are inside)

@@ -7,7 +7,7 @@ use Rattle.sel_arrow.proofs.Rows.{null_number, valid_number}
 
 -- ---- the row at one index
 
-by_validity : (b : Bool) (validity : Option Bits) (vs : List Value) (i : ℕ) (v : Value) → valid_at validity i ≡ b → i < length vs → Covers validity (length vs) → v ≡ get_or vs i Null
+pub by_validity : (b : Bool) (validity : Option Bits) (vs : List Value) (i : ℕ) (v : Value) → valid_at validity i ≡ b → i < length vs → Covers validity (length vs) → v ≡ get_or vs i Null
     → (if b then v else Null) ≡ get_or (masked validity vs) i Null
 by_validity true validity vs i v e inside covers is = is ∙ sym (masked_valid validity vs i e inside covers)
 by_validity false validity vs i v e inside covers is = sym (masked_null validity vs i e inside covers)

@@ -1,3 +1,3 @@
 -- Concatenated rows of bytes.
-pub use Rattle.sel_gather.specs.JoinedBytes.{ends_from, IsBytesRow}
-pub use Rattle.sel_gather.specs.GrownBytes.{bytes_of, joined_bytes, AllBytesRows}
+pub use Rattle.sel_gather.specs.JoinedBytes.{ends_from}
+pub use Rattle.sel_gather.specs.GrownBytes.{bytes_of, joined_bytes}

@@ -1,20 +1,26 @@
--- Rows as spans of bytes, for the internal steps of a take.
-use Rattle.std.specs.Prelude.{ℕ, ◌+◌, ◌≤◌, List, length, map, take, drop}
-use Rattle.sel_arrow.specs.Value.{Value, Bytes}
-use Rattle.polars_compute.specs.declared.gather.generic_binary.Span.{Span}
+-- Binary rows and where they begin in the bytes of their source, for the internal steps of a take.
+use Rattle.std.specs.Prelude.{◌≡◌, ℕ, ◌+◌, ◌≤◌, ℤ, pos, negsuc, List, None, length, take, drop}
+use Rattle.std.specs.List.{AllZip}
+use Rattle.sel_bits.specs.declared.native.NativeType.{Ghosts}
+use Rattle.sel_arrow.specs.Pieces.{byte_rows}
+use Rattle.sel_arrow.specs.Value.{Value}
+use Rattle.sel_arrow.specs.declared.binary.BinaryArray.{BinaryArray}
+use Rattle.polars_compute.specs.JoinedBytes.{bytes_of}
+use Rattle.polars_compute.specs.Need.{byte_count}
 
--- The bytes of a span.
-abbrev pub span_bytes : List ℕ → Span → List ℕ
-span_bytes bytes span = take span.len (drop span.start bytes)
+-- The rows of a binary column without its validity: row i is the bytes from offset i up to offset
+-- i + 1.
+abbrev pub plain_rows : {O : Type 0} {type : Ghosts O} → BinaryArray O type → List Value
+plain_rows column = byte_rows column.offsets column.values None
 
--- The span is within the bytes.
-abbrev pub IsSpanWithin : List ℕ → Span → Type 0
-IsSpanWithin bytes span = span.start + span.len ≤ length bytes
+-- The bytes of a row are those from this position on.
+abbrev pub BeginsAt : List ℕ → Value → ℤ → Type 0
+BeginsAt bytes row (pos start) =
+    (start + byte_count row ≤ length bytes)
+    × (bytes_of row ≡ take (byte_count row) (drop start bytes))
+BeginsAt bytes row (negsuc start) = ⊥
 
--- The span ends at this position or before it.
-abbrev pub EndsBy : ℕ → Span → Type 0
-EndsBy end span = span.start + span.len ≤ end
-
--- The rows of the spans.
-abbrev pub span_rows : List ℕ → List Span → List Value
-span_rows bytes spans = map (λ span. Bytes (span_bytes bytes span)) spans
+-- The bytes of each row are those from its start on.
+abbrev pub AreStarts : {T : Type 0} → (T → ℤ) → List ℕ → List Value → List T → Type 0
+AreStarts number bytes rows starts =
+    AllZip (λ row start. BeginsAt bytes row (number start)) rows starts

@@ -2,7 +2,9 @@
 #![tactic(auto, using(sel_bits::proofs::BitLists::length_bits_from))]
 
 ghost use Rattle.std.specs.Prelude.{◌≡◌, ◌+◌, ◌*◌, ◌<◌, ◌≤◌, length, false, slice_index_or};
+ghost use Rattle.std.specs.Option.{ForSome, option_map};
 ghost use Rattle.sel_bits.specs.Limits.{max_rows};
+ghost use Rattle.polars_compute.specs.ValidPicks.{bit_or_true};
 
 use sel_bits::bitmap::Bitmap;
 use std::marker::Model;
@@ -37,6 +39,16 @@ impl BitSlice<'_> {
         BitSlice { bytes, shift, len }
     }
 
+    /// Returns the bits of a validity, if there is one.
+    pub(crate) fn of_validity(validity: &Option<Bitmap>) -> Option<BitSlice<'_>>
+        ensures { result ≡ option_map (λ v. v.bits) validity.now }
+    {
+        match validity {
+            None => None,
+            Some(bitmap) => Some(BitSlice::of(bitmap)),
+        }
+    }
+
     /// Returns the number of bits.
     #[inline(always)]
     pub(crate) fn len(&self) -> usize
@@ -57,5 +69,21 @@ impl BitSlice<'_> {
     {
         let at = self.shift + i;
         (self.bytes[at / 8] >> (at % 8)) & 1 == 1
+    }
+}
+
+/// Returns bit `i`, or true without bits.
+///
+/// # Requires
+/// `i` is less than the number of bits, and the position of a row.
+#[inline(always)]
+pub(crate) fn bit_or_true(bits: &Option<BitSlice<'_>>, i: usize) -> bool
+    requires inside { ForSome bits.now (λ b. i < length b) }
+    requires few { i < max_rows }
+    ensures { result ≡ bit_or_true bits.now i }
+{
+    match bits {
+        None => true,
+        Some(bits) => bits.get(i),
     }
 }

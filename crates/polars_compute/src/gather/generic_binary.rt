@@ -1,17 +1,18 @@
-//! Binary columns built from spans of bytes.
+//! The bytes of binary columns at indices.
 
-ghost use Rattle.std.specs.Prelude.{◌≡◌, ◌+◌, ◌≤◌, ◌<◌, ◌≤ℤ◌, ◌∷◌, ◌++◌, All, pos, map, length, slice_index_or, IfOk, IfErr, OnOk};
+ghost use Rattle.std.specs.Prelude.{IsTrue, true, ◌≡◌, ◌+◌, ◌-◌, ◌≤◌, ◌<◌, ◌≤ℤ◌, ◌∷◌, ◌++◌, pos, map, length, take, drop, slice_index, if◌then◌else◌, IfOk, IfErr, OnOk};
 ghost use Rattle.sel_bits.specs.Faults.{IsOutOfMemory};
-ghost use Rattle.sel_bits.specs.Limits.{max_rows};
-ghost use Rattle.sel_arrow.specs.Columns.{binary_rows};
-ghost use Rattle.sel_arrow.specs.Masked.{masked, Covers};
-ghost use Rattle.sel_arrow.specs.Value.{Bytes, Null};
+ghost use Rattle.sel_bits.specs.Offsets.{IsOffsets, magnitudes};
+ghost use Rattle.sel_arrow.specs.Columns.{binary_rows, primitive_rows};
+ghost use Rattle.sel_arrow.specs.Pieces.{rows_between};
 ghost use Rattle.polars_compute.specs.JoinedBytes.{ends_from, joined_bytes};
-ghost use Rattle.polars_compute.specs.Need.{byte_count, bytes_needed, IsLimitOrMemory, ExceedsBytes};
-ghost use Rattle.polars_compute.specs.Spans.{span_bytes, span_rows, IsSpanWithin};
+ghost use Rattle.polars_compute.specs.Need.{bytes_needed, IsLimitOrMemory, ExceedsBytes};
+ghost use Rattle.polars_compute.specs.Pick.{all_within, take_rows};
+ghost use Rattle.polars_compute.specs.Spans.{plain_rows, AreStarts};
 
+use crate::gather::bit_slice::{BitSlice, bit_or_true};
 use sel_arrow::binary::BinaryArray;
-use sel_bits::bitmap::Bitmap;
+use sel_arrow::primitive::{IdxArr, PrimitiveArray};
 use sel_bits::buffer::Buffer;
 use sel_bits::faults::{Limit, PolarsError, PolarsResult};
 use sel_bits::native::{NativeType, Offset};
@@ -21,80 +22,32 @@ use std::alloc::Global;
 // The number of bytes up to which a copy moves this many, a constant number, and cuts off the rest.
 const SHORT_ROW: usize = 16;
 
-/// The position of the first byte of a row, and the number of its bytes.
-#[derive(Clone, Copy, Drop)]
-pub(crate) struct Span {
-    pub start: usize,
-    pub len: usize,
-}
-
-/// Binary rows as spans of bytes.
-#[derive(Drop)]
-pub(crate) struct SpanRows<'a> {
-    pub bytes: &'a [u8],
-    pub spans: &'a [Span],
-    pub ghost few: { length spans.now ≤ max_rows },
-    pub ghost within: { All (IsSpanWithin bytes.now) spans.now },
-}
-
-impl SpanRows<'_> {
-    /// Returns the number of rows, at most 4,294,967,295.
-    fn count(&self) -> usize
-        ensures count { result ≡ length (span_rows self.now.bytes.now self.now.spans.now) }
-        ensures few { result ≤ max_rows }
-    {
-        self.spans.len()
-    }
-
-    /// Returns the number of bytes of row `k`.
-    fn row_len(&self, k: usize) -> usize
-        requires { k < length (span_rows self.now.bytes.now self.now.spans.now) }
-        ensures { result ≡ byte_count
-            (slice_index_or (span_rows self.now.bytes.now self.now.spans.now) k Null) }
-    {
-        self.spans[k].len
-    }
-
-    /// Returns the span of row `k`.
-    fn span(&self, k: usize) -> Span
-        requires { k < length (span_rows self.now.bytes.now self.now.spans.now) }
-        ensures bytes { Bytes (span_bytes self.now.bytes.now result) ≡
-            slice_index_or (span_rows self.now.bytes.now self.now.spans.now) k Null }
-        ensures within { IsSpanWithin self.now.bytes.now result }
-    {
-        self.spans[k]
-    }
-}
-
-/// Returns the binary column of all rows, with this validity.
+/// Returns the rows of `values` at `indices`; a null index gives a null row. The validity of
+/// `values` is ignored.
 ///
 /// # Requires
-/// The validity, if there is one, has a bit for each row.
+/// Every non-null index is less than the number of rows of `values`.
 ///
 /// # Errors
 /// `SizeLimit(Limit::Bytes)` if the rows have more bytes than the greatest offset of type `O`;
 /// `OutOfMemory` if an allocation fails.
 pub(crate) fn collect_spans<O: Offset>(
     alloc: Global,
-    rows: &SpanRows<'_>,
-    validity: Option<Bitmap>,
+    values: &BinaryArray<O>,
+    indices: IdxArr,
 ) -> PolarsResult<BinaryArray<O>>
-    requires { Covers validity (length (span_rows rows.now.bytes.now rows.now.spans.now)) }
+    requires { IsTrue (all_within (rows_between values.now.offsets) (primitive_rows indices)) }
     ensures rows { IfOk result (λ column. binary_rows column ≡
-        masked validity (span_rows rows.now.bytes.now rows.now.spans.now)) }
-    ensures fits { IfOk result (λ _. pos
-        (bytes_needed (span_rows rows.now.bytes.now rows.now.spans.now)) ≤ℤ O.number O.GREATEST) }
-    ensures refusal { IfErr result (IsLimitOrMemory
-        (ExceedsBytes (O.number O.GREATEST) (span_rows rows.now.bytes.now rows.now.spans.now))) }
+        take_rows (plain_rows values.now) (primitive_rows indices)) }
+    ensures fits { IfOk result (λ _. pos (bytes_needed
+        (take_rows (plain_rows values.now) (primitive_rows indices))) ≤ℤ O.number O.GREATEST) }
+    ensures refusal { IfErr result (IsLimitOrMemory (ExceedsBytes (O.number O.GREATEST)
+        (take_rows (plain_rows values.now) (primitive_rows indices)))) }
 {
-    let need = count_bytes(rows);
-    if need > most_bytes::<O>() as u128 {
-        return Err(PolarsError::SizeLimit(Limit::Bytes));
-    }
-    let offsets = collect_offsets::<O>(alloc, rows)?;
-    let values = collect_joined(alloc, rows, need as usize)?;
-    let offsets = OffsetsBuffer::of_rising(offsets)?;
-    let values = Buffer::from_vec(values)?;
+    let (ends, bytes) = collect_joined(alloc, values, &indices)?;
+    let offsets = OffsetsBuffer::of_rising(ends)?;
+    let values = Buffer::from_vec(bytes)?;
+    let PrimitiveArray { validity, .. } = indices;
     Ok(BinaryArray {
         offsets,
         values,
@@ -102,16 +55,79 @@ pub(crate) fn collect_spans<O: Offset>(
     })
 }
 
-/// Returns the total number of bytes of the rows.
-#[tactic(auto, using(crate::proofs::Collects::needed_steps))]
-fn count_bytes(rows: &SpanRows<'_>) -> u128
-    ensures { result ≡ bytes_needed (span_rows rows.now.bytes.now rows.now.spans.now) }
+/// Returns the offsets of the rows of `values` at `indices`, and their bytes, concatenated.
+///
+/// # Errors
+/// Those of [`collect_spans`].
+fn collect_joined<O: Offset>(
+    alloc: Global,
+    values: &BinaryArray<O>,
+    indices: &IdxArr,
+) -> PolarsResult<(Vec<O>, Vec<u8>)>
+    requires { IsTrue (all_within (rows_between values.now.offsets) (primitive_rows indices.now)) }
+    ensures ends { IfOk result (λ joined. map O.number joined.0.items ≡ map pos
+        (0 ∷ ends_from 0 (take_rows (plain_rows values.now) (primitive_rows indices.now)))) }
+    ensures bytes { IfOk result (λ joined. joined.1.items ≡
+        joined_bytes (take_rows (plain_rows values.now) (primitive_rows indices.now))) }
+    ensures few { IfOk result (λ joined. length joined.1.items ≤ 9223372036854775807) }
+    ensures fits { IfOk result (λ _. pos (bytes_needed
+        (take_rows (plain_rows values.now) (primitive_rows indices.now))) ≤ℤ O.number O.GREATEST) }
+    ensures refusal { IfErr result (IsLimitOrMemory (ExceedsBytes (O.number O.GREATEST)
+        (take_rows (plain_rows values.now) (primitive_rows indices.now)))) }
 {
-    let mut total: u128 = 0;
-    for k in 0..rows.count() {
-        total += rows.row_len(k) as u128;
+    let (ends, starts, count) = spans_at(alloc, values, indices)?;
+    let bytes = values.values.as_slice();
+    // (includes room for the bytes that are cut off after the last row)
+    let mut joined = Vec::with_capacity(alloc, count.saturating_add(SHORT_ROW))?;
+    let mut at = 0;
+    for k in 0..starts.len() {
+        let end = ends[k + 1].to_position();
+        push_span(&mut joined, bytes, starts[k].to_position(), end - at)?;
+        at = end;
     }
-    total
+    Ok((ends, joined))
+}
+
+/// Returns the offsets of the rows of `values` at `indices`, the offset at which each row begins in
+/// `values`, and the number of bytes.
+///
+/// # Errors
+/// Those of [`collect_spans`].
+fn spans_at<O: Offset>(
+    alloc: Global,
+    values: &BinaryArray<O>,
+    indices: &IdxArr,
+) -> PolarsResult<(Vec<O>, Vec<O>, usize)>
+    requires { IsTrue (all_within (rows_between values.now.offsets) (primitive_rows indices.now)) }
+    ensures ends { IfOk result (λ spans. map O.number spans.0.items ≡ map pos
+        (0 ∷ ends_from 0 (take_rows (plain_rows values.now) (primitive_rows indices.now)))) }
+    ensures starts { IfOk result (λ spans. AreStarts O.number values.now.values
+        (take_rows (plain_rows values.now) (primitive_rows indices.now)) spans.1.items) }
+    ensures count { IfOk result (λ spans. spans.2 ≡
+        bytes_needed (take_rows (plain_rows values.now) (primitive_rows indices.now))) }
+    ensures fits { IfOk result (λ _. pos (bytes_needed
+        (take_rows (plain_rows values.now) (primitive_rows indices.now))) ≤ℤ O.number O.GREATEST) }
+    ensures refusal { IfErr result (IsLimitOrMemory (ExceedsBytes (O.number O.GREATEST)
+        (take_rows (plain_rows values.now) (primitive_rows indices.now)))) }
+{
+    let offsets = values.offsets.as_slice();
+    let places = indices.values.as_slice();
+    let valid = BitSlice::of_validity(&indices.validity);
+    let most = most_bytes::<O>();
+    let mut ends = Vec::with_capacity(alloc, places.len() + 1)?;
+    let mut starts = Vec::with_capacity(alloc, places.len())?;
+    let mut end: usize = 0;
+    ends.push_reserved(offset_of(end));
+    for k in 0..places.len() {
+        let (start, len) = span_if(offsets, places[k], bit_or_true(&valid, k));
+        if len > most - end {
+            return Err(PolarsError::SizeLimit(Limit::Bytes));
+        }
+        end += len;
+        starts.push_reserved(start);
+        ends.push_reserved(offset_of(end));
+    }
+    Ok((ends, starts, end))
 }
 
 /// Returns the greatest offset of type `O`.
@@ -119,25 +135,6 @@ fn most_bytes<O: Offset>() -> usize
     ensures { pos result ≡ O.number O.GREATEST }
 {
     O::GREATEST.to_usize()
-}
-
-/// Returns the offsets of the rows in the concatenated bytes.
-#[tactic(auto, using(crate::proofs::Collects::end_steps))]
-fn collect_offsets<O: Offset>(alloc: Global, rows: &SpanRows<'_>) -> PolarsResult<Vec<O>>
-    requires { pos (bytes_needed (span_rows rows.now.bytes.now rows.now.spans.now)) ≤ℤ
-        O.number O.GREATEST }
-    ensures offsets { IfOk result (λ offsets. map O.number offsets.items ≡
-        map pos (0 ∷ ends_from 0 (span_rows rows.now.bytes.now rows.now.spans.now))) }
-    ensures refusal { IfErr result IsOutOfMemory }
-{
-    let mut end: usize = 0;
-    let mut offsets = Vec::with_capacity(alloc, rows.count() + 1)?;
-    offsets.push(offset_of(end))?;
-    for k in 0..rows.count() {
-        end += rows.row_len(k);
-        offsets.push(offset_of(end))?;
-    }
-    Ok(offsets)
 }
 
 /// Converts `n` to an offset.
@@ -151,30 +148,42 @@ fn offset_of<O: Offset>(n: usize) -> O
     }
 }
 
-/// Returns the bytes of all rows, concatenated; reserves `count` bytes.
-fn collect_joined(alloc: Global, rows: &SpanRows<'_>, count: usize) -> PolarsResult<Vec<u8>>
-    ensures bytes { IfOk result (λ bytes. bytes.items ≡
-        joined_bytes (span_rows rows.now.bytes.now rows.now.spans.now)) }
-    ensures few { IfOk result (λ bytes. length bytes.items ≤ 9223372036854775807) }
-    ensures refusal { IfErr result IsOutOfMemory }
+/// Returns the offset at `place`, and how far the next one is behind it. If `valid` is false, the
+/// first offset and 0.
+///
+/// Reads the first offset twice where `valid` is false, so that no branch depends on it.
+#[inline(always)]
+fn span_if<O: Offset>(offsets: &[O], place: u32, valid: bool) -> (O, usize)
+    requires rising { IsOffsets O.number offsets.now }
+    requires inside { IsTrue valid → place + 1 < length offsets.now }
+    ensures start { O.number result.0 ≡
+        pos (slice_index (magnitudes O.number offsets.now) (if valid then place else 0)) }
+    ensures len { slice_index (magnitudes O.number offsets.now) (if valid then place else 0)
+        + result.1 ≡
+        slice_index (magnitudes O.number offsets.now) (if valid then place + 1 else 0) }
 {
-    // (includes room for the bytes that are cut off after the last row)
-    let mut joined = Vec::with_capacity(alloc, count.saturating_add(SHORT_ROW))?;
-    for k in 0..rows.count() {
-        push_span(&mut joined, rows.bytes, rows.span(k))?;
-    }
-    Ok(joined)
+    let first = zero_unless(valid, place as usize);
+    let next = zero_unless(valid, place as usize + 1);
+    let start = offsets[first];
+    (start, offsets[next].to_position() - start.to_position())
 }
 
-/// Appends the bytes of a span. Copies of a constant size need no branch on the size.
+/// Returns `n` if `valid` is true, otherwise 0.
 #[inline(always)]
-fn push_span(joined: &mut Vec<u8>, bytes: &[u8], span: Span) -> PolarsResult<()>
-    requires { IsSpanWithin bytes.now span }
+fn zero_unless(valid: bool, n: usize) -> usize
+    ensures { result ≡ (if valid then n else 0) }
+{
+    if valid { n } else { 0 }
+}
+
+/// Appends the `len` bytes from `start` on. Copies of a constant size need no branch on the size.
+#[inline(always)]
+fn push_span(joined: &mut Vec<u8>, bytes: &[u8], start: usize, len: usize) -> PolarsResult<()>
+    requires { start + len ≤ length bytes.now }
     ensures bytes { OnOk result (joined.new.items ≡
-        joined.old.items ++ span_bytes bytes.now span) }
+        joined.old.items ++ take len (drop start bytes.now)) }
     ensures refusal { IfErr result IsOutOfMemory }
 {
-    let Span { start, len } = span;
     if len <= SHORT_ROW && bytes.len() - start >= SHORT_ROW {
         let before = joined.len();
         joined.extend_from_slice(&bytes[start..start + SHORT_ROW])?;
