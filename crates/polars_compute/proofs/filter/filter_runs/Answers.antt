@@ -1,4 +1,4 @@
-use Rattle.polars_compute.proofs.Common.{◌∷◌, [], ◌∙◌, arith, sym, subst, length, length-map, map, err_from_is_err_and, rows, type_of, Null, pick}
+use Rattle.polars_compute.proofs.Common.{◌∷◌, [], ◌∙◌, arith, sym, subst, length-map, map, err_from_is_err_and, rows, type_of, Null, pick}
 use Rattle.polars_compute.proofs.Common.{memory_alone, exceeded_limits, exceeded_taken, place_pick, kept}
 use Rattle.std.proofs.lemmas.List.Sums.{count_by-le-length}
 use Rattle.sel_gather.proofs.OneSource.{one_source}
