@@ -1,6 +1,7 @@
 -- A mask without a false bit keeps all rows.
-use Rattle.std.proofs.Common.{◌≡◌, ◌∙◌, ap, arith, refl, List, [], ◌∷◌, length, map, Bool, true, false, cond, Option, None}
-use Rattle.std.proofs.lemmas.List.{map-map, map-id}
+use Rattle.std.proofs.Common.{◌≡◌, ◌∙◌, ap, arith, refl, List, [], ◌∷◌, length, map, map-id, Bool, true, false, not, cond, Option, None, Some, is_some}
+use Rattle.std.proofs.lemmas.Simd.{map-map}
+use Rattle.std.proofs.lemmas.List.{length-map}
 use Rattle.std.proofs.lemmas.List.Sums.{count_by-le-length, sum_by-cons}
 use Rattle.polars_compute.specs.Select.{effective_mask, is_true, select}
 use Rattle.sel_arrow.specs.Masked.{bool_rows}
@@ -15,8 +16,12 @@ all_kept (x ∷ xs) (false ∷ ms) long all = absurd (omega (arith, all, sum_by-
 all_kept xs ms long all = absurd (omega (arith, long))
 
 -- The mask of a boolean column without a validity is its values.
-unmasked : (bits : List Bool) (validity : Option Bits) → validity ≡ None → effective_mask (bool_rows bits validity) ≡ bits
-unmasked bits validity none = ap (λ v. effective_mask (bool_rows bits v)) none ∙ map-map is_true Truth bits ∙ map-id bits
+unmasked : (bits : List Bool) → effective_mask (bool_rows bits None) ≡ bits
+unmasked bits = map-map is_true Truth bits ∙ map-id bits
 
-pub all_forced : {A : Type 0} → (xs : List A) (bits : List Bool) (validity : Option Bits) → validity ≡ None → length xs ≡ length bits → count_true bits ≡ length bits → select xs (effective_mask (bool_rows bits validity)) ≡ xs
-all_forced xs bits validity none long all = ap (select xs) (unmasked bits validity none) ∙ all_kept xs bits long all
+pub all_forced : {A : Type 0} → (xs : List A) (bits : List Bool) (validity : Option Bits) (none : Bool) → is_some validity ≡ not none → none ≡ true → length xs ≡ length (bool_rows bits validity) → count_true bits ≡ length bits
+    → select xs (effective_mask (bool_rows bits validity)) ≡ xs
+all_forced xs bits None none is so long all =
+    ap (select xs) (unmasked bits) ∙ all_kept xs bits (long ∙ length-map bits Truth) all
+all_forced xs bits (Some v) true is so long all = absurd (cc is)
+all_forced xs bits (Some v) false is so long all = absurd (cc so)

@@ -2,7 +2,7 @@
 use Rattle.std.proofs.Common.{◌≡◌, ◌≢◌, ◌≤◌, ℕ, Bool, true, false, ◌==◌, cond, arith, None, Some, List, [], ◌∷◌, inl, inr, refl, subst, sym}
 use Rattle.std.specs.Option.{IsSomeAnd}
 use Rattle.sel_calls.proofs.Common.{nat_tests, Limit, PolarsError, rows, type_of, Shape, Value, ArrayRef, Held, error_status, ok, out_of_memory, Makes, ReturnsFirst, ExceedsNone, IsLimitOrMemory, IsOkOrLimit, ReturnsColumn}
-use Rattle.sel_calls.proofs.Limits.{returns-error, returns-put}
+use Rattle.sel_calls.proofs.Limits.{returns-error, returns-low, returns-put}
 
 either : (b : Bool) (before after : Held) (column : ArrayRef) (Holds : ArrayRef → Type 0) → cond b (IsSomeAnd after (λ made. made ≡ column)) (after ≡ before) → Holds column → cond b (IsSomeAnd after Holds) (after ≡ before)
 either true before None column Holds made holds = made
@@ -32,6 +32,16 @@ returns-made status before after column values shape exceeded made low same type
       rows = makes-put status before after column (λ c. rows c.column ≡ values) made same;
       dtype = makes-put status before after column (λ c. type_of c.column ≡ shape) made typed;
       checks = returns-put status exceeded low none;
+    }
+
+-- The column itself is stored, which has these rows, unless memory runs out.
+pub returns-again : (status : ℕ) (before after : Held) (column : ArrayRef) (values : List Value) → Makes status before after (λ made. made ≡ column) → status ≤ out_of_memory → rows column.column ≡ values →
+    ReturnsColumn status before after values (type_of column.column) [] (status ≡ ok)
+returns-again status before after column values made low same =
+    record {
+      rows = makes-put status before after column (λ c. rows c.column ≡ values) made same;
+      dtype = makes-put status before after column (λ c. type_of c.column ≡ type_of column.column) made refl;
+      checks = returns-low status low;
     }
 
 -- On an error nothing is stored.

@@ -3,6 +3,7 @@
 ghost use Rattle.std.specs.Prelude.{◌≡◌, ◌+◌, ◌*◌, ◌<◌, ◌≤◌, IsTrue, Some, length, take, drop, pos, [], ◌∷◌, map, false, slice_index_or, if◌then◌else◌, IfOk, IfErr};
 ghost use Rattle.sel_bits.specs.Faults.{IsOutOfMemory};
 ghost use Rattle.sel_bits.specs.Bits.{bits_from};
+ghost use Rattle.sel_bits.specs.Limits.{max_rows};
 ghost use Rattle.sel_bits.specs.Words.{word_of};
 ghost use Rattle.sel_arrow.specs.Columns.{primitive_rows};
 ghost use Rattle.sel_arrow.specs.Masked.{number_rows};
@@ -127,7 +128,8 @@ fn take_valid_bits(
     valid: &Bitmap,
     filler: bool,
 ) -> PolarsResult<Bitmap>
-    requires { length valid.now.bits ≡ length places.now }
+    requires long { length valid.now.bits ≡ length places.now }
+    requires few { length places.now ≤ max_rows }
     ensures bits { IfOk result (λ taken. taken.bits ≡ pick filler (values.now.bits ∷ [])
         (map pick_of (number_rows pos places.now (Some valid.now)))) }
     ensures refusal { IfErr result IsOutOfMemory }
@@ -158,6 +160,7 @@ fn word_of_rows(
     requires few { len ≤ 64 }
     requires long { length valid.now.bits ≡ length places.now }
     requires within { at + len ≤ length places.now }
+    requires rows { length places.now ≤ max_rows }
     ensures { result ≡ word_of (take len (drop at (pick filler (values.now.bits ∷ [])
         (map pick_of (number_rows pos places.now (Some valid.now)))))) }
 {

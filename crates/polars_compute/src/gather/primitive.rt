@@ -161,7 +161,8 @@ fn take_valid_places<T: Copy>(
     valid: &Bitmap,
     filler: T,
 ) -> PolarsResult<Vec<T>>
-    requires { length valid.now.bits ≡ length places.now }
+    requires long { length valid.now.bits ≡ length places.now }
+    requires few { length places.now ≤ max_rows }
     ensures items { IfOk result (λ taken. taken.items ≡ pick filler (values.now ∷ [])
         (map pick_of (number_rows pos places.now (Some valid.now)))) }
     ensures refusal { IfErr result IsOutOfMemory }

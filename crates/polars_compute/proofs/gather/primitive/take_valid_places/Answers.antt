@@ -11,7 +11,7 @@ loop-k-preserved g c =
     record {
       items =
           picked_more c.args.filler (c.args.values.now ∷ []) rows k c.loop-k.taken.items _ c.value_if.result (omega (arith, length-number_rows pos places (Some valid))) c.push_reserved.ensures.items c.loop-k.invariant.items
-          (c.value_if.ensures ∙ ap (λ b. if b then get_or c.args.values.now (get_or places k 0) c.args.filler else c.args.filler) (c.get.ensures ∙ ap (λ l. get_or l k false) c.of-bits.ensures) ∙ found_at c.args.filler c.args.values.now places valid k (omega arith) c.requires);
+          (c.value_if.ensures ∙ ap (λ b. if b then get_or c.args.values.now (get_or places k 0) c.args.filler else c.args.filler) (c.get.ensures ∙ ap (λ l. get_or l k false) c.of-bits.ensures) ∙ found_at c.args.filler c.args.values.now places valid k (omega arith) c.requires.long);
       count = omega (arith, c.push_reserved.ensures.len, c.loop-k.invariant.count);
       room = omega (arith, c.push_reserved.ensures.capacity, c.loop-k.invariant.room);
     }

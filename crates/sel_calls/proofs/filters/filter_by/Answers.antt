@@ -1,0 +1,14 @@
+use Rattle.std.proofs.Common.{◌≡◌, length, ap, sym, arith}
+use Rattle.sel_calls.proofs.Common.{rows, boolean_rows, ArrayRef}
+use Rattle.sel_calls.proofs.{AllKept.all_forced, Made.returns-again, Made.returns-first}
+use Rattle.sel_calls.proofs.filters.filter_by.Goals as goal
+
+pub returns-then-is_all_true : goal.returns-then-is_all_true
+returns-then-is_all_true c =
+    let column = c.args.column.now in
+    let mask = c.args.mask.now in
+    let same : length (rows c.column.result.now.column) ≡ length (rows column.column) = ap (λ (x : ArrayRef). length (rows x.column)) c.column.ensures.value in
+    let long : length (rows column.column) ≡ length (boolean_rows mask) = omega (arith, same, c.len.ensures.len, c.len-2.ensures.len, c.if-len.false) in
+    returns-first _ _ _ _ _ _ _ _ _ long
+        (returns-again _ _ _ column _ c.put_again.ensures.column c.put_again.ensures.status
+            (sym (all_forced (rows column.column) mask.values.bits mask.validity c.is_none.result c.is_none.ensures c.if-is_none.true long (c.is_all_true.ensures.0 c.if-is_all_true.true))))
