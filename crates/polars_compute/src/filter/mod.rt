@@ -1,12 +1,15 @@
 //! Filters for columns of any type.
 
-ghost use Rattle.std.specs.Prelude.{◌≡◌, ◌≤◌, All, length, map, IfOk, IfErr};
+ghost use Rattle.std.specs.Prelude.{◌≡◌, ◌≤◌, ◌∷◌, [], All, length, map, IfOk, IfErr};
 ghost use Rattle.sel_bits.specs.Faults.{IsOutOfMemory};
 ghost use Rattle.sel_bits.specs.Limits.{max_rows};
 ghost use Rattle.sel_bits.specs.Bits.{count_true};
 ghost use Rattle.sel_arrow.specs.Columns.{null_rows, boolean_rows, primitive_rows, binview_rows, utf8view_rows};
 ghost use Rattle.sel_arrow.specs.Rows.{rows, type_of, IsField, IsWellFormed};
 ghost use Rattle.sel_arrow.specs.declared.column.Column.{Struct};
+ghost use Rattle.sel_arrow.specs.Value.{Null};
+ghost use Rattle.sel_gather.specs.Gathers.{Collects};
+ghost use Rattle.sel_gather.specs.Picks.{pick, PickFits};
 ghost use Rattle.polars_compute.specs.FixedSizeLists.{IsFixedSizeList};
 ghost use Rattle.polars_compute.specs.Select.{select, effective_mask};
 
@@ -31,12 +34,16 @@ use sel_arrow::primitive::{ArrowPrimitive, PrimitiveArray};
 use sel_arrow::utf8view::Utf8ViewArray;
 use sel_bits::bitmap::Bitmap;
 use sel_bits::faults::PolarsResult;
-use sel_gather::gather::collect_rising;
+use sel_gather::gather::{collect_plan, collect_rising};
+use sel_gather::row_refs::Plan;
 use sel_gather::run_refs::RunRefs;
 use sel_gather::runs::NO_ROWS;
 pub use selection::Selection;
 use selection::first_kept;
 use std::alloc::Global;
+
+/// The number of rows from which on a run is long.
+const LONG_RUN: usize = 8;
 
 /// Returns the rows of `array` where `mask` is true and valid, in order.
 ///
@@ -267,8 +274,7 @@ fn filter_lists(
     Ok(ArrayRef { column })
 }
 
-/// Returns the rows of a column whose bit is set, gathered by the runs of set bits, which are read
-/// from the mask and not listed.
+/// Returns the rows of a column whose bit is set, gathered by the runs of set bits.
 ///
 /// The kept rows require no more rows or bytes at any depth than all rows, so no limit is exceeded.
 fn filter_runs(
@@ -291,9 +297,25 @@ fn filter_runs(
         rest: MaskRuns { mask, at: 0 },
         left: count,
     };
-    let sources = [column];
-    let column = collect_rising(alloc, &sources, &plan)?;
+    let column = collect_kept(alloc, column, &plan)?;
     Ok(ArrayRef { column })
+}
+
+/// Returns the rows of `column` at the row references of `plan`, which are not null.
+///
+/// If most runs are short, no run is listed, and lists are copied one by one. Long runs are few, so
+/// they are listed, and the items of all lists of a run are copied at once.
+fn collect_kept<P: Plan>(alloc: Global, column: &Column, plan: &P) -> PolarsResult<Column>
+    requires formed { IsWellFormed column.now }
+    requires fits { All (PickFits (rows column.now ∷ [])) (P.picks plan.now) }
+    ensures { Collects result (type_of column.now) (column.now ∷ [])
+        (pick Null (rows column.now ∷ []) (P.picks plan.now)) }
+{
+    let sources = [column];
+    if plan.run_count() < plan.len() / LONG_RUN {
+        return collect_plan(alloc, &sources, plan, true);
+    }
+    collect_rising(alloc, &sources, plan)
 }
 
 /// Returns one null for each set bit of `_mask`.

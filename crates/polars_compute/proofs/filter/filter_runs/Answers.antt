@@ -15,8 +15,8 @@ invariant_of-plan-2 c =
       near = kept_near mask c.requires.few;
     }
 
-pub collect_rising-requires-clause-fits : goal.collect_rising-requires-clause-fits
-collect_rising-requires-clause-fits c = kept_fit (rows c.args.column.now) c.args.mask.now.bits c.requires.long
+pub collect_kept-requires-clause-fits : goal.collect_kept-requires-clause-fits
+collect_kept-requires-clause-fits c = kept_fit (rows c.args.column.now) c.args.mask.now.bits c.requires.long
 
 pub returns-in_err-column-clause-refusal : goal.returns-in_err-column-clause-refusal
 returns-in_err-column-clause-refusal c =

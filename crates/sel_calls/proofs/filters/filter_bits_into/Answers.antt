@@ -13,4 +13,4 @@ returns-then-is_all_true c =
     let bits = c.in-Ok.bits.bits in
     let kept = ap (λ (b : Bits). select (rows column.column) b.bits) (sym c.in-Ok.ensures.value) ∙ all_kept (rows column.column) bits (omega (arith, long, c.in-Ok.ensures.len)) (c.is_all_true.ensures.0 c.if-is_all_true.true) in
     returns-first _ _ _ _ _ _ _ _ _ tt
-        (returns-first _ _ _ _ _ _ _ _ _ (long, enough) (returns-again _ _ _ column _ c.put_again.ensures.column c.put_again.ensures.status (sym kept)))
+    (returns-first _ _ _ _ _ _ _ _ _ (long, enough) (returns-again _ _ _ column _ c.put_again.ensures.column c.put_again.ensures.status (sym kept)))

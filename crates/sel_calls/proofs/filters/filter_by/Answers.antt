@@ -10,5 +10,5 @@ returns-then-is_all_true c =
     let same : length (rows c.column.result.now.column) ≡ length (rows column.column) = ap (λ (x : ArrayRef). length (rows x.column)) c.column.ensures.value in
     let long : length (rows column.column) ≡ length (boolean_rows mask) = omega (arith, same, c.len.ensures.len, c.len-2.ensures.len, c.if-len.false) in
     returns-first _ _ _ _ _ _ _ _ _ long
-        (returns-again _ _ _ column _ c.put_again.ensures.column c.put_again.ensures.status
-            (sym (all_forced (rows column.column) mask.values.bits mask.validity c.is_none.result c.is_none.ensures c.if-is_none.true long (c.is_all_true.ensures.0 c.if-is_all_true.true))))
+    (returns-again _ _ _ column _ c.put_again.ensures.column c.put_again.ensures.status
+    (sym (all_forced (rows column.column) mask.values.bits mask.validity c.is_none.result c.is_none.ensures c.if-is_none.true long (c.is_all_true.ensures.0 c.if-is_all_true.true))))

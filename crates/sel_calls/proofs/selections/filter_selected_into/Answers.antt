@@ -11,5 +11,5 @@ returns-then-selection-len c =
     let long : length (rows column.column) ≡ length selection.mask.bits = omega (arith, same, c.len.ensures.len, c.len-2.ensures, c.if-len.false) in
     let all = sym selection.counted ∙ c.if-selection-len.true ∙ c.len-3.ensures in
     returns-first _ _ _ _ _ _ _ _ _ (tt, tt)
-        (returns-first _ _ _ _ _ _ _ _ _ long
-            (returns-again _ _ _ column _ c.put_again.ensures.column c.put_again.ensures.status (sym (all_kept (rows column.column) selection.mask.bits long all))))
+    (returns-first _ _ _ _ _ _ _ _ _ long
+    (returns-again _ _ _ column _ c.put_again.ensures.column c.put_again.ensures.status (sym (all_kept (rows column.column) selection.mask.bits long all))))
