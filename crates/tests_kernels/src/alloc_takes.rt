@@ -18,7 +18,7 @@ use sel_bits::offsets::OffsetsBuffer;
 use std::alloc::Global;
 use std::test::Fail;
 use tests_bits::column_fixtures::{column, has_bytes, validity};
-use tests_bits::fixtures::{buffer, has_bits};
+use tests_bits::fixtures::has_bits;
 use tests_bits::marks::{begins, ends_by};
 
 /// Returns the indices of the takes of bits; the null one has the greatest number in its slot.
@@ -60,24 +60,32 @@ fn of_type<T: NativeType>(alloc: Global, numbers: &[usize]) -> PolarsResult<Vec<
     Ok(found)
 }
 
-/// Returns the rows of two bytes, a null with one byte in its slot, and one byte.
-fn three_rows<O: Offset>(alloc: Global) -> Result<BinaryArray<O>, Fail> {
-    let offsets = OffsetsBuffer::try_from(of_type(alloc, &[0, 2, 3, 4])?)?;
-    let bytes = buffer(alloc, &[2u8, 2, 0, 1])?;
-    Ok(BinaryArray::try_new(offsets, bytes, validity(alloc, &[true, false, true])?)?)
+/// A row that is longer than what one copy of a constant size moves.
+const LONG: [u8; 17] = [7; 17];
+
+/// Returns the rows of two bytes, a null with one byte in its slot, no bytes, 17 bytes, and one
+/// byte. The first offset is 3, as in a slice.
+fn five_rows<O: Offset>(alloc: Global) -> Result<BinaryArray<O>, Fail> {
+    let offsets = OffsetsBuffer::try_from(of_type(alloc, &[3, 5, 6, 6, 23, 24])?)?;
+    let mut bytes = Vec::from_slice(alloc, &[9u8, 9, 9, 2, 2, 0])?;
+    bytes.extend_from_slice(&LONG)?;
+    bytes.push(1)?;
+    let validity = validity(alloc, &[true, false, true, true, true])?;
+    Ok(BinaryArray::try_new(offsets, Buffer::from_vec(bytes)?, validity)?)
 }
 
-/// Returns the indices 2, null, 0 and 1.
-fn four_places<I: Index>(alloc: Global) -> Result<PrimitiveArray<I>, Fail> {
-    let places = Buffer::from_vec(of_type(alloc, &[2, 0, 0, 1])?)?;
-    Ok(PrimitiveArray::try_new(places, validity(alloc, &[true, false, true, true])?)?)
+/// Returns the indices null, 4, 3, 2, 0, 1 and 3.
+fn seven_places<I: Index>(alloc: Global) -> Result<PrimitiveArray<I>, Fail> {
+    let places = Buffer::from_vec(of_type(alloc, &[0, 4, 3, 2, 0, 1, 3])?)?;
+    let validity = validity(alloc, &[false, true, true, true, true, true, true])?;
+    Ok(PrimitiveArray::try_new(places, validity)?)
 }
 
 fn takes_bytes<O: Offset + Drop, I: Index + Drop>(
     alloc: Global,
     values: &BinaryArray<O>,
 ) -> Result<bool, Fail> {
-    let places = four_places::<I>(alloc)?;
+    let places = seven_places::<I>(alloc)?;
     if !indices_in_bounds_of(&places, values.len()) {
         drop(places);
         return Err(Fail::from("out of bounds"));
@@ -86,8 +94,9 @@ fn takes_bytes<O: Offset + Drop, I: Index + Drop>(
     let answer = binary::take_unchecked(alloc, values, &places);
     ends_by(alloc, &answer);
     drop(places);
-    let are_taken = are_bytes(answer, &[Some(&[1]), None, Some(&[2, 2]), None]);
-    Ok(are_taken && has_bytes(values, &[Some(&[2, 2]), None, Some(&[1])]))
+    let rows: [Option<&[u8]>; 5] = [Some(&[2, 2]), None, Some(&[]), Some(&LONG), Some(&[1])];
+    let taken = [None, rows[4], rows[3], rows[2], rows[0], rows[1], rows[3]];
+    Ok(are_bytes(answer, &taken) && has_bytes(values, &rows))
 }
 
 // Takes rows by signed and by unsigned indices.
@@ -96,7 +105,7 @@ fn takes_by_both<O: Offset + Drop>(alloc: Global, values: &BinaryArray<O>) -> Re
 }
 
 fn takes_all_bytes<O: Offset + Drop>(alloc: Global) -> Result<bool, Fail> {
-    let values = three_rows::<O>(alloc)?;
+    let values = five_rows::<O>(alloc)?;
     let are_taken = takes_by_both(alloc, &values);
     drop(values);
     are_taken
