@@ -19,8 +19,8 @@ use sel_ffi::shared_column::SharedColumn;
 use sel_ffi::status::{LENGTH_MISMATCH, OUT_OF_MEMORY, UNSUPPORTED_TYPE, put, put_again};
 use std::alloc::Global;
 
-/// Stores in `out` the rows of `column` where the mask is true and valid. If these are all rows,
-/// the result shares the column.
+/// Stores in `out` the rows of `column` where the mask is true and valid. If these are all rows and
+/// the mask has no validity, the result shares the column.
 ///
 /// Errors: `UNSUPPORTED_TYPE` if the mask is not boolean; `LENGTH_MISMATCH` if the mask and the
 /// column have different numbers of rows; `OUT_OF_MEMORY`.

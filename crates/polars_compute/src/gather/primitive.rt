@@ -177,7 +177,7 @@ fn take_valid_places<T: Copy>(
 
 /// Returns the value at `place` if `valid` is true and `place` is in bounds, otherwise `filler`.
 ///
-/// Reads the first value where `valid` is false, so that no branch depends on it.
+/// Reads the first value where `valid` is false.
 #[inline(always)]
 fn value_if<T: Copy>(values: &[T], place: u32, valid: bool, filler: T) -> T
     ensures { result ≡ (if valid then slice_index_or values.now place filler else filler) }
