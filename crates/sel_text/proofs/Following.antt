@@ -134,13 +134,9 @@ byte_leads FirstValue top byte outside other = every_if (leads byte) (closes top
 byte_leads Value top byte outside other = value_leads Value byte other
 byte_leads FirstName top byte outside other = every_if (leads byte) (closes top byte) _ _ (λ is. closing_leads top byte is) (λ _. name_byte_leads FirstName byte other)
 byte_leads Name top byte outside other = name_byte_leads Name byte other
-byte_leads HexQuote top byte outside other = absurd cc
-byte_leads HexFirst top byte outside other = absurd cc
-byte_leads HexSecond top byte outside other = absurd cc
 byte_leads (Word word) top byte outside other = word_leads word top byte
 byte_leads (TypeWord word) top byte outside other = name_leads word top byte
-byte_leads (Quoted within) top byte outside other = absurd cc
-byte_leads next top byte outside other = grind (arith, nat_tests, other)
+byte_leads next top byte outside other = first_of (cc, grind (arith, nat_tests, other))
 
 -- In bytes in hexadecimal.
 abbrev pub hex_after : ℕ → Next × Change → Bool
@@ -148,8 +144,7 @@ hex_after byte step = if byte == 34 then is_unquoted step.0 else is_in_hex step.
 
 pub hex_leads : (next : Next) (top : Option Bracket) (byte : ℕ) → is_in_hex next ≡ true → every (hex_after byte) (after_byte next top byte) ≡ true
 hex_leads HexFirst top byte may = grind (arith, nat_tests)
-hex_leads HexSecond top byte may = grind (arith, nat_tests)
-hex_leads next top byte may = absurd cc
+hex_leads next top byte may = first_of (cc, grind (arith, nat_tests))
 
 -- In a string, at another byte than a backslash.
 abbrev pub string_after : ℕ → Next × Change → Bool
@@ -157,14 +152,7 @@ string_after byte step = if byte == 34 then is_unquoted step.0 else is_in_string
 
 pub within_leads : (within : Within) (top : Option Bracket) (byte : ℕ) → is_character within ≡ true → (byte == 92) ≡ false → every (string_after byte) (after_byte (Quoted within) top byte) ≡ true
 within_leads Text top byte may other = grind (arith, nat_tests, other)
-within_leads ByteOne top byte may other = grind (arith, nat_tests, other)
-within_leads ByteTwo top byte may other = grind (arith, nat_tests, other)
-within_leads ByteThree top byte may other = grind (arith, nat_tests, other)
-within_leads AfterE0 top byte may other = grind (arith, nat_tests, other)
-within_leads AfterEd top byte may other = grind (arith, nat_tests, other)
-within_leads AfterF0 top byte may other = grind (arith, nat_tests, other)
-within_leads AfterF4 top byte may other = grind (arith, nat_tests, other)
-within_leads within top byte may other = absurd cc
+within_leads within top byte may other = first_of (cc, grind (arith, nat_tests, other))
 
 pub string_leads : (next : Next) (top : Option Bracket) (byte : ℕ) → is_in_string next ≡ true → (byte == 92) ≡ false → every (string_after byte) (after_byte next top byte) ≡ true
 string_leads (Quoted within) top byte may other = within_leads within top byte may other
@@ -186,25 +174,8 @@ space_closes top byte space = grind (arith, nat_tests, space)
 pub stays : (next : Next) (top : Option Bracket) (byte : ℕ) → is_spaced next ≡ true → is_space byte ≡ true → after_byte next top byte ≡ Some (next, Keep)
 stays FirstValue top byte may space = rw (space_closes top byte space, space) refl
 stays FirstName top byte may space = rw (space_closes top byte space, space) refl
-stays SizeDigit top byte may space = absurd cc
-stays Negative top byte may space = absurd cc
-stays Digit top byte may space = absurd cc
-stays HexQuote top byte may space = absurd cc
-stays HexFirst top byte may space = absurd cc
-stays HexSecond top byte may space = absurd cc
-stays (Word word) top byte may space = absurd cc
-stays (TypeWord word) top byte may space = absurd cc
-stays (Quoted within) top byte may space = absurd cc
-stays next top byte may space = rw space refl
+stays next top byte may space = first_of (cc, simp space)
 
 pub spaced_unquoted : (next : Next) → is_spaced next ≡ true → is_unquoted next ≡ true
 spaced_unquoted SizeDigit may = absurd cc
-spaced_unquoted Negative may = absurd cc
-spaced_unquoted Digit may = absurd cc
-spaced_unquoted HexQuote may = absurd cc
-spaced_unquoted HexFirst may = absurd cc
-spaced_unquoted HexSecond may = absurd cc
-spaced_unquoted (Word word) may = absurd cc
-spaced_unquoted (TypeWord word) may = absurd cc
-spaced_unquoted (Quoted within) may = absurd cc
-spaced_unquoted next may = refl
+spaced_unquoted next may = cc

@@ -262,21 +262,8 @@ from_front front (Some more) bytes is = (more, refl, cc)
 -- Inside of a character there is no escape.
 no_start : (within : Within) (first : ℕ) → (first < 128) ⊎ (192 ≤ first) → is_character within ≡ true → (top : Option Bracket) → (within ≡ Text) ⊎ (after_byte (Quoted within) top first ≡ None)
 no_start Text first apart may top = inl refl
-no_start ByteOne first (inl low) may top = inr (grind (arith, nat_tests, low))
-no_start ByteOne first (inr high) may top = inr (grind (arith, nat_tests, high))
-no_start ByteTwo first (inl low) may top = inr (grind (arith, nat_tests, low))
-no_start ByteTwo first (inr high) may top = inr (grind (arith, nat_tests, high))
-no_start ByteThree first (inl low) may top = inr (grind (arith, nat_tests, low))
-no_start ByteThree first (inr high) may top = inr (grind (arith, nat_tests, high))
-no_start AfterE0 first (inl low) may top = inr (grind (arith, nat_tests, low))
-no_start AfterE0 first (inr high) may top = inr (grind (arith, nat_tests, high))
-no_start AfterEd first (inl low) may top = inr (grind (arith, nat_tests, low))
-no_start AfterEd first (inr high) may top = inr (grind (arith, nat_tests, high))
-no_start AfterF0 first (inl low) may top = inr (grind (arith, nat_tests, low))
-no_start AfterF0 first (inr high) may top = inr (grind (arith, nat_tests, high))
-no_start AfterF4 first (inl low) may top = inr (grind (arith, nat_tests, low))
-no_start AfterF4 first (inr high) may top = inr (grind (arith, nat_tests, high))
-no_start within first apart may top = absurd cc
+no_start within first (inl low) may top = inr (first_of (cc, grind (arith, nat_tests, low)))
+no_start within first (inr high) may top = inr (first_of (cc, grind (arith, nat_tests, high)))
 
 escaped_read : (rest : List ℕ) → ((k : ℕ) → Respelled (drop k rest)) → (within : Within) (brackets : List Bracket) (bytes : List ℕ) → is_character within ≡ true → (c n : ℕ) → ◌≡◌ {A = Option (ℕ × ℕ)} (escape_at rest) (Some (c, n)) →
     option_map (λ more. flat_map escaped (encode_utf8 c) ++ more) (spelled_from InString n rest) ≡ Some bytes → goes_on (Quoted within) brackets bytes ≡ true → goes_on (Quoted within) brackets (92 ∷ rest) ≡ true

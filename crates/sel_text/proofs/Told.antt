@@ -60,41 +60,16 @@ first_digit : (ds r : List ℕ) → 0 < length ds → AllDigits 10 ds → kind_o
 first_digit [] r some digits = absurd (omega arith)
 first_digit (d ∷ ds) r some digits = digit_kind d digits.0
 
-below : (n k : ℕ) → nat_lt n k ≡ true → n < k
-below n k e = (Decides-ltb n k).0 e
-
-small_unsigned : (bits : ℕ) (z : ℤ) → 2 ^ bits ≤ 2 ^ 128 → fits_unsigned bits z ≡ true → mag z < 2 ^ 128
-small_unsigned bits (pos n) few fit = let small = below n (2 ^ bits) fit in omega (arith, small, few)
-small_unsigned bits (negsuc n) few fit = absurd cc
-
-small_signed : (bits : ℕ) (z : ℤ) → 2 ^ bits ≤ 2 ^ 128 → nat_lt (mag z) (2 ^ bits) ≡ true → mag z < 2 ^ 128
-small_signed bits z few fit = let small = below (mag z) (2 ^ bits) fit in omega (arith, small, few)
-
 -- A number of a type has at most 128 bits.
 pub small_number : (s : Shape) (z : ℤ) → fits_number s z ≡ true → mag z < 2 ^ 128
-small_number of_int8 z fit = small_signed 7 z (omega arith) fit
-small_number of_int16 z fit = small_signed 15 z (omega arith) fit
-small_number of_int32 z fit = small_signed 31 z (omega arith) fit
-small_number of_int64 z fit = small_signed 63 z (omega arith) fit
-small_number of_int128 z fit = small_signed 127 z (omega arith) fit
-small_number of_uint8 z fit = small_unsigned 8 z (omega arith) fit
-small_number of_uint16 z fit = small_unsigned 16 z (omega arith) fit
-small_number of_uint32 z fit = small_unsigned 32 z (omega arith) fit
-small_number of_uint64 z fit = small_unsigned 64 z (omega arith) fit
-small_number of_uint128 z fit = small_unsigned 128 z (omega arith) fit
-small_number s z fit = absurd cc
+small_number of_int8 z fit = grind (arith, nat_tests, fit)
+small_number s (pos n) fit = first_of (cc, grind (arith, nat_tests, fit))
+small_number s (negsuc n) fit = first_of (cc, grind (arith, nat_tests, fit))
 
 -- A negative number has a signed type.
-below_signed : (bits n : ℕ) → 2 ^ bits ≤ 2 ^ 127 → nat_lt n (2 ^ bits) ≡ true → n < 2 ^ 127
-below_signed bits n few fit = let small = below n (2 ^ bits) fit in omega (arith, small, few)
-
 pub small_below : (s : Shape) (n : ℕ) → fits_number s (negsuc n) ≡ true → n < 2 ^ 127
-small_below of_int8 n fit = below_signed 7 n (omega arith) fit
-small_below of_int16 n fit = below_signed 15 n (omega arith) fit
-small_below of_int32 n fit = below_signed 31 n (omega arith) fit
-small_below of_int64 n fit = below_signed 63 n (omega arith) fit
-small_below of_int128 n fit = below_signed 127 n (omega arith) fit
-small_below s n fit = absurd cc
+small_below of_int8 n fit = grind (arith, nat_tests, fit)
+small_below s n fit = first_of (cc, grind (arith, nat_tests, fit))
 
 starts : (s : Shape) (v : Value) (r : List ℕ) → fits s v ≡ true → kind_of (get_or (value_text s v ++ r) 0 0) ≡ kind v
 starts s (Number (pos n)) r fit =
