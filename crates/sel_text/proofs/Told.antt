@@ -118,117 +118,70 @@ no_value s v close r t fit none e =
 
 -- ---- the row texts of values
 
--- A value is determined by its row text, before any rest that does not begin with a digit.
-record Tells (s : Shape) (v : Value) : Type 0 where
-  told : (w : Value) (r t : List ℕ) → fits s v ≡ true → fits s w ≡ true → NoDigit r → NoDigit t → value_text s v ++ r ≡ value_text s w ++ t → (v ≡ w) × (r ≡ t)
+-- The values of a list, each after a comma, and those of a struct, are determined by their row texts.
+abbrev TellsItems : Shape → Values → Type 0
+TellsItems s vs = (ws : Values) (r t : List ℕ) → all_fit s vs ≡ true → all_fit s ws ≡ true → after 93 (item_texts s vs) r ≡ after 93 (item_texts s ws) t → (vs ≡ ws) × (r ≡ t)
 
--- The values of a list, each after a comma, and those of a struct.
-record TellsItems (s : Shape) (vs : Values) : Type 0 where
-  told : (ws : Values) (r t : List ℕ) → all_fit s vs ≡ true → all_fit s ws ≡ true → after 93 (item_texts s vs) r ≡ after 93 (item_texts s ws) t → (vs ≡ ws) × (r ≡ t)
-
-record TellsParts (ss : Shapes) (vs : Values) : Type 0 where
-  told : (ws : Values) (r t : List ℕ) → fields_fit ss vs ≡ true → fields_fit ss ws ≡ true → after 41 (part_texts ss vs) r ≡ after 41 (part_texts ss ws) t → (vs ≡ ws) × (r ≡ t)
-
-null_told : (s : Shape) (w : Value) (r t : List ℕ) → fits s Null ≡ true → fits s w ≡ true → NoDigit r → NoDigit t → value_text s Null ++ r ≡ value_text s w ++ t → (Null ≡ w) × (r ≡ t)
-null_told s Null r t fv fw nr nt e = (refl, cc)
-null_told s w r t fv fw nr nt e = absurd (unlike s Null w r t fv fw e refl)
-
-truth_told : (s : Shape) (b : Bool) (w : Value) (r t : List ℕ) → fits s (Truth b) ≡ true → fits s w ≡ true → NoDigit r → NoDigit t → value_text s (Truth b) ++ r ≡ value_text s w ++ t → (Truth b ≡ w) × (r ≡ t)
-truth_told s true (Truth true) r t fv fw nr nt e = (refl, cc)
-truth_told s true (Truth false) r t fv fw nr nt e = let first : 116 ≡ 102 = ap (λ l. get_or l 0 0) e in absurd (omega (arith, first))
-truth_told s false (Truth true) r t fv fw nr nt e = let first : 102 ≡ 116 = ap (λ l. get_or l 0 0) e in absurd (omega (arith, first))
-truth_told s false (Truth false) r t fv fw nr nt e = (refl, cc)
-truth_told s b w r t fv fw nr nt e = absurd (unlike s (Truth b) w r t fv fw e refl)
-
-number_told : (s : Shape) (z : ℤ) (w : Value) (r t : List ℕ) → fits s (Number z) ≡ true → fits s w ≡ true → NoDigit r → NoDigit t → value_text s (Number z) ++ r ≡ value_text s w ++ t → (Number z ≡ w) × (r ≡ t)
-number_told s z (Number y) r t fv fw nr nt e =
-    let parts = signed_apart z y r t (small_number s z fv) (small_number s y fw) nr nt e in
-    (ap Number parts.0, parts.1)
-number_told s z w r t fv fw nr nt e = absurd (unlike s (Number z) w r t fv fw e refl)
-
-bytes_told : (s : Shape) (bs : List ℕ) (w : Value) (r t : List ℕ) → fits s (Bytes bs) ≡ true → fits s w ≡ true → NoDigit r → NoDigit t → value_text s (Bytes bs) ++ r ≡ value_text s w ++ t → (Bytes bs ≡ w) × (r ≡ t)
-bytes_told s bs (Bytes y) r t fv fw nr nt e = let parts = bytes_apart s bs y r t e in (ap Bytes parts.0, parts.1)
-bytes_told s bs w r t fv fw nr nt e = absurd (unlike s (Bytes bs) w r t fv fw e refl)
+abbrev TellsParts : Shapes → Values → Type 0
+TellsParts ss vs = (ws : Values) (r t : List ℕ) → fields_fit ss vs ≡ true → fields_fit ss ws ≡ true → after 41 (part_texts ss vs) r ≡ after 41 (part_texts ss ws) t → (vs ≡ ws) × (r ≡ t)
 
 -- This extends to values after the opening bracket.
 items_inside : (s : Shape) (vs ws : Values) (r t : List ℕ) → TellsItems s vs → all_fit s vs ≡ true → all_fit s ws ≡ true → inside 93 (item_texts s vs) r ≡ inside 93 (item_texts s ws) t → (vs ≡ ws) × (r ≡ t)
 items_inside s no_values no_values r t tells fv fw e = (refl, cc)
-items_inside s no_values (next_value w ws) r t tells fv fw e = absurd (no_value s w 93 r (after 93 (item_texts s ws) t) (and_first (fits s w) (all_fit s ws) fw) refl e)
-items_inside s (next_value v vs) no_values r t tells fv fw e = absurd (no_value s v 93 t (after 93 (item_texts s vs) r) (and_first (fits s v) (all_fit s vs) fv) refl (sym e))
-items_inside s (next_value v vs) (next_value w ws) r t tells fv fw e = tells.told (next_value w ws) r t fv fw (ap (λ l. 44 ∷ l) e)
+items_inside s no_values (next_value w ws) r t tells fv fw e = absurd (no_value s w 93 r (after 93 (item_texts s ws) t) (and_first _ _ fw) refl e)
+items_inside s (next_value v vs) no_values r t tells fv fw e = absurd (no_value s v 93 t (after 93 (item_texts s vs) r) (and_first _ _ fv) refl (sym e))
+items_inside s (next_value v vs) (next_value w ws) r t tells fv fw e = tells (next_value w ws) r t fv fw (ap (λ l. 44 ∷ l) e)
 
 parts_inside : (ss : Shapes) (vs ws : Values) (r t : List ℕ) → TellsParts ss vs → fields_fit ss vs ≡ true → fields_fit ss ws ≡ true → inside 41 (part_texts ss vs) r ≡ inside 41 (part_texts ss ws) t → (vs ≡ ws) × (r ≡ t)
 parts_inside no_shapes no_values no_values r t tells fv fw e = (refl, cc)
-parts_inside no_shapes no_values (next_value w ws) r t tells fv fw e = absurd (false≢true fw)
-parts_inside no_shapes (next_value v vs) ws r t tells fv fw e = absurd (false≢true fv)
-parts_inside (next_shape s ss) no_values ws r t tells fv fw e = absurd (false≢true fv)
-parts_inside (next_shape s ss) (next_value v vs) no_values r t tells fv fw e = absurd (false≢true fw)
-parts_inside (next_shape s ss) (next_value v vs) (next_value w ws) r t tells fv fw e = tells.told (next_value w ws) r t fv fw (ap (λ l. 44 ∷ l) e)
+parts_inside (next_shape s ss) (next_value v vs) (next_value w ws) r t tells fv fw e = tells (next_value w ws) r t fv fw (ap (λ l. 44 ∷ l) e)
+parts_inside ss vs ws r t tells fv fw e = absurd cc
 
 -- The row texts after an opening bracket.
 unbracket : (first close : ℕ) (xs ys : List (List ℕ)) (r t : List ℕ) → (first ∷ join_with_byte 44 xs ++ close ∷ []) ++ r ≡ (first ∷ join_with_byte 44 ys ++ close ∷ []) ++ t → inside close xs r ≡ inside close ys t
 unbracket first close xs ys r t e = sym (joined_inside close xs r) ∙ ap (drop 1) e ∙ joined_inside close ys t
 
-items_told : (s : Shape) (vs : Values) (tells : TellsItems (item_shape s) vs) (w : Value) (r t : List ℕ) → fits s (Items vs) ≡ true → fits s w ≡ true → NoDigit r → NoDigit t → value_text s (Items vs) ++ r ≡ value_text s w ++ t → (Items vs ≡ w) × (r ≡ t)
-items_told s vs tells (Items ws) r t fv fw nr nt e =
-    let child = item_shape s in
-    let parts = items_inside child vs ws r t tells (and_second (fits_count s (length (listed vs))) (all_fit child vs) fv) (and_second (fits_count s (length (listed ws))) (all_fit child ws) fw)
-    (unbracket 91 93 (item_texts child vs) (item_texts child ws) r t e) in
-    (ap Items parts.0, parts.1)
-items_told s vs tells w r t fv fw nr nt e = absurd (unlike s (Items vs) w r t fv fw e refl)
-
-tuple_told : (s : Shape) (vs : Values) (tells : TellsParts (part_shapes s) vs) (w : Value) (r t : List ℕ) → fits s (Tuple vs) ≡ true → fits s w ≡ true → NoDigit r → NoDigit t → value_text s (Tuple vs) ++ r ≡ value_text s w ++ t → (Tuple vs ≡ w) × (r ≡ t)
-tuple_told s vs tells (Tuple ws) r t fv fw nr nt e =
-    let shapes = part_shapes s in
-    let parts = parts_inside shapes vs ws r t tells (and_second (is_struct_shape s) (fields_fit shapes vs) fv) (and_second (is_struct_shape s) (fields_fit shapes ws) fw)
-    (unbracket 40 41 (part_texts shapes vs) (part_texts shapes ws) r t e) in
-    (ap Tuple parts.0, parts.1)
-tuple_told s vs tells w r t fv fw nr nt e = absurd (unlike s (Tuple vs) w r t fv fw e refl)
-
-none_told : (s : Shape) (ws : Values) (r t : List ℕ) → all_fit s no_values ≡ true → all_fit s ws ≡ true → after 93 (item_texts s no_values) r ≡ after 93 (item_texts s ws) t → (no_values ≡ ws) × (r ≡ t)
-none_told s no_values r t fv fw e = (refl, ap (drop 1) e)
-none_told s (next_value w ws) r t fv fw e = let first : 93 ≡ 44 = ap (λ l. get_or l 0 0) e in absurd (omega (arith, first))
-
-next_told : (s : Shape) (v : Value) (vs : Values) → Tells s v → TellsItems s vs →
-    (ws : Values) (r t : List ℕ) → all_fit s (next_value v vs) ≡ true → all_fit s ws ≡ true → after 93 (item_texts s (next_value v vs)) r ≡ after 93 (item_texts s ws) t → (next_value v vs ≡ ws) × (r ≡ t)
-next_told s v vs tells more no_values r t fv fw e = let first : 44 ≡ 93 = ap (λ l. get_or l 0 0) e in absurd (omega (arith, first))
-next_told s v vs tells more (next_value w ws) r t fv fw e =
-    let one = tells.told w (after 93 (item_texts s vs) r) (after 93 (item_texts s ws) t) (and_first (fits s v) (all_fit s vs) fv) (and_first (fits s w) (all_fit s ws) fw)
-    (after_no_digit 93 (item_texts s vs) r (omega arith)) (after_no_digit 93 (item_texts s ws) t (omega arith)) (ap (drop 1) e) in
-    let rest = more.told ws r t (and_second (fits s v) (all_fit s vs) fv) (and_second (fits s w) (all_fit s ws) fw) one.1 in
-    (ap (λ x. next_value x vs) one.0 ∙ ap (next_value w) rest.0, rest.1)
-
-no_parts_told : (ss : Shapes) (ws : Values) (r t : List ℕ) → fields_fit ss no_values ≡ true → fields_fit ss ws ≡ true → after 41 (part_texts ss no_values) r ≡ after 41 (part_texts ss ws) t → (no_values ≡ ws) × (r ≡ t)
-no_parts_told no_shapes no_values r t fv fw e = (refl, ap (drop 1) e)
-no_parts_told no_shapes (next_value w ws) r t fv fw e = absurd (false≢true fw)
-no_parts_told (next_shape s ss) ws r t fv fw e = absurd (false≢true fv)
-
-next_part_told : (ss : Shapes) (v : Value) (vs : Values) → ((s : Shape) → Tells s v) → ((rest : Shapes) → TellsParts rest vs) →
-    (ws : Values) (r t : List ℕ) → fields_fit ss (next_value v vs) ≡ true → fields_fit ss ws ≡ true → after 41 (part_texts ss (next_value v vs)) r ≡ after 41 (part_texts ss ws) t → (next_value v vs ≡ ws) × (r ≡ t)
-next_part_told no_shapes v vs tells more ws r t fv fw e = absurd (false≢true fv)
-next_part_told (next_shape s ss) v vs tells more no_values r t fv fw e = absurd (false≢true fw)
-next_part_told (next_shape s ss) v vs tells more (next_value w ws) r t fv fw e =
-    let one = (tells s).told w (after 41 (part_texts ss vs) r) (after 41 (part_texts ss ws) t) (and_first (fits s v) (fields_fit ss vs) fv) (and_first (fits s w) (fields_fit ss ws) fw)
-    (after_no_digit 41 (part_texts ss vs) r (omega arith)) (after_no_digit 41 (part_texts ss ws) t (omega arith)) (ap (drop 1) e) in
-    let rest = (more ss).told ws r t (and_second (fits s v) (fields_fit ss vs) fv) (and_second (fits s w) (fields_fit ss ws) fw) one.1 in
-    (ap (λ x. next_value x vs) one.0 ∙ ap (next_value w) rest.0, rest.1)
-
 mutual
-  tells : (v : Value) (s : Shape) → Tells s v
-  tells Null s = record { told = null_told s }
-  tells (Truth b) s = record { told = truth_told s b }
-  tells (Number z) s = record { told = number_told s z }
-  tells (Bytes bs) s = record { told = bytes_told s bs }
-  tells (Items vs) s = record { told = items_told s vs (tells_items vs (item_shape s)) }
-  tells (Tuple vs) s = record { told = tuple_told s vs (tells_parts vs (part_shapes s)) }
+  -- A value is determined by its row text, before any rest that does not begin with a digit.
+  tells : (v w : Value) (s : Shape) (r t : List ℕ) → fits s v ≡ true → fits s w ≡ true → NoDigit r → NoDigit t → value_text s v ++ r ≡ value_text s w ++ t → (v ≡ w) × (r ≡ t)
+  tells Null Null s r t fv fw nr nt e = (refl, cc)
+  tells (Truth true) (Truth true) s r t fv fw nr nt e = (refl, cc)
+  tells (Truth true) (Truth false) s r t fv fw nr nt e = let first : 116 ≡ 102 = ap (λ l. get_or l 0 0) e in absurd (omega (arith, first))
+  tells (Truth false) (Truth true) s r t fv fw nr nt e = let first : 102 ≡ 116 = ap (λ l. get_or l 0 0) e in absurd (omega (arith, first))
+  tells (Truth false) (Truth false) s r t fv fw nr nt e = (refl, cc)
+  tells (Number y) (Number z) s r t fv fw nr nt e =
+      let parts = signed_apart y z r t (small_number s y fv) (small_number s z fw) nr nt e in
+      (ap Number parts.0, parts.1)
+  tells (Bytes bs) (Bytes cs) s r t fv fw nr nt e = let parts = bytes_apart s bs cs r t e in (ap Bytes parts.0, parts.1)
+  tells (Items vs) (Items ws) s r t fv fw nr nt e =
+      let child = item_shape s in
+      let rest = unbracket 91 93 (item_texts child vs) (item_texts child ws) r t e in
+      let parts = items_inside child vs ws r t (tells_items vs child) (and_second _ _ fv) (and_second _ _ fw) rest in
+      (ap Items parts.0, parts.1)
+  tells (Tuple vs) (Tuple ws) s r t fv fw nr nt e =
+      let shapes = part_shapes s in
+      let rest = unbracket 40 41 (part_texts shapes vs) (part_texts shapes ws) r t e in
+      let parts = parts_inside shapes vs ws r t (tells_parts vs shapes) (and_second _ _ fv) (and_second _ _ fw) rest in
+      (ap Tuple parts.0, parts.1)
+  tells v w s r t fv fw nr nt e = absurd (unlike s v w r t fv fw e refl)
 
   tells_items : (vs : Values) (s : Shape) → TellsItems s vs
-  tells_items no_values s = record { told = none_told s }
-  tells_items (next_value v vs) s = record { told = next_told s v vs (tells v s) (tells_items vs s) }
+  tells_items no_values s no_values r t fv fw e = (refl, ap (drop 1) e)
+  tells_items (next_value v vs) s (next_value w ws) r t fv fw e =
+      let one = tells v w s (after 93 (item_texts s vs) r) (after 93 (item_texts s ws) t) (and_first _ _ fv) (and_first _ _ fw)
+      (after_no_digit 93 (item_texts s vs) r (omega arith)) (after_no_digit 93 (item_texts s ws) t (omega arith)) (ap (drop 1) e) in
+      let rest = tells_items vs s ws r t (and_second _ _ fv) (and_second _ _ fw) one.1 in
+      (ap (λ x. next_value x vs) one.0 ∙ ap (next_value w) rest.0, rest.1)
+  tells_items vs s ws r t fv fw e = let first = ap (λ l. get_or l 0 0) e in absurd (omega (arith, first))
 
   tells_parts : (vs : Values) (ss : Shapes) → TellsParts ss vs
-  tells_parts no_values ss = record { told = no_parts_told ss }
-  tells_parts (next_value v vs) ss = record { told = next_part_told ss v vs (tells v) (tells_parts vs) }
+  tells_parts no_values no_shapes no_values r t fv fw e = (refl, ap (drop 1) e)
+  tells_parts (next_value v vs) (next_shape s ss) (next_value w ws) r t fv fw e =
+      let one = tells v w s (after 41 (part_texts ss vs) r) (after 41 (part_texts ss ws) t) (and_first _ _ fv) (and_first _ _ fw)
+      (after_no_digit 41 (part_texts ss vs) r (omega arith)) (after_no_digit 41 (part_texts ss ws) t (omega arith)) (ap (drop 1) e) in
+      let rest = tells_parts vs ss ws r t (and_second _ _ fv) (and_second _ _ fw) one.1 in
+      (ap (λ x. next_value x vs) one.0 ∙ ap (next_value w) rest.0, rest.1)
+  tells_parts vs ss ws r t fv fw e = absurd cc
 
 -- ---- lists of values
 

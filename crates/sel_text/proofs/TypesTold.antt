@@ -87,37 +87,20 @@ tuples_told s text more is =
 pub no_signed : (text : List ℕ) → ((rest : List ℕ) → text ≢ codes "8" ++ rest) → ((rest : List ℕ) → text ≢ codes "16" ++ rest) → ((rest : List ℕ) → text ≢ codes "32" ++ rest) → ((rest : List ℕ) → text ≢ codes "64" ++ rest) → ((rest : List ℕ) → text ≢ codes "128" ++ rest) →
     (s : Shape) (more : List ℕ) → 105 ∷ text ≢ type_text s ++ more
 no_signed text a b c d f of_int8 more is = a more (ap (drop 1) is)
-no_signed text a b c d f of_int16 more is = b more (ap (drop 1) is)
-no_signed text a b c d f of_int32 more is = c more (ap (drop 1) is)
-no_signed text a b c d f of_int64 more is = d more (ap (drop 1) is)
-no_signed text a b c d f of_int128 more is = f more (ap (drop 1) is)
-no_signed text a b c d f s more is = let first = ap (λ l. get_or l 0 0) is in omega (arith, first)
+no_signed text a b c d f s more is =
+    let rest = ap (drop 1) is in
+    let first = ap (λ l. get_or l 0 0) is in
+    first_of (search (a, b, c, d, f, rest), omega (arith, first))
 
 pub no_unsigned : (text : List ℕ) → ((rest : List ℕ) → text ≢ codes "8" ++ rest) → ((rest : List ℕ) → text ≢ codes "16" ++ rest) → ((rest : List ℕ) → text ≢ codes "32" ++ rest) → ((rest : List ℕ) → text ≢ codes "64" ++ rest) → ((rest : List ℕ) → text ≢ codes "128" ++ rest) →
     ((rest : List ℕ) → text ≢ codes "tf8" ++ rest) → (s : Shape) (more : List ℕ) → 117 ∷ text ≢ type_text s ++ more
 no_unsigned text a b c d f g of_uint8 more is = a more (ap (drop 1) is)
-no_unsigned text a b c d f g of_uint16 more is = b more (ap (drop 1) is)
-no_unsigned text a b c d f g of_uint32 more is = c more (ap (drop 1) is)
-no_unsigned text a b c d f g of_uint64 more is = d more (ap (drop 1) is)
-no_unsigned text a b c d f g of_uint128 more is = f more (ap (drop 1) is)
-no_unsigned text a b c d f g of_utf8_view more is = g more (ap (drop 1) is)
-no_unsigned text a b c d f g s more is = let first = ap (λ l. get_or l 0 0) is in omega (arith, first)
+no_unsigned text a b c d f g s more is =
+    let rest = ap (drop 1) is in
+    let first = ap (λ l. get_or l 0 0) is in
+    first_of (search (a, b, c, d, f, g, rest), omega (arith, first))
 
 pub no_plain : (text : List ℕ) → ((rest : List ℕ) → text ≢ codes "i" ++ rest) → ((rest : List ℕ) → text ≢ codes "null" ++ rest) → ((rest : List ℕ) → text ≢ codes "bool" ++ rest) → ((rest : List ℕ) → text ≢ codes "binary" ++ rest) → ((rest : List ℕ) → text ≢ codes "binview" ++ rest) →
     ((rest : List ℕ) → text ≢ codes "u" ++ rest) → (s : Shape) (more : List ℕ) → is_plain s ≡ true → text ≢ type_text s ++ more
 no_plain text a b c d f g of_null more plain is = b more is
-no_plain text a b c d f g of_boolean more plain is = c more is
-no_plain text a b c d f g of_large_binary more plain is = d more is
-no_plain text a b c d f g of_binary_view more plain is = f more is
-no_plain text a b c d f g of_int8 more plain is = a (56 ∷ more) is
-no_plain text a b c d f g of_int16 more plain is = a (49 ∷ 54 ∷ more) is
-no_plain text a b c d f g of_int32 more plain is = a (51 ∷ 50 ∷ more) is
-no_plain text a b c d f g of_int64 more plain is = a (54 ∷ 52 ∷ more) is
-no_plain text a b c d f g of_int128 more plain is = a (49 ∷ 50 ∷ 56 ∷ more) is
-no_plain text a b c d f g of_uint8 more plain is = g (56 ∷ more) is
-no_plain text a b c d f g of_uint16 more plain is = g (49 ∷ 54 ∷ more) is
-no_plain text a b c d f g of_uint32 more plain is = g (51 ∷ 50 ∷ more) is
-no_plain text a b c d f g of_uint64 more plain is = g (54 ∷ 52 ∷ more) is
-no_plain text a b c d f g of_uint128 more plain is = g (49 ∷ 50 ∷ 56 ∷ more) is
-no_plain text a b c d f g of_utf8_view more plain is = g (116 ∷ 102 ∷ 56 ∷ more) is
-no_plain text a b c d f g s more plain is = true≢false (sym plain)
+no_plain text a b c d f g s more plain is = first_of (search (a, b, c, d, f, g, is), cc)
