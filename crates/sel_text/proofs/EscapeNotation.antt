@@ -67,10 +67,7 @@ read_unit (a ∷ b ∷ c ∷ d ∷ rest) unit is = go (is_digit a 16) (is_digit 
       digit_d = of_digit d dd;
       unit_is = cc;
     }
-    go true true true false da db dc dd is = absurd cc
-    go true true false s da db dc dd is = absurd cc
-    go true false r s da db dc dd is = absurd cc
-    go false q r s da db dc dd is = absurd cc
+    go p q r s da db dc dd is = absurd cc
 read_unit text unit is = absurd cc
 
 hexadecimal : (x : ℕ) → digit_value x < 16 → is_hexadecimal x ≡ true
@@ -165,8 +162,6 @@ record Next_unit (text : List ℕ) (unit : ℕ) : Type 0 where
   unit_is : unit_at digits ≡ Some unit
 
 read_next : (text : List ℕ) (unit : ℕ) → next_unit text ≡ Some unit → Next_unit text unit
-read_next [] unit is = absurd cc
-read_next (x ∷ []) unit is = absurd cc
 read_next (x ∷ y ∷ rest) unit is = go (x == 92) (y == 117) refl refl is
   where
     go : (p q : Bool) → (x == 92) ≡ p → (y == 117) ≡ q → (if p && q then unit_at rest else None) ≡ Some unit → Next_unit (x ∷ y ∷ rest) unit
@@ -174,8 +169,8 @@ read_next (x ∷ y ∷ rest) unit is = go (x == 92) (y == 117) refl refl is
         let first : x ≡ 92 = grind (arith, nat_tests, px) in
         let second : y ≡ 117 = grind (arith, nat_tests, qy) in
         record { digits = rest; text_is = rw (first, second) refl; unit_is = is }
-    go true false px qy is = absurd cc
-    go false q px qy is = absurd cc
+    go p q px qy is = absurd cc
+read_next text unit is = absurd cc
 
 pair_scalar : (high low : ℕ) → is_high high ≡ true → is_low low ≡ true → scalar (65536 + (high - 55296) * 1024 + (low - 56320)) ≡ true
 pair_scalar high low first second =

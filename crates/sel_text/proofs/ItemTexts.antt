@@ -36,11 +36,8 @@ no_bytes d bytes not_so other last = refl
 pub other_size : (n m : ℕ) (b : Bool) → n ≢ m → false ≡ ((n == m) && b)
 other_size n m b other = ap (λ t. t && b) (sym (false_from_ne_true (n == m) (λ same. other (eqb-true n m same))))
 
-same_test : (n m : ℕ) → n ≡ m → (n == m) ≡ true
-same_test n m same = eq-eqb n m same
-
 pub same_size : (n m : ℕ) (b : Bool) → n ≡ m → b ≡ ((n == m) && b)
-same_size n m b same = ap (λ t. t && b) (sym (same_test n m same))
+same_size n m b same = ap (λ t. t && b) (sym (eq-eqb n m same))
 
 -- ---- rows so far
 
@@ -50,51 +47,42 @@ all_grown p (y ∷ xs) x fit here = both (p y) _ (and_first (p y) _ fit) (all_gr
 
 -- ---- one row that does not fit
 
-pub all_fails : {A : Type 0} (p : A → Bool) (xs : List A) (k : ℕ) (d : A) → k < length xs → p (get_or xs k d) ≡ false → false ≡ list_all p xs
-all_fails p [] k d h not_so = absurd (omega (arith, h))
-all_fails p (x ∷ xs) zero d h not_so = ap (λ b. b && list_all p xs) (sym not_so)
-all_fails p (x ∷ xs) (suc k) d h not_so = fails (p x) (all_fails p xs k d (omega (arith, h)) not_so)
-  where
-    fails : (b : Bool) → false ≡ list_all p xs → false ≡ (b && list_all p xs)
-    fails true same = same
-    fails false same = refl
-
 and_false : (b c : Bool) → false ≡ c → false ≡ (b && c)
 and_false true c same = same
 and_false false c same = refl
 
+pub all_fails : {A : Type 0} (p : A → Bool) (xs : List A) (k : ℕ) (d : A) → k < length xs → p (get_or xs k d) ≡ false → false ≡ list_all p xs
+all_fails p [] k d h not_so = absurd (omega (arith, h))
+all_fails p (x ∷ xs) zero d h not_so = ap (λ b. b && list_all p xs) (sym not_so)
+all_fails p (x ∷ xs) (suc k) d h not_so = and_false (p x) _ (all_fails p xs k d (omega (arith, h)) not_so)
+
 pub fields_fail : (ds : List ArrowDataType) (vs : List Value) (k : ℕ) (d : ArrowDataType) (v : Value) → k < length ds → k < length vs → fits (shape_of (get_or ds k d)) (get_or vs k v) ≡ false →
     false ≡ fields_fit (shapes_of (map shape_of ds)) (values_of vs)
-fields_fail [] vs k d v h g not_so = absurd (omega (arith, h))
-fields_fail (x ∷ ds) [] k d v h g not_so = absurd (omega (arith, g))
 fields_fail (x ∷ ds) (y ∷ vs) zero d v h g not_so = ap (λ b. b && fields_fit (shapes_of (map shape_of ds)) (values_of vs)) (sym not_so)
 fields_fail (x ∷ ds) (y ∷ vs) (suc k) d v h g not_so = and_false (fits (shape_of x) y) _ (fields_fail ds vs k d v (omega (arith, h)) (omega (arith, g)) not_so)
+fields_fail ds vs k d v h g not_so = absurd (omega (arith, h, g))
 
 pub other_count : (ds : List ArrowDataType) (vs : List Value) → length ds ≢ length vs → false ≡ fields_fit (shapes_of (map shape_of ds)) (values_of vs)
 other_count [] [] not_so = absurd (not_so refl)
-other_count [] (v ∷ vs) not_so = refl
-other_count (d ∷ ds) [] not_so = refl
 other_count (d ∷ ds) (v ∷ vs) not_so = and_false (fits (shape_of d) v) _ (other_count ds vs (λ same. not_so (ap suc same)))
+other_count ds vs not_so = refl
 
 -- ---- one more field
 
 pub fields_more : (ds : List ArrowDataType) (vs : List Value) (d : ArrowDataType) (v : Value) → length ds ≡ length vs → fields_fit (shapes_of (map shape_of ds)) (values_of vs) ≡ true → fits (shape_of d) v ≡ true →
     fields_fit (shapes_of (map shape_of (ds ++ d ∷ []))) (values_of (vs ++ v ∷ [])) ≡ true
 fields_more [] [] d v same fit here = ap (λ b. b && true) here
-fields_more [] (y ∷ vs) d v same fit here = absurd (omega (arith, same))
-fields_more (x ∷ ds) [] d v same fit here = absurd (omega (arith, same))
 fields_more (x ∷ ds) (y ∷ vs) d v same fit here =
     both (fits (shape_of x) y) _ (and_first (fits (shape_of x) y) _ fit) (fields_more ds vs d v (omega (arith, same)) (and_second (fits (shape_of x) y) _ fit) here)
+fields_more ds vs d v same fit here = absurd (omega (arith, same))
 
 pub parts_more : (ds : List ArrowDataType) (vs : List Value) (d : ArrowDataType) (v : Value) → length ds ≡ length vs →
     part_texts (shapes_of (map shape_of (ds ++ d ∷ []))) (values_of (vs ++ v ∷ [])) ≡ part_texts (shapes_of (map shape_of ds)) (values_of vs) ++ value_text (shape_of d) v ∷ []
 parts_more [] [] d v same = refl
-parts_more [] (y ∷ vs) d v same = absurd (omega (arith, same))
-parts_more (x ∷ ds) [] d v same = absurd (omega (arith, same))
 parts_more (x ∷ ds) (y ∷ vs) d v same = ap (λ l. value_text (shape_of x) y ∷ l) (parts_more ds vs d v (omega (arith, same)))
+parts_more ds vs d v same = absurd (omega (arith, same))
 
 pub parts_count : (ds : List ArrowDataType) (vs : List Value) → length ds ≡ length vs → length (part_texts (shapes_of (map shape_of ds)) (values_of vs)) ≡ length ds
 parts_count [] [] same = refl
-parts_count [] (y ∷ vs) same = absurd (omega (arith, same))
-parts_count (x ∷ ds) [] same = absurd (omega (arith, same))
 parts_count (x ∷ ds) (y ∷ vs) same = ap suc (parts_count ds vs (omega (arith, same)))
+parts_count ds vs same = absurd (omega (arith, same))

@@ -16,8 +16,7 @@ or_second false b e = e
 pub told_more : (p q : Bool) (fault : Fault) → (p ≡ true → q ≡ true) → ReportsLimit p fault → ReportsLimit q fault
 told_more p q Limit more told = more told
 told_more p q OutOfMemory more told = tt
-told_more p q (Syntax n) more told = absurd told
-told_more p q («Type» n) more told = absurd told
+told_more p q fault more told = absurd told
 
 pub told_wanting : (p : Bool) (fault : Fault) → IsMemoryFault fault → ReportsLimit p fault
 told_wanting p OutOfMemory wants = tt
@@ -35,9 +34,8 @@ maker_wanting rule WantOfMemory is kept = tt
 -- If only the first of three rules can be broken, a broken rule is the first.
 pub first_of_three : (a b d : Bool) (r s t m : Malformed) → b ≡ false → d ≡ false → first_broken ((r, a) ∷ (s, b) ∷ (t, d) ∷ []) ≡ Some m → a ≡ true
 first_of_three true b d r s t m second third is = refl
-first_of_three false false false r s t m second third is = absurd cc
-first_of_three false true d r s t m second third is = absurd cc
-first_of_three false false true r s t m second third is = absurd cc
+first_of_three false false false r s t m second third is = cc
+first_of_three a b d r s t m second third is = cc
 
 pub first_of_four : (a b d e : Bool) (r s t u m : Malformed) → d ≡ false → e ≡ false → first_broken ((r, a) ∷ (s, b) ∷ (t, d) ∷ (u, e) ∷ []) ≡ Some m → (a || b) ≡ true
 first_of_four true b d e r s t u m third fourth is = refl

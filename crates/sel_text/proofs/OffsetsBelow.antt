@@ -11,12 +11,11 @@ end_kept z n is small = to_z-of_z w64 z (subst (FitsSigned w64) (sym is) (record
 
 same_numbers : (ms ns : List ℕ) → map pos ms ≡ map pos ns → ms ≡ ns
 same_numbers [] [] e = refl
-same_numbers [] (n ∷ ns) e = cc
-same_numbers (m ∷ ms) [] e = cc
 same_numbers (m ∷ ms) (n ∷ ns) e =
     let here : m ≡ n = cc in
     let rest : map pos ms ≡ map pos ns = cc in
     cc (here, same_numbers ms ns rest)
+same_numbers ms ns e = cc
 
 none_negative : (ns : List ℕ) → has_negative (λ z. z) (map pos ns) ≡ false
 none_negative [] = refl

@@ -42,9 +42,8 @@ past_at b (x ∷ xs) place (suc k) n s vs below is at past =
 
 count_parts : (shapes : List Shape) (es : Values) → fields_fit (shapes_of shapes) es ≡ true → length (listed es) ≡ length shapes
 count_parts [] no_values fit = refl
-count_parts [] (next_value v vs) fit = absurd cc
-count_parts (x ∷ xs) no_values fit = absurd cc
 count_parts (x ∷ xs) (next_value v vs) fit = ap suc (count_parts xs vs (and_second (fits x v) (fields_fit (shapes_of xs) vs) fit))
+count_parts xs vs fit = cc
 
 entry_here : (pre rest : List Value) (v : Value) (k : ℕ) → length pre ≡ k → get_or (pre ++ v ∷ rest) k Null ≡ v
 entry_here pre rest v k long =
@@ -66,9 +65,8 @@ tuple_of_parts shapes (Tuple es) fit valid =
 tuple_of_parts shapes row fit valid = absurd cc
 
 part_here : (vs : List Value) (k place : ℕ) → slice_index_or (map (part_in place) vs) k Null ≡ part_in place (slice_index_or vs k Null)
-part_here [] k place = refl
-part_here (v ∷ vs) zero place = refl
 part_here (v ∷ vs) (suc k) place = part_here vs k place
+part_here vs k place = refl
 
 row_parts : (vs : List Value) (k : ℕ) (row : Value) → get_or vs k Null ≡ row → (places : List ℕ) → map (λ field. slice_index_or field k Null) (map (λ place. map (part_in place) vs) places) ≡ map (λ place. part_in place row) places
 row_parts vs k row is [] = refl

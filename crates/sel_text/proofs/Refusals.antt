@@ -53,8 +53,7 @@ memory_told passed broken WantOfMemory fault none is told = subst (ReportsLimit 
 
 two_none : (a b : Bool) (x y : Malformed) → a ≡ false → b ≡ false → first_broken ((x, a) ∷ (y, b) ∷ []) ≡ None
 two_none false false x y p q = refl
-two_none false true x y p q = absurd (true≢false q)
-two_none true b x y p q = absurd (true≢false p)
+two_none a b x y p q = cc
 
 pub binary_told : (beneath : NullSlots) (s : Shape) (rows : List Value) (offsets bytes : List ℕ) (validity : Option Bits) (error : MakeError) (fault : Fault) → rows_between offsets ≡ length rows →
     nat_lt (length bytes) (last_offset offsets) ≡ false → Covers validity (length rows) → IsFault (binary_fault offsets bytes validity) error → fault ≡ make_fault error → ReportsLimit (exceeds_limit beneath s rows) fault
@@ -124,9 +123,7 @@ few n small = grind (arith, nat_tests, small)
 no_view_rule : (many buffers other : Bool) (next : Option Malformed) → many ≡ false → buffers ≡ false → other ≡ false → next ≡ None →
     or_else (first_broken ((TooManyRows, many) ∷ (TooManyBuffers, buffers) ∷ (ValidityLength, other) ∷ [])) next ≡ None
 no_view_rule false false false next p q r end = end
-no_view_rule false false true next p q r end = other_shape (sym r)
-no_view_rule false true other next p q r end = other_shape (sym q)
-no_view_rule true buffers other next p q r end = other_shape (sym p)
+no_view_rule many buffers other next p q r end = cc
 
 no_text_rule : (t : Bool) (first : Option Malformed) → first ≡ None → t ≡ true → or_else first (first_broken ((Utf8, not t) ∷ [])) ≡ None
 no_text_rule true first none is = ap (λ f. or_else f None) none

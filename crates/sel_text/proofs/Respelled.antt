@@ -18,9 +18,9 @@ unspaced : (place after : Place) (byte : ℕ) (rest bytes : List ℕ) → spelle
     spelled_from after 0 rest ≡ Some bytes
 unspaced place after byte rest bytes same is = sym (begins [] (spelled_from after 0 rest)) ∙ sym same ∙ is
 
-from_map : (byte : ℕ) (o : Option (List ℕ)) (bytes : List ℕ) → option_map (λ more. (byte ∷ []) ++ more) o ≡ Some bytes → (more : List ℕ) × (o ≡ Some more) × (bytes ≡ byte ∷ more)
-from_map byte None bytes is = absurd cc
-from_map byte (Some more) bytes is = (more, refl, cc)
+from_front : (front : List ℕ) (o : Option (List ℕ)) (bytes : List ℕ) → option_map (λ more. front ++ more) o ≡ Some bytes → (more : List ℕ) × (o ≡ Some more) × (bytes ≡ front ++ more)
+from_front front None bytes is = absurd cc
+from_front front (Some more) bytes is = (more, refl, cc)
 
 -- After a word and white space there is nothing more, or a mark.
 abbrev pub Ended : List ℕ → Type 0
@@ -37,7 +37,7 @@ gap_ended (byte ∷ rest) bytes is = go (gap_ended rest) (is_space byte) refl
         token : (b : Bool) → is_mark byte ≡ b → Ended bytes
         token true mark =
             let same : spelled_from Gap 0 (byte ∷ rest) ≡ option_map (λ more. (byte ∷ []) ++ more) (spelled_from Between 0 rest) = rw space (rw mark refl) in
-            let split = from_map byte (spelled_from Between 0 rest) bytes (sym same ∙ is) in
+            let split = from_front (byte ∷ []) (spelled_from Between 0 rest) bytes (sym same ∙ is) in
             inr (byte, split.0, mark, split.2)
         token false mark =
             let same : spelled_from Gap 0 (byte ∷ rest) ≡ None = rw space (rw mark refl) in
@@ -87,7 +87,7 @@ Respelled text = (place : Place) (next : Next) (brackets : List Bracket) (bytes 
 follow : (byte : ℕ) (rest : List ℕ) → Respelled rest → (next : Next) (brackets : List Bracket) (after : Place) (bytes : List ℕ) → option_map (λ more. (byte ∷ []) ++ more) (spelled_from after 0 rest) ≡ Some bytes →
     goes_on next brackets bytes ≡ true → every (λ (step : Next × Change). may_follow after step.0) (after_byte next (innermost brackets) byte) ≡ true → goes_on next brackets (byte ∷ rest) ≡ true
 follow byte rest later next brackets after bytes is on leads_to =
-    let split = from_map byte (spelled_from after 0 rest) bytes is in
+    let split = from_front (byte ∷ []) (spelled_from after 0 rest) bytes is in
     go split.0 split.1 (after_byte next (innermost brackets) byte) refl (subst (λ bs. goes_on next brackets bs ≡ true) split.2 on) leads_to
   where
     go : (more : List ℕ) → spelled_from after 0 rest ≡ Some more → (step : Option (Next × Change)) → after_byte next (innermost brackets) byte ≡ step →
@@ -178,7 +178,7 @@ gap_step byte rest later next brackets bytes may space is on = go (is_mark byte)
 prefix_dead : (next : Next) (byte : ℕ) (rest : List ℕ) (brackets : List Bracket) (after : Place) (bytes : List ℕ) → is_prefix next ≡ true → (byte == 34) ≡ false → option_map (λ more. (byte ∷ []) ++ more) (spelled_from after 0 rest) ≡ Some bytes →
     goes_on next brackets bytes ≡ true → goes_on next brackets (byte ∷ rest) ≡ true
 prefix_dead next byte rest brackets after bytes may other is on =
-    let split = from_map byte (spelled_from after 0 rest) bytes is in
+    let split = from_front (byte ∷ []) (spelled_from after 0 rest) bytes is in
     go split.0 (after_byte next (innermost brackets) byte) (subst (λ bs. goes_on next brackets bs ≡ true) split.2 on) (prefix_leads next (innermost brackets) byte may)
   where
     go : (more : List ℕ) (step : Option (Next × Change)) → is_some_and (λ (step : Next × Change). goes_on step.0 (changed step.1 brackets) more) step ≡ true → every (prefix_after byte) step ≡ true → goes_on next brackets (byte ∷ rest) ≡ true
@@ -254,10 +254,6 @@ skip : (place : Place) (n : ℕ) (rest : List ℕ) → spelled_from place n rest
 skip place zero rest = refl
 skip place (suc n) [] = refl
 skip place (suc n) (byte ∷ rest) = skip place n rest
-
-from_front : (front : List ℕ) (o : Option (List ℕ)) (bytes : List ℕ) → option_map (λ more. front ++ more) o ≡ Some bytes → (more : List ℕ) × (o ≡ Some more) × (bytes ≡ front ++ more)
-from_front front None bytes is = absurd cc
-from_front front (Some more) bytes is = (more, refl, cc)
 
 -- Inside of a character there is no escape.
 no_start : (within : Within) (first : ℕ) → (first < 128) ⊎ (192 ≤ first) → is_character within ≡ true → (top : Option Bracket) → (within ≡ Text) ⊎ (after_byte (Quoted within) top first ≡ None)

@@ -158,9 +158,7 @@ closed bracket brackets more = refl
 
 comma : (bracket : Bracket) (brackets : List Bracket) (more : List ℕ) → holds_values bracket ≡ true → goes_on After (bracket ∷ brackets) (44 ∷ more) ≡ goes_on Value (bracket ∷ brackets) more
 comma Square brackets more holds = refl
-comma Round brackets more holds = refl
-comma Child brackets more holds = absurd cc
-comma Fields brackets more holds = absurd cc
+comma bracket brackets more holds = cc
 
 closing_mark : (bracket : Bracket) → is_mark (closing bracket) ≡ true
 closing_mark Square = refl
@@ -208,9 +206,7 @@ all_read [] each bracket brackets more holds = none bracket holds
   where
     none : (bracket : Bracket) → holds_values bracket ≡ true → goes_on FirstValue (bracket ∷ brackets) (closing bracket ∷ more) ≡ goes_on After brackets more
     none Square holds = refl
-    none Round holds = refl
-    none Child holds = absurd cc
-    none Fields holds = absurd cc
+    none bracket holds = cc
 all_read (text ∷ texts) each bracket brackets more holds =
     ap (λ t. goes_on FirstValue (bracket ∷ brackets) (t ++ (closing bracket ∷ more))) (joined text texts)
     ∙ ap (goes_on FirstValue (bracket ∷ brackets)) (append_assoc text (after_commas texts) (closing bracket ∷ more))

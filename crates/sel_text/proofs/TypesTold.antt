@@ -27,10 +27,8 @@ begins (of_large_list s) more = refl
 begins s more = refl
 
 plain_kept : (s : Shape) → is_plain (without_children s) ≡ true → without_children s ≡ s
-plain_kept (of_large_list s) plain = absurd (true≢false (sym plain))
-plain_kept (of_fixed_size_list s n) plain = absurd (true≢false (sym plain))
-plain_kept (of_struct ss) plain = absurd (true≢false (sym plain))
-plain_kept s plain = refl
+plain_kept (of_large_list s) plain = cc
+plain_kept s plain = cc
 
 append_same : (a r t : List ℕ) → a ++ r ≡ a ++ t → r ≡ t
 append_same [] r t same = same
