@@ -1,6 +1,6 @@
 -- The results of column constructors, and their errors.
 use Rattle.std.proofs.Common.{◌≡◌, Bool, true, false, ◌||◌, List, [], ◌∷◌, length, replicate, Option, Some, None, refl, ap}
-use Rattle.sel_text.proofs.Common.{list_all, of_null, Value, Null, first_broken, IsFaultOrMemory, Malformed, fits, ReportsLimit, make_fault, IsMemoryFault, Fault, Syntax, «Type», Limit, OutOfMemory}
+use Rattle.sel_text.proofs.Common.{list_all, of_null, Value, Null, first_broken, IsFaultOrMemory, Malformed, fits, ReportsLimit, make_fault, IsMemoryFault, Fault, Limit, OutOfMemory}
 use Rattle.sel_bits.specs.declared.faults.MakeError.{MakeError}
 use Rattle.sel_bits.specs.declared.faults.MakeError.TheVariants.{Malformed as Broken, OutOfMemory as WantOfMemory}
 

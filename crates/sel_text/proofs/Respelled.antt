@@ -1,7 +1,7 @@
 -- A text is in the notation if its canonical spelling is: white space between tokens makes no
 -- difference, and neither do escapes.
 use Rattle.std.proofs.Common.{true≢false, ◌≡◌, ◌≤◌, ◌<◌, ℕ, Bool, true, false, List, [], ◌∷◌, ◌++◌, length, length-drop, drop, refl, ap, sym, ◌∙◌, arith, Some, None, subst, inl, inr, ◌⊎◌, option_and_then, encode_utf8, Option, suc, zero, option_map, nat_lt, ◌==◌, not, if◌then◌else◌}
-use Rattle.sel_text.proofs.Common.{flat_map, list_all, nat_tests, Shape, after_byte, changed, goes_on, innermost, is_end, is_last, is_some_and, is_row_notation, is_type_notation, kept, after_name_byte, after_word_byte, is_between, escape_at, escape_spelled, is_mark, is_space, place_in_word, spelled, spelled_from, Value as RowValue, fits, escaped, text_of, type_text, widths_written, Bracket, Change, Keep, Next, Place, Between, Gap, Prefix, PlaceWord, InString, InHex, TypeWordSoFar, Lis, U, Within, Text, Escape, ByteOne, ByteTwo, ByteThree, AfterE0, AfterEd, AfterF0, AfterF4, WordSoFar, N}
+use Rattle.sel_text.proofs.Common.{flat_map, list_all, nat_tests, Shape, after_byte, changed, goes_on, innermost, is_end, is_last, is_some_and, is_row_notation, is_type_notation, kept, after_name_byte, after_word_byte, is_between, escape_at, escape_spelled, is_mark, is_space, place_in_word, spelled, spelled_from, Value as RowValue, fits, escaped, text_of, type_text, widths_written, Bracket, Change, Keep, Next, Place, Between, Gap, Prefix, PlaceWord, InString, InHex, TypeWordSoFar, Lis, U, Within, Text, Escape, WordSoFar, N}
 use lib.Utf8.{scalar}
 use Rattle.sel_text.proofs.Spellings.{begins}
 use Rattle.sel_text.proofs.EscapeNotation.{escape_read}

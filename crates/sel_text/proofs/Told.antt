@@ -1,6 +1,6 @@
 -- Row text determines its value.
 use Rattle.std.proofs.Common.{◌≡◌, ◌≢◌, ℕ, ℤ, pos, negsuc, ◌^◌, ◌≤◌, ◌<◌, Bool, true, false, List, [], ◌∷◌, ◌++◌, length, get_or, drop, refl, ap, sym, ◌∙◌, arith, append_assoc, ◌==◌, nat_lt, if◌then◌else◌}
-use Rattle.sel_text.proofs.Common.{digit_value, decimal, mag, flat_map, join_with_byte, list_all, AllDigits, false≢true, nat_tests, Decides-ltb, decimal_is_IsNumeral_wide, Shape, Shapes, no_shapes, next_shape, is_struct_shape, of_int8, of_int16, of_int32, of_int64, of_int128, of_uint8, of_uint16, of_uint32, of_uint64, of_uint128, Value, Null, Truth, Number, Bytes, Items, Tuple, Values, no_values, next_value, values_of, listed, both, and_first, and_second, fits, all_fit, fields_fit, fits_count, fits_number, fits_unsigned, bracketed, hex_byte, escaped, hex_text, quoted, is_text_shape, bytes_text, item_shape, part_shapes, item_texts, part_texts, value_text, text_of, NoDigit}
+use Rattle.sel_text.proofs.Common.{digit_value, decimal, mag, flat_map, join_with_byte, list_all, AllDigits, nat_tests, decimal_is_IsNumeral_wide, Shape, Shapes, no_shapes, next_shape, of_int8, Value, Null, Truth, Number, Bytes, Items, Tuple, Values, no_values, next_value, values_of, both, and_first, and_second, fits, all_fit, fields_fit, fits_number, bracketed, hex_byte, escaped, hex_text, quoted, is_text_shape, bytes_text, item_shape, part_shapes, item_texts, part_texts, value_text, text_of, NoDigit}
 use Rattle.sel_text.specs.Laws.{TextDeterminesRows}
 use Rattle.sel_text.proofs.Ends.{few_digits}
 use Rattle.sel_text.proofs.Decoded.{signed_apart, hex_apart, escaped_apart}

@@ -1,5 +1,5 @@
 -- A text begins with the text of at most one type.
-use Rattle.std.proofs.Common.{◌≡◌, ◌≢◌, ℕ, true, true≢false, List, [], ◌∷◌, ◌++◌, get_or, drop, refl, ap, sym, ◌∙◌, arith, append_assoc, codes, ◌==◌, if◌then◌else◌}
+use Rattle.std.proofs.Common.{◌≡◌, ◌≢◌, ℕ, true, List, [], ◌∷◌, ◌++◌, get_or, drop, refl, ap, sym, ◌∙◌, arith, append_assoc, codes, ◌==◌, if◌then◌else◌}
 use Rattle.sel_text.proofs.Common.{decimal, Shape, Shapes, no_shapes, of_null, of_boolean, of_int8, of_int16, of_int32, of_int64, of_int128, of_uint8, of_uint16, of_uint32, of_uint64, of_uint128, of_large_binary, of_binary_view, of_utf8_view, of_large_list, of_fixed_size_list, of_struct, is_plain, angled, type_text, type_texts}
 
 -- The type whose text a text begins with, without its children; it is determined by the bytes in

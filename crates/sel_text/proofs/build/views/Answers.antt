@@ -31,13 +31,6 @@ loop-preserved c =
       few = c.in_ok-view_behind.ensures.within c.loop.invariant.few;
     }
 
-pub returns-clause-within : goal.returns-clause-within
-returns-clause-within c = λ shape view fit.
-    let items = all_items c.args.items.now in
-    let counted = c.in_ok-count.ensures.count ∙ count_rows c.args.items.now in
-    let so = subst (λ l. Views c.loop.data.items c.loop.views.items (stored_bytes c.args.beneath l)) (take_all c.loop.counter items (omega (arith, counted))) c.loop.invariant.views in
-    bytes_within shape (of_views shape view) c.args.beneath items c.loop.data.items c.loop.views.items fit so c.loop.invariant.few
-
 pub returns-in_err-validity_of-clause-limit : goal.returns-in_err-validity_of-clause-limit
 returns-in_err-validity_of-clause-limit c =
     if_told c.from_residual-in_err-validity_of.result c.in_err-validity_of.field-0.0 _ c.from_residual-in_err-validity_of.ensures.1
@@ -61,8 +54,8 @@ returns-in_err-try_new-clause-limit c =
     if_made c.from_residual-in_err-try_new.result error _ c.from_residual-in_err-try_new.ensures.1
     (λ fault told. λ shape view fit. binview_told c.args.beneath shape (rows_read items) views (store ∷ []) validity error fault count refl placed covers fallen told)
 
-pub returns-clause-views : goal.returns-clause-views
-returns-clause-views c = λ shape view fit.
+pub returns : goal.returns
+returns c =
     let items = all_items c.args.items.now in
     let store = c.loop.data.items in
     let column = c.in_ok-try_new.field-0 in
@@ -70,7 +63,12 @@ returns-clause-views c = λ shape view fit.
     let counted = c.in_ok-count.ensures.count ∙ count_rows c.args.items.now in
     let so = subst (λ l. Views store c.loop.views.items (stored_bytes c.args.beneath l)) (take_all c.loop.counter items (omega (arith, counted))) c.loop.invariant.views in
     let viewed = c.buffers.view_is ∙ c.in_ok-buffers.ensures.items ∙ c.in_ok-vec.ensures.items ∙ ap (λ d. d ∷ []) c.in_ok-data.ensures.items in
-    let shown = c.in_ok-validity_of.ensures.hides (map Bytes ps) (bytes_shown shape (of_views shape view) c.args.beneath items fit) in
-    ap (λ v. view_rows v column.buffers column.validity) (c.in_ok-try_new.ensures.views ∙ c.in_ok-views-2.ensures.items)
-    ∙ ap (λ b. view_rows c.loop.views.items b column.validity) (c.in_ok-try_new.ensures.buffers ∙ viewed)
-    ∙ ap (masked column.validity) so.shown ∙ ap (λ v. masked v (map Bytes ps)) c.in_ok-try_new.ensures.validity ∙ shown
+    record {
+      views = λ shape view fit.
+          let shown = c.in_ok-validity_of.ensures.hides (map Bytes ps) (bytes_shown shape (of_views shape view) c.args.beneath items fit) in
+          ap (λ v. view_rows v column.buffers column.validity) (c.in_ok-try_new.ensures.views ∙ c.in_ok-views-2.ensures.items)
+          ∙ ap (λ b. view_rows c.loop.views.items b column.validity) (c.in_ok-try_new.ensures.buffers ∙ viewed)
+          ∙ ap (masked column.validity) so.shown ∙ ap (λ v. masked v (map Bytes ps)) c.in_ok-try_new.ensures.validity ∙ shown;
+      within = λ shape view fit. bytes_within shape (of_views shape view) c.args.beneath items store c.loop.views.items fit so c.loop.invariant.few;
+      limit = tt;
+    }

@@ -9,23 +9,21 @@ use Rattle.sel_text.proofs.item_text.+writing_items.Goals.{push_list-then-k-gt0+
 
 -- ---- lists
 
-pub push_item-returns-in-LargeList-clause-fit : goal.push_item-returns-in-LargeList-clause-fit
-push_item-returns-in-LargeList-clause-fit t c =
+pub push_item-returns-in-LargeList : goal.push_item-returns-in-LargeList
+push_item-returns-in-LargeList t c =
     let s = shape_of c.deref-in-LargeList.result.now in
+    let dtype = shape_of c.args.dtype.now in
     let vs = map item_value c.in-Items.items.items in
-    let same : of_large_list s ≡ shape_of c.args.dtype.now = ap (λ d. of_large_list (shape_of d)) c.deref-in-LargeList.ensures ∙ sym (ap shape_of c.in-LargeList.is) in
+    let row = item_value c.args.item.now in
+    let same : of_large_list s ≡ dtype = ap (λ d. of_large_list (shape_of d)) c.deref-in-LargeList.ensures ∙ sym (ap shape_of c.in-LargeList.is) in
     let value = list_is c.args.item.now c.in-Items.items c.in-Items.is in
-    let told = ap (λ l. list_all (fits s) (map item_value l)) c.deref-in-LargeList-2.ensures.value ∙ sym (all_fit_is s vs) ∙ ap (λ t. fits t (Items (values_of vs))) same ∙ ap (fits (shape_of c.args.dtype.now)) (sym value) in
-    IfOk-weaker c.push_list.result _ _ (λ fit is. is ∙ told) c.push_list.ensures.fit
-
-pub push_item-returns-in-LargeList-clause-text : goal.push_item-returns-in-LargeList-clause-text
-push_item-returns-in-LargeList-clause-text t c =
-    let s = shape_of c.deref-in-LargeList.result.now in
-    let vs = map item_value c.in-Items.items.items in
-    let same : of_large_list s ≡ shape_of c.args.dtype.now = ap (λ d. of_large_list (shape_of d)) c.deref-in-LargeList.ensures ∙ sym (ap shape_of c.in-LargeList.is) in
-    let value = list_is c.args.item.now c.in-Items.items c.in-Items.is in
-    let told = ap (λ l. text_of s (map item_value l)) c.deref-in-LargeList-2.ensures.value ∙ list_text (shape_of c.args.dtype.now) s vs (item_value c.args.item.now) (sym value) (ap item_shape (sym same)) in
-    IfOk-weaker c.push_list.result _ _ (λ fit put is. put is ∙ ap (λ l. string_bytes c.args.text.now ++ l) told) c.push_list.ensures.text
+    let items = c.deref-in-LargeList-2.ensures.value in
+    let fits_row = ap (λ l. list_all (fits s) (map item_value l)) items ∙ sym (all_fit_is s vs) ∙ ap (λ t. fits t (Items (values_of vs))) same ∙ ap (fits dtype) (sym value) in
+    let text_row = ap (λ l. text_of s (map item_value l)) items ∙ list_text dtype s vs row (sym value) (ap item_shape (sym same)) in
+    record {
+      fit = IfOk-weaker c.push_list.result _ _ (λ fit is. is ∙ fits_row) c.push_list.ensures.fit;
+      text = IfOk-weaker c.push_list.result _ _ (λ fit put is. put is ∙ ap (λ l. string_bytes c.args.text.now ++ l) text_row) c.push_list.ensures.text;
+    }
 
 pub push_item-returns-then-len-size-clause-fit : goal.push_item-returns-then-len-size-clause-fit
 push_item-returns-then-len-size-clause-fit t c =
@@ -36,27 +34,24 @@ push_item-returns-then-len-size-clause-fit t c =
     other_size _ size _ (λ same. c.if-len-size.true (omega (arith, c.len.ensures, c.in-Items.items.ok, count, same)))
     ∙ ap (λ t. fits t (Items (values_of (map item_value c.in-Items.items.items)))) (sym (ap shape_of c.in-FixedSizeList.is)) ∙ ap (fits (shape_of c.args.dtype.now)) (sym value)
 
-pub push_item-returns-else-len-size-clause-fit : goal.push_item-returns-else-len-size-clause-fit
-push_item-returns-else-len-size-clause-fit t c =
+pub push_item-returns-else-len-size : goal.push_item-returns-else-len-size
+push_item-returns-else-len-size t c =
     let s = shape_of c.deref-in-FixedSizeList.result.now in
+    let dtype = shape_of c.args.dtype.now in
     let size = c.in-FixedSizeList.size in
     let vs = map item_value c.in-Items.items.items in
-    let same : of_fixed_size_list s size ≡ shape_of c.args.dtype.now = ap (λ d. of_fixed_size_list (shape_of d) size) c.deref-in-FixedSizeList.ensures ∙ sym (ap shape_of c.in-FixedSizeList.is) in
+    let row = item_value c.args.item.now in
+    let same : of_fixed_size_list s size ≡ dtype = ap (λ d. of_fixed_size_list (shape_of d) size) c.deref-in-FixedSizeList.ensures ∙ sym (ap shape_of c.in-FixedSizeList.is) in
     let value = list_is c.args.item.now c.in-Items.items c.in-Items.is in
+    let items = c.deref-in-FixedSizeList-2.ensures.value in
     let count = ap length (list_back vs) ∙ length-map c.in-Items.items.items item_value in
-    let told = ap (λ l. list_all (fits s) (map item_value l)) c.deref-in-FixedSizeList-2.ensures.value ∙ sym (all_fit_is s vs)
-    ∙ same_size _ size _ (omega (arith, c.len.ensures, c.in-Items.items.ok, count, c.if-len-size.false)) ∙ ap (λ t. fits t (Items (values_of vs))) same ∙ ap (fits (shape_of c.args.dtype.now)) (sym value) in
-    IfOk-weaker c.push_list-in-FixedSizeList.result _ _ (λ fit is. is ∙ told) c.push_list-in-FixedSizeList.ensures.fit
-
-pub push_item-returns-else-len-size-clause-text : goal.push_item-returns-else-len-size-clause-text
-push_item-returns-else-len-size-clause-text t c =
-    let s = shape_of c.deref-in-FixedSizeList.result.now in
-    let size = c.in-FixedSizeList.size in
-    let vs = map item_value c.in-Items.items.items in
-    let same : of_fixed_size_list s size ≡ shape_of c.args.dtype.now = ap (λ d. of_fixed_size_list (shape_of d) size) c.deref-in-FixedSizeList.ensures ∙ sym (ap shape_of c.in-FixedSizeList.is) in
-    let value = list_is c.args.item.now c.in-Items.items c.in-Items.is in
-    let told = ap (λ l. text_of s (map item_value l)) c.deref-in-FixedSizeList-2.ensures.value ∙ list_text (shape_of c.args.dtype.now) s vs (item_value c.args.item.now) (sym value) (ap item_shape (sym same)) in
-    IfOk-weaker c.push_list-in-FixedSizeList.result _ _ (λ fit put is. put is ∙ ap (λ l. string_bytes c.args.text.now ++ l) told) c.push_list-in-FixedSizeList.ensures.text
+    let fits_row = ap (λ l. list_all (fits s) (map item_value l)) items ∙ sym (all_fit_is s vs)
+    ∙ same_size _ size _ (omega (arith, c.len.ensures, c.in-Items.items.ok, count, c.if-len-size.false)) ∙ ap (λ t. fits t (Items (values_of vs))) same ∙ ap (fits dtype) (sym value) in
+    let text_row = ap (λ l. text_of s (map item_value l)) items ∙ list_text dtype s vs row (sym value) (ap item_shape (sym same)) in
+    record {
+      fit = IfOk-weaker c.push_list-in-FixedSizeList.result _ _ (λ fit is. is ∙ fits_row) c.push_list-in-FixedSizeList.ensures.fit;
+      text = IfOk-weaker c.push_list-in-FixedSizeList.result _ _ (λ fit put is. put is ∙ ap (λ l. string_bytes c.args.text.now ++ l) text_row) c.push_list-in-FixedSizeList.ensures.text;
+    }
 
 pub push_item-returns-in_default : goal.push_item-returns-in_default
 push_item-returns-in_default t c =
@@ -96,23 +91,20 @@ push_list-loop-k-preserved t c =
 
 -- ---- struct values
 
-pub push_item-returns-in-Struct-clause-fit : goal.push_item-returns-in-Struct-clause-fit
-push_item-returns-in-Struct-clause-fit t c =
+pub push_item-returns-in-Struct : goal.push_item-returns-in-Struct
+push_item-returns-in-Struct t c =
     let shapes = shapes_of (map shape_of c.deref-in-Struct.result.now) in
-    let vs = map item_value c.in-Parts.parts.items in
-    let same : of_struct shapes ≡ shape_of c.args.dtype.now = ap (λ l. of_struct (shapes_of (map shape_of l))) c.deref-in-Struct.ensures.value ∙ sym (struct_shape c.args.dtype.now c.in-Struct.dtypes c.in-Struct.is) in
+    let dtype = shape_of c.args.dtype.now in
+    let row = Tuple (values_of (map item_value c.in-Parts.parts.items)) in
+    let same : of_struct shapes ≡ dtype = ap (λ l. of_struct (shapes_of (map shape_of l))) c.deref-in-Struct.ensures.value ∙ sym (struct_shape c.args.dtype.now c.in-Struct.dtypes c.in-Struct.is) in
     let value = tuple_is c.args.item.now c.in-Parts.parts c.in-Parts.is in
-    let told = ap (λ l. fields_fit shapes (values_of (map item_value l))) c.deref-in-Struct-2.ensures.value ∙ ap (λ t. fits t (Tuple (values_of vs))) same ∙ ap (fits (shape_of c.args.dtype.now)) (sym value) in
-    IfOk-weaker c.push_fields.result _ _ (λ fit is. is ∙ told) c.push_fields.ensures.fit
-
-pub push_item-returns-in-Struct-clause-text : goal.push_item-returns-in-Struct-clause-text
-push_item-returns-in-Struct-clause-text t c =
-    let shapes = shapes_of (map shape_of c.deref-in-Struct.result.now) in
-    let vs = map item_value c.in-Parts.parts.items in
-    let same : of_struct shapes ≡ shape_of c.args.dtype.now = ap (λ l. of_struct (shapes_of (map shape_of l))) c.deref-in-Struct.ensures.value ∙ sym (struct_shape c.args.dtype.now c.in-Struct.dtypes c.in-Struct.is) in
-    let value = tuple_is c.args.item.now c.in-Parts.parts c.in-Parts.is in
-    let told = ap (λ l. parenthesized (part_texts shapes (values_of (map item_value l)))) c.deref-in-Struct-2.ensures.value ∙ ap (λ t. value_text t (Tuple (values_of vs))) same ∙ ap (value_text (shape_of c.args.dtype.now)) (sym value) in
-    IfOk-weaker c.push_fields.result _ _ (λ fit put is. put is ∙ ap (λ l. string_bytes c.args.text.now ++ l) told) c.push_fields.ensures.text
+    let parts = c.deref-in-Struct-2.ensures.value in
+    let fits_row = ap (λ l. fields_fit shapes (values_of (map item_value l))) parts ∙ ap (λ t. fits t row) same ∙ ap (fits dtype) (sym value) in
+    let text_row = ap (λ l. parenthesized (part_texts shapes (values_of (map item_value l)))) parts ∙ ap (λ t. value_text t row) same ∙ ap (value_text dtype) (sym value) in
+    record {
+      fit = IfOk-weaker c.push_fields.result _ _ (λ fit is. is ∙ fits_row) c.push_fields.ensures.fit;
+      text = IfOk-weaker c.push_fields.result _ _ (λ fit put is. put is ∙ ap (λ l. string_bytes c.args.text.now ++ l) text_row) c.push_fields.ensures.text;
+    }
 
 pub push_fields-returns-then-dtypes-parts-clause-fit : goal.push_fields-returns-then-dtypes-parts-clause-fit
 push_fields-returns-then-dtypes-parts-clause-fit t c =

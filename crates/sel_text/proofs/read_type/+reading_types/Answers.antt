@@ -16,30 +16,26 @@ read_fields-loop-init t c = record {
   left = λ s ss more narrow is. subst (λ l. IsLeft (next_shape s ss) l c.args.bytes.now more) (sym c.new-fields.ensures.items) (all_left s ss c.args.bytes.now more narrow is);
 }
 
-pub read_fields-returns-in-Some-clause-text : goal.read_fields-returns-in-Some-clause-text
-read_fields-returns-in-Some-clause-text t c =
+pub read_fields-returns-in-Some : goal.read_fields-returns-in-Some
+read_fields-returns-in-Some t c =
     let text = text_of_type c.in-Ok.read.0 in
-    let grown = ap (map text_of_type) c.in_ok-push.ensures.items ∙ map-append text_of_type c.loop.fields.items (c.in-Ok.read.0 ∷ []) in
-    comma_last 60 62 _ _ text _ _ _ grown c.loop.invariant.text (c.in-Ok.ensures.text ∙ ap (λ l. text ++ l) c.in-Some.ensures)
-
-pub read_fields-returns-in-Some-clause-levels : goal.read_fields-returns-in-Some-clause-levels
-read_fields-returns-in-Some-clause-levels t c =
-    grown_depth c.loop.fields.items c.push.new.self.items c.in-Ok.read.0 c.args.levels c.in_ok-push.ensures.items c.loop.invariant.levels (omega (arith, c.in-Ok.ensures.levels, c.requires))
-
-pub read_fields-returns-in-Some-clause-widths : goal.read_fields-returns-in-Some-clause-widths
-read_fields-returns-in-Some-clause-widths t c = grown_narrow c.loop.fields.items c.push.new.self.items c.in-Ok.read.0 c.in_ok-push.ensures.items c.loop.invariant.widths c.in-Ok.ensures.widths
+    let put = c.in_ok-push.ensures.items in
+    let grown = ap (map text_of_type) put ∙ map-append text_of_type c.loop.fields.items (c.in-Ok.read.0 ∷ []) in
+    record {
+      text = comma_last 60 62 _ _ text _ _ _ grown c.loop.invariant.text (c.in-Ok.ensures.text ∙ ap (λ l. text ++ l) c.in-Some.ensures);
+      levels = grown_depth _ _ c.in-Ok.read.0 c.args.levels put c.loop.invariant.levels (omega (arith, c.in-Ok.ensures.levels, c.requires));
+      widths = grown_narrow _ _ c.in-Ok.read.0 put c.loop.invariant.widths c.in-Ok.ensures.widths;
+      whole = λ s ss more narrow is.
+          let left = c.loop.invariant.left s ss more narrow is in
+          let told = c.in-Ok.ensures.whole left.first (behind_first left.others more) (left_narrow _ _ _ _ left) left.text in
+          last_read (next_shape s ss) c.loop.fields.items _ c.in-Ok.read.0 _ _ _ more left put told c.in-Some.ensures;
+    }
 
 pub read_fields-returns-in-Err-clause-whole : goal.read_fields-returns-in-Err-clause-whole
 read_fields-returns-in-Err-clause-whole t c = λ s ss more narrow is.
     let left = c.loop.invariant.left s ss more narrow is in
     let told = c.in-Err.ensures.whole left.first (behind_first left.others more) (left_narrow _ _ _ _ left) left.text in
     field_told (next_shape s ss) c.loop.fields.items c.loop.rest.now more left c.args.levels c.in-Err.fault c.requires told
-
-pub read_fields-returns-in-Some-clause-whole : goal.read_fields-returns-in-Some-clause-whole
-read_fields-returns-in-Some-clause-whole t c = λ s ss more narrow is.
-    let left = c.loop.invariant.left s ss more narrow is in
-    let told = c.in-Ok.ensures.whole left.first (behind_first left.others more) (left_narrow _ _ _ _ left) left.text in
-    last_read (next_shape s ss) c.loop.fields.items c.push.new.self.items c.in-Ok.read.0 c.loop.rest.now c.in-Ok.read.1.now c.in-Some.end.now more left c.in_ok-push.ensures.items told c.in-Some.ensures
 
 pub read_fields-returns-in_default-behind-clause-whole : goal.read_fields-returns-in_default-behind-clause-whole
 read_fields-returns-in_default-behind-clause-whole t c = λ s ss more narrow is.
@@ -65,45 +61,37 @@ read_fields-loop-preserved t c =
           more_left (next_shape s ss) c.loop.fields.items c.push.new.self.items c.in-Ok.read.0 c.loop.rest.now c.in-Ok.read.1.now c.in-Some-behind.next.now more left c.in_ok-push.ensures.items told c.in-Some-behind.ensures;
     }
 
-pub read_struct_type-returns-in-Some-clause-text : goal.read_struct_type-returns-in-Some-clause-text
-read_struct_type-returns-in-Some-clause-text t c =
-    struct_behind c.new.result [] _ _ c.new.ensures.items (c.in_ok-rest.ensures.rest ∙ ap (λ l. 60 ∷ l) c.in-Some.ensures)
-
-pub read_struct_type-returns-clause-text : goal.read_struct_type-returns-clause-text
-read_struct_type-returns-clause-text t c = struct_behind c.in_ok-fields.fields _ _ _ refl (c.in_ok-rest.ensures.rest ∙ c.in_ok-fields.ensures.text)
-
-pub read_struct_type-returns-in-Some-clause-levels : goal.read_struct_type-returns-in-Some-clause-levels
-read_struct_type-returns-in-Some-clause-levels t c =
+pub read_struct_type-returns-in-Some : goal.read_struct_type-returns-in-Some
+read_struct_type-returns-in-Some t c =
     let none = shape_of-Struct c.new.result ∙ ap (λ l. of_struct (shapes_of (map shape_of l))) c.new.ensures.items in
-    subst (λ s. depth s ≤ c.args.levels) (sym none) c.requires
-
-pub read_struct_type-returns-clause-levels : goal.read_struct_type-returns-clause-levels
-read_struct_type-returns-clause-levels t c =
-    subst (λ s. depth s ≤ c.args.levels) (sym (shape_of-Struct c.in_ok-fields.fields)) (omega (arith, c.in_ok-fields.ensures.levels))
-
-pub read_struct_type-returns-in-Some-clause-widths : goal.read_struct_type-returns-in-Some-clause-widths
-read_struct_type-returns-in-Some-clause-widths t c =
-    let none = shape_of-Struct c.new.result ∙ ap (λ l. of_struct (shapes_of (map shape_of l))) c.new.ensures.items in
-    ap widths_written none
-
-pub read_struct_type-returns-clause-widths : goal.read_struct_type-returns-clause-widths
-read_struct_type-returns-clause-widths t c = ap widths_written (shape_of-Struct c.in_ok-fields.fields) ∙ c.in_ok-fields.ensures.widths
-
-pub read_struct_type-returns-in-Some-clause-whole : goal.read_struct_type-returns-in-Some-clause-whole
-read_struct_type-returns-in-Some-clause-whole t c = λ s more few is.
-    let told = tuples_told s c.args.bytes.now more is in
     let here : c.args.bytes.now ≡ 60 ∷ 62 ∷ c.in-Some.rest.now = c.in_ok-rest.ensures.rest ∙ ap (λ l. 60 ∷ l) c.in-Some.ensures in
-    let none = no_types told.0 c.in-Some.rest.now more (sym here ∙ told.2) in
-    (shape_of-Struct c.new.result ∙ ap (λ l. of_struct (shapes_of (map shape_of l))) c.new.ensures.items ∙ ap of_struct (sym none.0) ∙ sym told.1, none.1)
+    record {
+      text = struct_behind c.new.result [] _ _ c.new.ensures.items here;
+      levels = subst (λ s. depth s ≤ c.args.levels) (sym none) c.requires;
+      widths = ap widths_written none;
+      whole = λ s more few is.
+          let told = tuples_told s c.args.bytes.now more is in
+          let parts = no_types told.0 c.in-Some.rest.now more (sym here ∙ told.2) in
+          (none ∙ ap of_struct (sym parts.0) ∙ sym told.1, parts.1);
+    }
 
-pub read_struct_type-returns-clause-whole : goal.read_struct_type-returns-clause-whole
-read_struct_type-returns-clause-whole t c = λ s more few is.
-    let told = tuples_told s c.args.bytes.now more is in
-    let here = sym c.in_ok-rest.ensures.rest ∙ told.2 in
-    let some = some_types told.0 c.in_ok-rest.rest.now more here c.in_default.ensures in
-    let narrow : all_widths_written (next_shape some.0 some.1) ≡ true = ap all_widths_written (sym some.2) ∙ ap widths_written (sym told.1) ∙ few in
-    let read = c.in_ok-fields.ensures.whole some.0 some.1 more narrow (here ∙ ap (λ l. angled (type_texts l) ++ more) some.2) in
-    (shape_of-Struct c.in_ok-fields.fields ∙ ap of_struct (read.0 ∙ sym some.2) ∙ sym told.1, read.1)
+pub read_struct_type-returns : goal.read_struct_type-returns
+read_struct_type-returns t c =
+    let rest = c.in_ok-rest.ensures.rest in
+    let fields = c.in_ok-fields.ensures in
+    let shape = shape_of-Struct c.in_ok-fields.fields in
+    record {
+      text = struct_behind c.in_ok-fields.fields _ _ _ refl (rest ∙ fields.text);
+      levels = subst (λ s. depth s ≤ c.args.levels) (sym shape) (omega (arith, fields.levels));
+      widths = ap widths_written shape ∙ fields.widths;
+      whole = λ s more few is.
+          let told = tuples_told s c.args.bytes.now more is in
+          let here = sym rest ∙ told.2 in
+          let some = some_types told.0 c.in_ok-rest.rest.now more here c.in_default.ensures in
+          let narrow : all_widths_written (next_shape some.0 some.1) ≡ true = ap all_widths_written (sym some.2) ∙ ap widths_written (sym told.1) ∙ few in
+          let read = fields.whole some.0 some.1 more narrow (here ∙ ap (λ l. angled (type_texts l) ++ more) some.2) in
+          (shape ∙ ap of_struct (read.0 ∙ sym some.2) ∙ sym told.1, read.1);
+    }
 
 pub read_blocks-returns-clause-whole : goal.read_blocks-returns-clause-whole
 read_blocks-returns-clause-whole t c = λ s more few is.
