@@ -143,6 +143,7 @@ fn law_numbers_fit<T: FitsShape>(array: &PrimitiveArray<T>)
 }
 
 /// Shows that bytes are less than 256.
+#[tactic(auto, using(crate::proofs::FittingRows::bytes_from))]
 pub(crate) fn law_bytes_fit(bytes: &[u8])
     ensures { IsTrue (are_bytes bytes.now) }
 {}

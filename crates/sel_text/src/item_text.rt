@@ -191,6 +191,7 @@ fn converts<T: FromWhole>(whole: Whole) -> bool
 }
 
 /// Appends bytes or a string to `text`; `false` if they do not fit the type.
+#[tactic(auto, using(crate::proofs::ItemTexts::no_bytes))]
 fn push_bytes(dtype: &ArrowDataType, bytes: &[u8], text: &mut String) -> Result<bool, AllocError>
     ensures fit { IfOk result (λ fit. fit ≡ fits (shape_of dtype.now) (Bytes bytes.now)) }
     ensures text { IfOk result (λ fit. IsTrue fit → string_bytes text.new ≡
