@@ -7,51 +7,16 @@ use Rattle.sel_text.proofs.TypesTold.{plain_told, blocks_told, tuples_told}
 
 -- ---- texts that begin with a type
 
--- A text that begins with the text of this type begins with that of no other type.
-record Tells (s : Shape) : Type 0 where
-  told : (t : Shape) (more rest : List ℕ) → widths_written s ≡ true → widths_written t ≡ true → type_text s ++ more ≡ type_text t ++ rest → (s ≡ t) × (more ≡ rest)
-
--- The same for types that each follow a comma.
-record TellsLeft (ss : Shapes) : Type 0 where
-  told : (ts : Shapes) (more rest : List ℕ) → all_widths_written ss ≡ true → all_widths_written ts ≡ true → behind_first ss more ≡ behind_first ts rest → (ss ≡ ts) × (more ≡ rest)
-
 lists_told : (s : Shape) (text more : List ℕ) → codes "list" ++ text ≡ type_text s ++ more → (child : Shape) × (s ≡ of_large_list child) × (text ≡ 60 ∷ (type_text child ++ (62 ∷ more)))
 lists_told (of_large_list c) text more is = (c, refl, ap (drop 4) is ∙ ap (λ l. 60 ∷ l) (append_assoc (type_text c) (62 ∷ []) more))
 lists_told s text more is = let first = ap (λ l. get_or l 0 0) is in absurd (omega (arith, first))
 
-list_case : (c : Shape) → Tells c → (t : Shape) (more rest : List ℕ) → widths_written (of_large_list c) ≡ true → widths_written t ≡ true → type_text (of_large_list c) ++ more ≡ type_text t ++ rest → (of_large_list c ≡ t) × (more ≡ rest)
-list_case c tells t more rest narrow narrow_other is =
-    let start : codes "list" ++ (60 ∷ (type_text c ++ (62 ∷ more))) ≡ type_text t ++ rest = ap (λ l. codes "list" ++ (60 ∷ l)) (sym (append_assoc (type_text c) (62 ∷ []) more)) ∙ is in
-    let other = lists_told t (60 ∷ (type_text c ++ (62 ∷ more))) rest start in
-    let child = tells.told other.0 (62 ∷ more) (62 ∷ rest) narrow (ap widths_written (sym other.1) ∙ narrow_other) (ap (drop 1) other.2) in
-    (ap of_large_list child.0 ∙ sym other.1, ap (drop 1) child.1)
+wider : (n : ℕ) → n < 2 ^ 64 → n < 2 ^ 128
+wider n small = let more : 2 ^ 64 < 2 ^ 128 = lit< tt in omega (arith, small, more)
 
-block_case : (c : Shape) (n : ℕ) → Tells c → (t : Shape) (more rest : List ℕ) → widths_written (of_fixed_size_list c n) ≡ true → widths_written t ≡ true → type_text (of_fixed_size_list c n) ++ more ≡ type_text t ++ rest → (of_fixed_size_list c n ≡ t) × (more ≡ rest)
-block_case c n tells t more rest narrow narrow_other is =
-    let behind : List ℕ = 44 ∷ (type_text c ++ (62 ∷ more)) in
-    let parts = append_assoc (decimal n ++ (44 ∷ type_text c)) (62 ∷ []) more ∙ append_assoc (decimal n) (44 ∷ type_text c) (62 ∷ more) in
-    let start : codes "fixed" ++ (60 ∷ (decimal n ++ (44 ∷ (type_text c ++ (62 ∷ more))))) ≡ type_text t ++ rest = ap (λ l. codes "fixed" ++ (60 ∷ l)) (sym parts) ∙ is in
-    let other = blocks_told t (60 ∷ (decimal n ++ (44 ∷ (type_text c ++ (62 ∷ more))))) rest start in
-    let own = block_narrow c n narrow in
-    let theirs = block_narrow other.0 other.1 (ap widths_written (sym other.2) ∙ narrow_other) in
-    let sizes = numbers_told n other.1 (decimal n ++ (44 ∷ (type_text c ++ (62 ∷ more)))) (44 ∷ (type_text c ++ (62 ∷ more))) (44 ∷ (type_text other.0 ++ (62 ∷ rest))) (wider n own.0) (wider other.1 theirs.0) (omega arith) (omega arith) refl (ap (drop 1) other.3) in
-    let child = tells.told other.0 (62 ∷ more) (62 ∷ rest) own.1 theirs.1 (ap (drop 1) sizes.1) in
-    (ap (of_fixed_size_list c) sizes.0 ∙ ap (λ x. of_fixed_size_list x other.1) child.0 ∙ sym other.2, ap (drop 1) child.1)
-  where
-    wider : (n : ℕ) → n < 2 ^ 64 → n < 2 ^ 128
-    wider n small = let more : 2 ^ 64 < 2 ^ 128 = lit< tt in omega (arith, small, more)
-
-no_more : (ts : Shapes) (more rest : List ℕ) → 62 ∷ more ≡ behind_first ts rest → (no_shapes ≡ ts) × (more ≡ rest)
-no_more no_shapes more rest is = (refl, ap (drop 1) is)
-no_more (next_shape t ts) more rest is = let first = ap (λ l. get_or l 0 0) is in absurd (omega (arith, first))
-
-next_case : (s : Shape) (ss : Shapes) → Tells s → TellsLeft ss → (ts : Shapes) (more rest : List ℕ) → all_widths_written (next_shape s ss) ≡ true → all_widths_written ts ≡ true →
-    behind_first (next_shape s ss) more ≡ behind_first ts rest → (next_shape s ss ≡ ts) × (more ≡ rest)
-next_case s ss tells left no_shapes more rest narrow narrow_others is = let first = ap (λ l. get_or l 0 0) is in absurd (omega (arith, first))
-next_case s ss tells left (next_shape t ts) more rest narrow narrow_others is =
-    let first = tells.told t (behind_first ss more) (behind_first ts rest) (and_first (widths_written s) (all_widths_written ss) narrow) (and_first (widths_written t) (all_widths_written ts) narrow_others) (ap (drop 1) is) in
-    let others = left.told ts more rest (and_second (widths_written s) (all_widths_written ss) narrow) (and_second (widths_written t) (all_widths_written ts) narrow_others) first.1 in
-    (ap (λ x. next_shape x ss) first.0 ∙ ap (next_shape t) others.0, others.1)
+-- Texts of types that each follow a comma are those of only these types.
+abbrev TellsLeft : Shapes → Type 0
+TellsLeft ss = (ts : Shapes) (more rest : List ℕ) → all_widths_written ss ≡ true → all_widths_written ts ≡ true → behind_first ss more ≡ behind_first ts rest → (ss ≡ ts) × (more ≡ rest)
 
 -- Types in angle brackets.
 parts_told : (ss : Shapes) → TellsLeft ss → (ts : Shapes) (more rest : List ℕ) → all_widths_written ss ≡ true → all_widths_written ts ≡ true → angled (type_texts ss) ++ more ≡ angled (type_texts ts) ++ rest → (ss ≡ ts) × (more ≡ rest)
@@ -60,28 +25,43 @@ parts_told (next_shape s ss) left no_shapes more rest narrow narrow_others is = 
 parts_told (next_shape s ss) left (next_shape t ts) more rest narrow narrow_others is =
     let one = behind_bracket s ss (drop 1 (angled (type_texts (next_shape s ss)) ++ more)) more refl in
     let other = behind_bracket t ts (drop 1 (angled (type_texts (next_shape s ss)) ++ more)) rest is in
-    left.told (next_shape t ts) more rest narrow narrow_others (ap (λ l. 44 ∷ l) (sym one ∙ other))
-
-tuple_case : (ss : Shapes) → TellsLeft ss → (t : Shape) (more rest : List ℕ) → widths_written (of_struct ss) ≡ true → widths_written t ≡ true → type_text (of_struct ss) ++ more ≡ type_text t ++ rest → (of_struct ss ≡ t) × (more ≡ rest)
-tuple_case ss left t more rest narrow narrow_other is =
-    let other = tuples_told t (angled (type_texts ss) ++ more) rest is in
-    let parts = parts_told ss left other.0 more rest narrow (ap widths_written (sym other.1) ∙ narrow_other) other.2 in
-    (ap of_struct parts.0 ∙ sym other.1, parts.1)
+    left (next_shape t ts) more rest narrow narrow_others (ap (λ l. 44 ∷ l) (sym one ∙ other))
 
 mutual
-  tells : (s : Shape) → Tells s
-  tells (of_large_list c) = record { told = list_case c (tells c) }
-  tells (of_fixed_size_list c n) = record { told = block_case c n (tells c) }
-  tells (of_struct ss) = record { told = tuple_case ss (tells_left ss) }
-  tells s = record { told = λ t more rest narrow narrow_other is. plain_told s t (type_text s ++ more) more rest refl refl is }
+  -- A text that begins with the text of a type begins with that of no other type.
+  tells : (s t : Shape) (more rest : List ℕ) → widths_written s ≡ true → widths_written t ≡ true → type_text s ++ more ≡ type_text t ++ rest → (s ≡ t) × (more ≡ rest)
+  tells (of_large_list c) t more rest narrow narrow_other is =
+      let start : codes "list" ++ (60 ∷ (type_text c ++ (62 ∷ more))) ≡ type_text t ++ rest = ap (λ l. codes "list" ++ (60 ∷ l)) (sym (append_assoc (type_text c) (62 ∷ []) more)) ∙ is in
+      let other = lists_told t (60 ∷ (type_text c ++ (62 ∷ more))) rest start in
+      let child = tells c other.0 (62 ∷ more) (62 ∷ rest) narrow (ap widths_written (sym other.1) ∙ narrow_other) (ap (drop 1) other.2) in
+      (ap of_large_list child.0 ∙ sym other.1, ap (drop 1) child.1)
+  tells (of_fixed_size_list c n) t more rest narrow narrow_other is =
+      let behind : List ℕ = 44 ∷ (type_text c ++ (62 ∷ more)) in
+      let parts = append_assoc (decimal n ++ (44 ∷ type_text c)) (62 ∷ []) more ∙ append_assoc (decimal n) (44 ∷ type_text c) (62 ∷ more) in
+      let start : codes "fixed" ++ (60 ∷ (decimal n ++ behind)) ≡ type_text t ++ rest = ap (λ l. codes "fixed" ++ (60 ∷ l)) (sym parts) ∙ is in
+      let other = blocks_told t (60 ∷ (decimal n ++ behind)) rest start in
+      let own = block_narrow c n narrow in
+      let theirs = block_narrow other.0 other.1 (ap widths_written (sym other.2) ∙ narrow_other) in
+      let sizes = numbers_told n other.1 (decimal n ++ behind) behind (44 ∷ (type_text other.0 ++ (62 ∷ rest))) (wider n own.0) (wider other.1 theirs.0) (omega arith) (omega arith) refl (ap (drop 1) other.3) in
+      let child = tells c other.0 (62 ∷ more) (62 ∷ rest) own.1 theirs.1 (ap (drop 1) sizes.1) in
+      (ap (of_fixed_size_list c) sizes.0 ∙ ap (λ x. of_fixed_size_list x other.1) child.0 ∙ sym other.2, ap (drop 1) child.1)
+  tells (of_struct ss) t more rest narrow narrow_other is =
+      let other = tuples_told t (angled (type_texts ss) ++ more) rest is in
+      let parts = parts_told ss (tells_left ss) other.0 more rest narrow (ap widths_written (sym other.1) ∙ narrow_other) other.2 in
+      (ap of_struct parts.0 ∙ sym other.1, parts.1)
+  tells s t more rest narrow narrow_other is = plain_told s t (type_text s ++ more) more rest refl refl is
 
   tells_left : (ss : Shapes) → TellsLeft ss
-  tells_left no_shapes = record { told = λ ts more rest narrow narrow_others is. no_more ts more rest is }
-  tells_left (next_shape s ss) = record { told = next_case s ss (tells s) (tells_left ss) }
+  tells_left no_shapes no_shapes more rest narrow narrow_others is = (refl, ap (drop 1) is)
+  tells_left (next_shape s ss) (next_shape t ts) more rest narrow narrow_others is =
+      let first = tells s t (behind_first ss more) (behind_first ts rest) (and_first _ _ narrow) (and_first _ _ narrow_others) (ap (drop 1) is) in
+      let others = tells_left ss ts more rest (and_second _ _ narrow) (and_second _ _ narrow_others) first.1 in
+      (ap (λ x. next_shape x ss) first.0 ∙ ap (next_shape t) others.0, others.1)
+  tells_left ss ts more rest narrow narrow_others is = let first = ap (λ l. get_or l 0 0) is in absurd (omega (arith, first))
 
 -- Types whose list sizes have 64 bits are equal if their texts are equal.
 pub one_type : (s t : Shape) → widths_written s ≡ true → widths_written t ≡ true → type_text s ≡ type_text t → s ≡ t
-one_type s t narrow narrow_other same = ((tells s).told t [] [] narrow narrow_other (ap (λ l. l ++ []) same)).0
+one_type s t narrow narrow_other same = (tells s t [] [] narrow narrow_other (ap (λ l. l ++ []) same)).0
 
 -- The same where both are the canonical spelling of a text.
 pub one_spelled : (text : List ℕ) (s t : Shape) → widths_written s ≡ true → widths_written t ≡ true → spelled text ≡ Some (type_text s) → spelled text ≡ Some (type_text t) → s ≡ t
