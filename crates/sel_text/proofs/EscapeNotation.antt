@@ -1,6 +1,6 @@
 -- Escapes of strings in the notation of rows.
 use Rattle.std.proofs.Common.{◌≡◌, ◌≢◌, ◌≤◌, ◌<◌, ℕ, ◌+◌, ◌-◌, ◌*◌, Bool, true, false, List, [], ◌∷◌, drop, refl, ap, sym, ◌∙◌, arith, Some, None, subst, Option, unwrap_or, option_map, option_and_then, nat_lt, ◌&&◌, ◌==◌, if◌then◌else◌}
-use Rattle.sel_text.proofs.Common.{digit_value, is_digit, nat_tests, goes_on, escape_at, is_high, is_low, next_unit, paired, short_escape, unit_at, unit_escape, escape_byte, is_hexadecimal, low_first_byte, low_second_byte, unit_first_byte, unit_second_byte, Bracket, Quoted, Text, Escape, UnitFirst, UnitSecond, LastThree, LastTwo, LastOne, HighTwo, HighOne, LowBackslash, LowLetter, LowFirst, LowSecond}
+use Rattle.sel_text.proofs.Common.{digit_value, is_digit, nat_tests, goes_on, escape_at, is_high, is_low, next_unit, paired, short_escape, unit_at, unit_escape, escape_byte, is_hexadecimal, Bracket, Quoted, Text, Escape, UnitFirst, UnitSecond, LastThree, LastTwo, LastOne, HighTwo, HighOne, LowBackslash, LowLetter, LowFirst, LowSecond}
 use lib.Utf8.{scalar}
 use Rattle.sel_text.proofs.StringNotation.{hex_step, inside, leads_byte, leads_none, Leads}
 
@@ -73,24 +73,6 @@ read_unit text unit is = absurd cc
 hexadecimal : (x : ℕ) → digit_value x < 16 → is_hexadecimal x ≡ true
 hexadecimal x small = grind (arith, nat_tests, small)
 
-surrogate_first : (x : ℕ) → digit_value x ≡ 13 → unit_first_byte x ≡ Some (Quoted UnitSecond)
-surrogate_first x is = grind (arith, nat_tests, is)
-
-other_first : (x : ℕ) → digit_value x < 16 → digit_value x ≢ 13 → unit_first_byte x ≡ Some (Quoted LastThree)
-other_first x small not = grind (arith, nat_tests, small, not)
-
-low_digit : (x : ℕ) → digit_value x < 8 → unit_second_byte x ≡ Some (Quoted LastTwo)
-low_digit x small = grind (arith, nat_tests, small)
-
-high_second : (x : ℕ) → 8 ≤ digit_value x → digit_value x < 12 → unit_second_byte x ≡ Some (Quoted HighTwo)
-high_second x least most = grind (arith, nat_tests, least, most)
-
-low_first : (x : ℕ) → digit_value x ≡ 13 → low_first_byte x ≡ Some (Quoted LowSecond)
-low_first x is = grind (arith, nat_tests, is)
-
-low_second : (x : ℕ) → 12 ≤ digit_value x → digit_value x < 16 → low_second_byte x ≡ Some (Quoted LastTwo)
-low_second x least most = grind (arith, nat_tests, least, most)
-
 last_two : (c d : ℕ) → digit_value c < 16 → digit_value d < 16 → Leads LastTwo Text (c ∷ d ∷ [])
 last_two c d digit_c digit_d =
     leads_byte LastTwo LastOne Text c (d ∷ []) (hex_step LastTwo LastOne c refl (hexadecimal c digit_c))
@@ -113,7 +95,7 @@ plain_unit text unit high low at = (
     digits true is =
         let same : digit_value at.a ≡ 13 = grind (arith, nat_tests, is) in
         let small : digit_value at.b < 8 = second same (nat_lt (digit_value at.b) 8) refl in
-        leads_byte UnitFirst UnitSecond Text at.a _ (surrogate_first at.a same) (leads_byte UnitSecond LastTwo Text at.b _ (low_digit at.b small) (last_two at.c at.d at.digit_c at.digit_d))
+        leads_byte UnitFirst UnitSecond Text at.a _ (grind (arith, nat_tests, same)) (leads_byte UnitSecond LastTwo Text at.b _ (grind (arith, nat_tests, small)) (last_two at.c at.d at.digit_c at.digit_d))
       where
         second : digit_value at.a ≡ 13 → (t : Bool) → nat_lt (digit_value at.b) 8 ≡ t → digit_value at.b < 8
         second same true is = grind (arith, nat_tests, is)
@@ -123,7 +105,7 @@ plain_unit text unit high low at = (
             absurd (omega (arith, at.unit_is, same, at.digit_b, at.digit_c, at.digit_d, past))
     digits false is =
         let not : digit_value at.a ≢ 13 = grind (arith, nat_tests, is) in
-        leads_byte UnitFirst LastThree Text at.a _ (other_first at.a at.digit_a not)
+        leads_byte UnitFirst LastThree Text at.a _ (grind (arith, nat_tests, at.digit_a, not))
         (leads_byte LastThree LastTwo Text at.b _ (hex_step LastThree LastTwo at.b refl (hexadecimal at.b at.digit_b)) (last_two at.c at.d at.digit_c at.digit_d))
 
 range_high : (unit : ℕ) → is_high unit ≡ true → (55296 ≤ unit) × (unit < 56320)
@@ -141,7 +123,7 @@ high_leads text unit is at =
     let first : digit_value at.a ≡ 13 = omega (arith, at.unit_is, at.digit_b, at.digit_c, at.digit_d, least, most) in
     let from : 8 ≤ digit_value at.b = omega (arith, at.unit_is, first, at.digit_c, at.digit_d, least) in
     let until : digit_value at.b < 12 = omega (arith, at.unit_is, first, most) in
-    leads_byte UnitFirst UnitSecond LowBackslash at.a _ (surrogate_first at.a first) (leads_byte UnitSecond HighTwo LowBackslash at.b _ (high_second at.b from until)
+    leads_byte UnitFirst UnitSecond LowBackslash at.a _ (grind (arith, nat_tests, first)) (leads_byte UnitSecond HighTwo LowBackslash at.b _ (grind (arith, nat_tests, from, until))
     (leads_byte HighTwo HighOne LowBackslash at.c _ (hex_step HighTwo HighOne at.c refl (hexadecimal at.c at.digit_c))
     (leads_byte HighOne LowBackslash LowBackslash at.d [] (hex_step HighOne LowBackslash at.d refl (hexadecimal at.d at.digit_d)) (leads_none LowBackslash))))
 
@@ -153,7 +135,7 @@ low_leads text unit is at =
     let most = range.1 in
     let first : digit_value at.a ≡ 13 = omega (arith, at.unit_is, at.digit_b, at.digit_c, at.digit_d, least, most) in
     let from : 12 ≤ digit_value at.b = omega (arith, at.unit_is, first, at.digit_c, at.digit_d, least) in
-    leads_byte LowFirst LowSecond Text at.a _ (low_first at.a first) (leads_byte LowSecond LastTwo Text at.b _ (low_second at.b from at.digit_b) (last_two at.c at.d at.digit_c at.digit_d))
+    leads_byte LowFirst LowSecond Text at.a _ (grind (arith, nat_tests, first)) (leads_byte LowSecond LastTwo Text at.b _ (grind (arith, nat_tests, from, at.digit_b)) (last_two at.c at.d at.digit_c at.digit_d))
 
 -- A second escape.
 record Next_unit (text : List ℕ) (unit : ℕ) : Type 0 where

@@ -63,9 +63,6 @@ ended next behind brackets bytes last same (inr m) on =
     ap (goes_on behind brackets) m.3 ∙ ap (is_some_and (λ (step : Next × Change). goes_on step.0 (changed step.1 brackets) m.1)) (sym (same (innermost brackets) m.0 m.2))
     ∙ sym (ap (goes_on next brackets) m.3) ∙ on
 
-no_first_digit : (mark : ℕ) → is_mark mark ≡ true → is_between mark 49 57 ≡ false
-no_first_digit mark is = grind (arith, nat_tests, is)
-
 word_dead : (word : WordSoFar) (mark : ℕ) → is_mark mark ≡ true → after_word_byte word mark ≡ None
 word_dead N mark is = grind (arith, nat_tests, is)
 word_dead word mark is = grind (arith, nat_tests, is)
@@ -106,7 +103,7 @@ gap byte rest later SizeDigit brackets bytes space not outside is on =
     let step : after_byte SizeDigit (innermost brackets) byte ≡ Some (SizeComma, Keep) = rw (number, space) refl in
     step_to SizeDigit SizeComma Keep brackets byte rest step
     ∙ later Gap SizeComma brackets bytes refl is (ended SizeDigit SizeComma brackets bytes refl (λ top mark is_token. rw (no_digit mark is_token) refl) (gap_ended rest bytes is) on)
-gap byte rest later Negative brackets bytes space not outside is on = absurd (true≢false (sym on ∙ dead Negative brackets bytes refl (λ top mark is_token. rw (no_first_digit mark is_token) refl) (gap_ended rest bytes is)))
+gap byte rest later Negative brackets bytes space not outside is on = absurd (true≢false (sym on ∙ dead Negative brackets bytes refl (λ top mark is_token. grind (arith, nat_tests, is_token)) (gap_ended rest bytes is)))
 gap byte rest later Digit brackets bytes space not outside is on =
     let number : is_between byte 48 57 ≡ false = space_no_digit byte space in
     let step : after_byte Digit (innermost brackets) byte ≡ Some (After, Keep) = rw (number, space) refl in

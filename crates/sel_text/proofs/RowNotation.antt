@@ -1,6 +1,6 @@
 -- The text of rows that fit a type is in the notation of rows.
 use Rattle.std.proofs.Common.{◌≡◌, ◌<◌, ℕ, ℤ, pos, negsuc, suc, zero, ◌/◌, ◌%◌, ◌^◌, Bool, true, false, List, [], ◌∷◌, ◌++◌, length, map, get_or, refl, ap, sym, ◌∙◌, append_assoc, append-nil, arith, lit<, Some, subst}
-use Rattle.sel_text.proofs.Common.{⊤, Option, codes, nat_lt, not, ◌&&◌, ◌==◌, if◌then◌else◌, digit_char, digit_value, decimal, signed_decimal, mag, flat_map, join_with_byte, list_all, IsUtf8, AllDigits, nat_tests, decimal_digit, decimal_is_IsNumeral_wide, IsUtf8-from_is_utf8, and_first, and_second, Shape, Shapes, no_shapes, next_shape, is_struct_shape, of_large_binary, of_binary_view, of_utf8_view, Value as RowValue, Null, Truth, Number, Bytes, Items, Tuple, Values, no_values, next_value, listed, all_fit, are_bytes, fields_fit, fits, fits_bytes, fits_count, after_byte, changed, closes, closing, goes_on, innermost, is_lower, is_row_notation, is_some_and, is_mark, is_space, bytes_text, escaped, hex_byte, hex_text, item_shape, item_texts, part_shapes, part_texts, quoted, text_of, value_text, is_between, Bracket, Square, Round, Child, Fields, Change, Keep, Next, Text}
+use Rattle.sel_text.proofs.Common.{⊤, Option, codes, nat_lt, not, ◌&&◌, ◌==◌, if◌then◌else◌, digit_char, decimal, signed_decimal, mag, flat_map, join_with_byte, list_all, IsUtf8, AllDigits, nat_tests, decimal_digit, decimal_is_IsNumeral_wide, IsUtf8-from_is_utf8, and_first, and_second, Shape, Shapes, no_shapes, next_shape, is_struct_shape, of_large_binary, of_binary_view, of_utf8_view, Value as RowValue, Null, Truth, Number, Bytes, Items, Tuple, Values, no_values, next_value, listed, all_fit, are_bytes, fields_fit, fits, fits_bytes, fits_count, after_byte, changed, closes, closing, goes_on, innermost, is_lower, is_row_notation, is_some_and, is_mark, is_space, bytes_text, escaped, hex_byte, hex_text, item_shape, item_texts, part_shapes, part_texts, quoted, text_of, value_text, is_between, Bracket, Square, Round, Child, Fields, Change, Keep, Next, Text}
 use Rattle.sel_text.proofs.Ends.{few_digits, first_digit}
 use Rattle.sel_text.proofs.StringNotation.{letters_lead}
 use Rattle.sel_text.proofs.Told.{small_number}
@@ -31,15 +31,6 @@ digits_read (c ∷ ds) brackets mark more all is =
     let told : after_byte Digit (innermost brackets) c ≡ Some (Digit, Keep) = rw (digit_between c all.0) refl in
     step_to Digit Digit Keep brackets c (ds ++ (mark ∷ more)) told ∙ digits_read ds brackets mark more all.1 is
 
-whole_step : (c : ℕ) → digit_value c < 10 → 48 < c → (top : Option Bracket) → after_byte Value top c ≡ Some (Digit, Keep)
-whole_step c small some top = grind (arith, nat_tests, small, some)
-
-negative_step : (c : ℕ) → digit_value c < 10 → 48 < c → (top : Option Bracket) → after_byte Negative top c ≡ Some (Digit, Keep)
-negative_step c small some top = grind (arith, nat_tests, small, some)
-
-digit_begins : (c : ℕ) → digit_value c < 10 → begins_value c ≡ true
-digit_begins c small = grind (arith, nat_tests, small)
-
 -- Digits without a leading zero.
 whole_reads : (ds : List ℕ) → 0 < length ds → AllDigits 10 ds → 48 < get_or ds 0 0 → Reads ds
 whole_reads [] some all lead = absurd (omega arith)
@@ -47,8 +38,8 @@ whole_reads (c ∷ ds) some all lead = record {
   first = c;
   rest = ds;
   text_is = refl;
-  begins = digit_begins c all.0;
-  read = λ brackets mark more is. step_to Value Digit Keep brackets c (ds ++ (mark ∷ more)) (whole_step c all.0 lead (innermost brackets)) ∙ digits_read ds brackets mark more all.1 is;
+  begins = grind (arith, nat_tests, all.0);
+  read = λ brackets mark more is. step_to Value Digit Keep brackets c (ds ++ (mark ∷ more)) (grind (arith, nat_tests, all.0, lead)) ∙ digits_read ds brackets mark more all.1 is;
 }
 
 below_reads : (ds : List ℕ) → 0 < length ds → AllDigits 10 ds → 48 < get_or ds 0 0 → Reads (45 ∷ ds)
@@ -58,7 +49,7 @@ below_reads (c ∷ ds) some all lead = record {
   rest = c ∷ ds;
   text_is = refl;
   begins = refl;
-  read = λ brackets mark more is. step_to Negative Digit Keep brackets c (ds ++ (mark ∷ more)) (negative_step c all.0 lead (innermost brackets)) ∙ digits_read ds brackets mark more all.1 is;
+  read = λ brackets mark more is. step_to Negative Digit Keep brackets c (ds ++ (mark ∷ more)) (grind (arith, nat_tests, all.0, lead)) ∙ digits_read ds brackets mark more all.1 is;
 }
 
 zero_reads : Reads (48 ∷ [])
@@ -102,15 +93,12 @@ lower_digit d small = grind (arith, nat_tests, small)
 lower_first : (d : ℕ) → d < 16 → (top : Option Bracket) → after_byte HexFirst top (digit_char d) ≡ Some (HexSecond, Keep)
 lower_first d small top = grind (arith, nat_tests, small)
 
-lower_second : (d : ℕ) → d < 16 → (top : Option Bracket) → after_byte HexSecond top (digit_char d) ≡ Some (HexFirst, Keep)
-lower_second d small top = rw (lower_digit d small) refl
-
 hex_read : (bytes : List ℕ) (brackets : List Bracket) (more : List ℕ) → are_bytes bytes ≡ true → goes_on HexFirst brackets (flat_map hex_byte bytes ++ (34 ∷ more)) ≡ goes_on After brackets more
 hex_read [] brackets more all = refl
 hex_read (b ∷ bytes) brackets more all =
     let small : b < 256 = grind (arith, nat_tests, and_first (nat_lt b 256) (are_bytes bytes) all) in
     step_to HexFirst HexSecond Keep brackets (digit_char (b / 16)) (digit_char (b % 16) ∷ flat_map hex_byte bytes ++ (34 ∷ more)) (lower_first (b / 16) (omega (arith, small)) (innermost brackets))
-    ∙ step_to HexSecond HexFirst Keep brackets (digit_char (b % 16)) (flat_map hex_byte bytes ++ (34 ∷ more)) (lower_second (b % 16) (omega arith) (innermost brackets))
+    ∙ step_to HexSecond HexFirst Keep brackets (digit_char (b % 16)) (flat_map hex_byte bytes ++ (34 ∷ more)) (rw (lower_digit (b % 16) (omega arith)) refl)
     ∙ hex_read bytes brackets more (and_second (nat_lt b 256) (are_bytes bytes) all)
 
 hex_reads : (bytes : List ℕ) → are_bytes bytes ≡ true → Reads (hex_text bytes)
@@ -188,11 +176,10 @@ closes_none : (bracket : Bracket) (c : ℕ) → begins_value c ≡ true → clos
 closes_none Square c begins = grind (arith, nat_tests, begins)
 closes_none bracket c begins = grind (arith, nat_tests, begins)
 
-no_space : (c : ℕ) → begins_value c ≡ true → is_space c ≡ false
-no_space c begins = grind (arith, nat_tests, begins)
-
 first_step : (bracket : Bracket) (c : ℕ) → begins_value c ≡ true → after_byte FirstValue (Some bracket) c ≡ after_byte Value (Some bracket) c
-first_step bracket c begins = rw (closes_none bracket c begins, no_space c begins) refl
+first_step bracket c begins =
+    let other : is_space c ≡ false = grind (arith, nat_tests, begins) in
+    rw (closes_none bracket c begins, other) refl
 
 first_read : (text : List ℕ) → Reads text → (bracket : Bracket) (brackets : List Bracket) (more : List ℕ) → goes_on FirstValue (bracket ∷ brackets) (text ++ more) ≡ goes_on Value (bracket ∷ brackets) (text ++ more)
 first_read text reads bracket brackets more =

@@ -1,5 +1,5 @@
 -- Characters of strings in the notation of rows.
-use Rattle.std.proofs.Common.{◌≢◌, ◌≡◌, ◌≤◌, ◌<◌, ℕ, ◌+◌, ◌/◌, ◌%◌, Bool, true, false, cond, List, [], ◌∷◌, ◌++◌, refl, ap, sym, ◌∙◌, append_assoc, append-nil, arith, Some, None, subst, inl, inr, ◌⊎◌, option_map, nat_lt, ◌==◌, encode_utf8, if◌then◌else◌}
+use Rattle.std.proofs.Common.{◌≡◌, ◌≤◌, ◌<◌, ℕ, ◌+◌, ◌/◌, ◌%◌, Bool, true, false, cond, List, [], ◌∷◌, ◌++◌, refl, ap, sym, ◌∙◌, append_assoc, append-nil, arith, Some, None, subst, inl, inr, ◌⊎◌, option_map, nat_lt, ◌==◌, encode_utf8, if◌then◌else◌}
 use Rattle.sel_text.proofs.Common.{digit_char, flat_map, nat_tests, flat_map-append, encode_ascii, and_first, and_second, goes_on, escaped, hex_byte, after_string_byte, escape_byte, is_between, is_hexadecimal, text_byte, Bracket, Keep, Next, Quoted, Within, Text, Escape, UnitFirst, LastThree, LastTwo, LastOne, ByteOne, ByteTwo, ByteThree, AfterE0, AfterEd, AfterF0, AfterF4}
 use lib.Utf8.{encode, encodes, next, scalar, scalars, scalar_cases}
 use Rattle.sel_text.proofs.Escapes.{each_escape, high_letter}
@@ -38,22 +38,16 @@ control_leads b low =
 short : (letter : ℕ) → escape_byte letter ≡ Some (Quoted Text) → Leads Text Text (92 ∷ letter ∷ [])
 short letter told = leads_byte Text Escape Text 92 (letter ∷ []) refl (leads_byte Escape Text Text letter [] told (leads_none Text))
 
-plain_step : (b : ℕ) → b ≢ 34 → b ≢ 92 → 32 ≤ b → b < 128 → text_byte b ≡ Some (Quoted Text)
-plain_step b quote backslash high low = grind (arith, nat_tests, quote, backslash, high, low)
-
 ascii_leads : (b : ℕ) → b < 128 → Leads Text Text (escaped b)
 ascii_leads =
     each_escape (λ b word. b < 128 → Leads Text Text word)
     (λ low. short 34 refl) (λ low. short 92 refl) (λ low. short 110 refl) (λ low. short 114 refl) (λ low. short 116 refl) (λ low. short 98 refl) (λ low. short 102 refl)
-    (λ b control n8 n9 n10 n12 n13 low. control_leads b control) (λ b high quote backslash low. leads_byte Text Text Text b [] (plain_step b quote backslash high low) (leads_none Text))
+    (λ b control n8 n9 n10 n12 n13 low. control_leads b control) (λ b high quote backslash low. leads_byte Text Text Text b [] (grind (arith, nat_tests, quote, backslash, high, low)) (leads_none Text))
 
 -- ---- characters of several bytes
 
-between : (b low high : ℕ) → low ≤ b → b ≤ high → is_between b low high ≡ true
-between b low high least most = grind (arith, nat_tests, least, most)
-
 between_step : (before after : Within) (b low high : ℕ) → after_string_byte before b ≡ (if is_between b low high then Some (Quoted after) else None) → low ≤ b → b ≤ high → after_string_byte before b ≡ Some (Quoted after)
-between_step before after b low high is least most = is ∙ when_true (is_between b low high) (Quoted after) (between b low high least most)
+between_step before after b low high is least most = is ∙ when_true (is_between b low high) (Quoted after) (grind (arith, nat_tests, least, most))
 
 last_leads : (b : ℕ) → 128 ≤ b → b ≤ 191 → Leads ByteOne Text (b ∷ [])
 last_leads b least most = leads_byte ByteOne Text Text b [] (between_step ByteOne Text b 128 191 refl least most) (leads_none Text)
