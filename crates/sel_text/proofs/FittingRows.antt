@@ -149,6 +149,8 @@ binview_column_fits c array buffers is same all = subst RowsFit (sym is) (binvie
 pub string_column_fits : (c : Column) (array : Utf8ViewArray) → c ≡ Utf8View array → RowsFit c
 string_column_fits c array is = subst RowsFit (sym is) (strings_fit array)
 
+pub ruleset flat_columns = (null_column_fits, boolean_column_fits, binary_column_fits, binview_column_fits, string_column_fits)
+
 -- ---- lists
 
 pieces_fit : (s : Shape) (a : ℕ) (offsets : List ℕ) (vs : List Value) → list_all (fits s) vs ≡ true → list_all (fits (of_large_list s)) (map list_of (pieces_after a offsets vs)) ≡ true

@@ -1,26 +1,11 @@
 use Rattle.std.proofs.Common.{All, rules, subst, sym, take_all}
 use Rattle.sel_text.proofs.Common.{the_lemmas, All-more, IsWellFormed, RowsFit}
-use Rattle.sel_text.proofs.FittingRows.{null_column_fits, boolean_column_fits, string_column_fits, binary_column_fits, binview_column_fits, list_column_fits, block_column_fits, struct_column_fits, fields_formed}
+use Rattle.sel_text.proofs.FittingRows.{list_column_fits, block_column_fits, struct_column_fits, fields_formed}
 use Rattle.sel_text.proofs.fit.+fitting.Goals as goal
 
 pub law_rows_fit-law_fields_fit-requires : goal.law_rows_fit-law_fields_fit-requires
 law_rows_fit-law_fields_fit-requires t c =
     (search (rules, the_lemmas), subst (All IsWellFormed) (sym c.deref-in-Struct.ensures.value) (fields_formed _ _ _ _ c.in-Struct.is c.requires))
-
-pub law_rows_fit-returns-in-Null : goal.law_rows_fit-returns-in-Null
-law_rows_fit-returns-in-Null t c = null_column_fits _ _ c.in-Null.is
-
-pub law_rows_fit-returns-in-Boolean : goal.law_rows_fit-returns-in-Boolean
-law_rows_fit-returns-in-Boolean t c = boolean_column_fits _ _ c.in-Boolean.is
-
-pub law_rows_fit-returns-in-Utf8View : goal.law_rows_fit-returns-in-Utf8View
-law_rows_fit-returns-in-Utf8View t c = string_column_fits _ _ c.in-Utf8View.is
-
-pub law_rows_fit-returns-in-LargeBinary : goal.law_rows_fit-returns-in-LargeBinary
-law_rows_fit-returns-in-LargeBinary t c = binary_column_fits _ _ _ c.in-LargeBinary.is c.as_slice.ensures c.law_bytes_fit.ensures
-
-pub law_rows_fit-returns-in-BinaryView : goal.law_rows_fit-returns-in-BinaryView
-law_rows_fit-returns-in-BinaryView t c = binview_column_fits _ _ _ c.in-BinaryView.is c.as_slice-in-BinaryView.ensures c.law_buffers_fit.ensures
 
 pub law_rows_fit-returns-in-LargeList : goal.law_rows_fit-returns-in-LargeList
 law_rows_fit-returns-in-LargeList t c = list_column_fits _ _ _ _ c.in-LargeList.is (subst RowsFit c.deref.ensures c.law_rows_fit.ensures)
