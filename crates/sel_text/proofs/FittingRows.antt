@@ -149,8 +149,6 @@ binview_column_fits c array buffers is same all = subst RowsFit (sym is) (binvie
 pub string_column_fits : (c : Column) (array : Utf8ViewArray) → c ≡ Utf8View array → RowsFit c
 string_column_fits c array is = subst RowsFit (sym is) (strings_fit array)
 
-pub ruleset flat_columns = (null_column_fits, boolean_column_fits, binary_column_fits, binview_column_fits, string_column_fits)
-
 -- ---- lists
 
 pieces_fit : (s : Shape) (a : ℕ) (offsets : List ℕ) (vs : List Value) → list_all (fits s) vs ≡ true → list_all (fits (of_large_list s)) (map list_of (pieces_after a offsets vs)) ≡ true
@@ -212,6 +210,8 @@ struct_column_fits c len fields validity is fit =
     let plain = any_fit (struct_at (map rows fields.items)) (of_struct ss) (λ i. struct_fits fields.items i fit) (range_with_len 0 len) in
     let all = masked_fit (of_struct ss) validity (map (struct_at (map rows fields.items)) (range_with_len 0 len)) plain in
     ap (λ s. list_all (fits s) (rows c)) (struct_type c len fields validity is) ∙ ap (λ l. list_all (fits (of_struct ss)) l) (ap rows is ∙ rows-Struct len fields validity) ∙ all
+
+pub ruleset column_fits = (null_column_fits, boolean_column_fits, binary_column_fits, binview_column_fits, string_column_fits, list_column_fits, block_column_fits, struct_column_fits)
 
 -- The fields of a well-formed struct column are well-formed.
 pub fields_formed : (c : Column) (len : ℕ) (fields : Vec Column Global) (validity : Option Bits) → c ≡ Struct len fields validity → well_formed c ≡ true → All IsWellFormed fields.items

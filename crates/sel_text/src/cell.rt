@@ -107,6 +107,7 @@ impl ToWhole for u128 {
 }
 
 /// Returns row `i` of a column.
+#[tactic(auto, using(crate::proofs::CellRows::nested_cells))]
 pub(crate) fn cell_at(column: &Column, i: usize) -> Cell<'_>
     requires { HasCellRow i column.now }
     ensures value { cell_value result ≡ slice_index_or (rows column.now) i Null }

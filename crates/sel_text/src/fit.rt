@@ -105,7 +105,7 @@ impl FitsShape for u128 {
 /// # Requires
 /// The column is well-formed; check with `Column::is_well_formed`.
 #[cycle(fitting)]
-#[tactic(auto, using(crate::proofs::FittingRows::flat_columns))]
+#[tactic(auto, using(crate::proofs::FittingRows::column_fits))]
 pub fn law_rows_fit(column: &Column)
     requires { IsWellFormed column.now }
     ensures { IsTrue (list_all (fits (type_of column.now)) (rows column.now)) }

@@ -1,6 +1,6 @@
-use Rattle.std.proofs.Common.{ap, sym, subst, ◌∙◌, arith, All}
-use Rattle.sel_text.proofs.Common.{type_of, HasCellRow, is_text_shape}
-use Rattle.sel_text.proofs.CellRows.{list_inside, list_covered, list_valid, list_null, list_bounds, list_few, block_covered, block_valid, block_null, block_bounds, block_few, tuple_covered, tuple_valid, tuple_null, tuple_fields, tuple_types}
+use Rattle.std.proofs.Common.{sym, subst, arith, All}
+use Rattle.sel_text.proofs.Common.{HasCellRow}
+use Rattle.sel_text.proofs.CellRows.{list_inside, list_covered, list_bounds, list_few, block_covered, block_bounds, tuple_covered, tuple_fields, tuple_types}
 use Rattle.sel_text.proofs.cell.cell_at.Goals as goal
 
 pub is_valid_at-requires : goal.is_valid_at-requires
@@ -15,60 +15,21 @@ at-requires-then-is_valid_at c = let inside = list_inside _ _ _ _ _ c.in-LargeLi
 pub overflow_add-i : goal.overflow_add-i
 overflow_add-i c = let few = list_few _ _ _ _ _ c.in-LargeList.is c.requires in omega (arith, few)
 
-pub returns-then-is_valid_at-clause-value : goal.returns-then-is_valid_at-clause-value
-returns-then-is_valid_at-clause-value c =
-    rw (c.deref.ensures, c.at.ensures.value, c.at-then-is_valid_at.ensures.value) (list_valid _ _ _ _ _ c.in-LargeList.is c.requires (sym c.is_valid_at.ensures ∙ c.if-is_valid_at.true))
-
 pub returns-then-is_valid_at-clause-fits : goal.returns-then-is_valid_at-clause-fits
 returns-then-is_valid_at-clause-fits c =
     rw (c.deref.ensures, c.at.ensures.value, c.at-then-is_valid_at.ensures.value) (list_bounds _ _ _ _ _ c.in-LargeList.is c.requires)
 
-pub returns-else-is_valid_at-clause-value : goal.returns-else-is_valid_at-clause-value
-returns-else-is_valid_at-clause-value c = list_null _ _ _ _ _ c.in-LargeList.is c.requires (sym c.is_valid_at.ensures ∙ c.if-is_valid_at.false)
-
 pub is_valid_at-requires-in-FixedSizeList : goal.is_valid_at-requires-in-FixedSizeList
 is_valid_at-requires-in-FixedSizeList c = block_covered _ _ _ _ _ _ c.in-FixedSizeList.is c.requires
-
-pub overflow_mul-result : goal.overflow_mul-result
-overflow_mul-result c = let few = block_few _ _ _ _ _ _ c.in-FixedSizeList.is c.requires in omega (arith, few)
-
-pub overflow_mul-result-then-is_valid_at-2 : goal.overflow_mul-result-then-is_valid_at-2
-overflow_mul-result-then-is_valid_at-2 c = let few = block_few _ _ _ _ _ _ c.in-FixedSizeList.is c.requires in omega (arith, few)
-
-pub overflow_add-result : goal.overflow_add-result
-overflow_add-result c = let few = block_few _ _ _ _ _ _ c.in-FixedSizeList.is c.requires in omega (arith, few)
-
-pub returns-then-is_valid_at-2-clause-value : goal.returns-then-is_valid_at-2-clause-value
-returns-then-is_valid_at-2-clause-value c =
-    rw (c.deref-then-is_valid_at-2.ensures) (block_valid _ _ _ _ _ _ c.in-FixedSizeList.is c.requires (sym c.is_valid_at-in-FixedSizeList.ensures ∙ c.if-is_valid_at-2.true))
 
 pub returns-then-is_valid_at-2-clause-fits : goal.returns-then-is_valid_at-2-clause-fits
 returns-then-is_valid_at-2-clause-fits c = rw (c.deref-then-is_valid_at-2.ensures) (block_bounds _ _ _ _ _ _ c.in-FixedSizeList.is c.requires)
 
-pub returns-else-is_valid_at-2-clause-value : goal.returns-else-is_valid_at-2-clause-value
-returns-else-is_valid_at-2-clause-value c = block_null _ _ _ _ _ _ c.in-FixedSizeList.is c.requires (sym c.is_valid_at-in-FixedSizeList.ensures ∙ c.if-is_valid_at-2.false)
-
 pub is_valid_at-requires-in-Struct : goal.is_valid_at-requires-in-Struct
 is_valid_at-requires-in-Struct c = tuple_covered _ _ _ _ _ c.in-Struct.is c.requires
-
-pub returns-then-is_valid_at-3-clause-value : goal.returns-then-is_valid_at-3-clause-value
-returns-then-is_valid_at-3-clause-value c =
-    rw (c.deref-then-is_valid_at-3.ensures.value) (tuple_valid _ _ _ _ _ c.in-Struct.is c.requires (sym c.is_valid_at-in-Struct.ensures ∙ c.if-is_valid_at-3.true))
 
 pub returns-then-is_valid_at-3-clause-fits : goal.returns-then-is_valid_at-3-clause-fits
 returns-then-is_valid_at-3-clause-fits c = subst (All (HasCellRow c.args.i)) (sym c.deref-then-is_valid_at-3.ensures.value) (tuple_fields _ _ _ _ _ c.in-Struct.is c.requires)
 
 pub returns-then-is_valid_at-3-clause-kind : goal.returns-then-is_valid_at-3-clause-kind
 returns-then-is_valid_at-3-clause-kind c = rw (c.deref-then-is_valid_at-3.ensures.value) (tuple_types _ _ _ _ _ c.in-Struct.is c.requires)
-
-pub returns-else-is_valid_at-3-clause-value : goal.returns-else-is_valid_at-3-clause-value
-returns-else-is_valid_at-3-clause-value c = tuple_null _ _ _ _ _ c.in-Struct.is c.requires (sym c.is_valid_at-in-Struct.ensures ∙ c.if-is_valid_at-3.false)
-
-pub returns-in-LargeBinary-clause-kind : goal.returns-in-LargeBinary-clause-kind
-returns-in-LargeBinary-clause-kind c = c.of_bytes.ensures.kind _ (ap (λ column. is_text_shape (type_of column)) c.in-LargeBinary.is)
-
-pub returns-in-BinaryView-clause-kind : goal.returns-in-BinaryView-clause-kind
-returns-in-BinaryView-clause-kind c = c.of_view.ensures.kind _ (ap (λ column. is_text_shape (type_of column)) c.in-BinaryView.is)
-
-pub returns-in-Utf8View-clause-kind : goal.returns-in-Utf8View-clause-kind
-returns-in-Utf8View-clause-kind c = c.of_text.ensures.kind _ (ap (λ column. is_text_shape (type_of column)) c.in-Utf8View.is)

@@ -1,20 +1,11 @@
 use Rattle.std.proofs.Common.{All, rules, subst, sym, take_all}
 use Rattle.sel_text.proofs.Common.{the_lemmas, All-more, IsWellFormed, RowsFit}
-use Rattle.sel_text.proofs.FittingRows.{list_column_fits, block_column_fits, struct_column_fits, fields_formed}
+use Rattle.sel_text.proofs.FittingRows.{fields_formed}
 use Rattle.sel_text.proofs.fit.+fitting.Goals as goal
 
 pub law_rows_fit-law_fields_fit-requires : goal.law_rows_fit-law_fields_fit-requires
 law_rows_fit-law_fields_fit-requires t c =
     (search (rules, the_lemmas), subst (All IsWellFormed) (sym c.deref-in-Struct.ensures.value) (fields_formed _ _ _ _ c.in-Struct.is c.requires))
-
-pub law_rows_fit-returns-in-LargeList : goal.law_rows_fit-returns-in-LargeList
-law_rows_fit-returns-in-LargeList t c = list_column_fits _ _ _ _ c.in-LargeList.is (subst RowsFit c.deref.ensures c.law_rows_fit.ensures)
-
-pub law_rows_fit-returns-in-FixedSizeList : goal.law_rows_fit-returns-in-FixedSizeList
-law_rows_fit-returns-in-FixedSizeList t c = block_column_fits _ _ _ _ _ c.in-FixedSizeList.is c.requires (subst RowsFit c.deref-in-FixedSizeList.ensures c.law_rows_fit-in-FixedSizeList.ensures)
-
-pub law_rows_fit-returns-in-Struct : goal.law_rows_fit-returns-in-Struct
-law_rows_fit-returns-in-Struct t c = struct_column_fits _ _ _ _ c.in-Struct.is (subst (All RowsFit) c.deref-in-Struct.ensures.value c.law_fields_fit.ensures)
 
 pub law_fields_fit-loop-field-preserved : goal.law_fields_fit-loop-field-preserved
 law_fields_fit-loop-field-preserved t c =
