@@ -666,6 +666,7 @@ fn parts_at<'a, 'b: 'a>(
 }
 
 /// Returns the entry of a struct row at index `place`, or `other` if the row is null.
+#[tactic(auto, using(crate::proofs::ItemParts::part_there, crate::proofs::ItemParts::part_none))]
 fn part_at<'a, 'b: 'a>(item: &'b Item, place: usize, other: &'a Item) -> &'a Item
     ensures { item_value other.now ≡ Null →
         item_value result.now ≡ part_in place (item_value item.now) }

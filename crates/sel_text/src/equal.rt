@@ -45,6 +45,7 @@ fn equal_at(column: &Column, i: usize, other: &Column, j: usize) -> bool
 
 /// Returns whether a row equals the list of the rows of `column` from `start` up to `end`.
 #[cycle(comparing)]
+#[tactic(auto, using(crate::proofs::Equalities::part_more, crate::proofs::Equalities::lists_differ, crate::proofs::Equalities::lists_differ_at, crate::proofs::Equalities::lists_same))]
 fn equal_items(column: &Column, start: usize, end: usize, twin: Cell) -> bool
     requires formed { IsWellFormed column.now }
     requires order { start ≤ end }
@@ -69,6 +70,7 @@ fn equal_items(column: &Column, start: usize, end: usize, twin: Cell) -> bool
 
 /// Returns whether a row equals the struct value of row `place` of each field.
 #[cycle(comparing)]
+#[tactic(auto, using(sel_arrow::proofs::Types::both_lists))]
 fn equal_parts(fields: &[Column], place: usize, twin: Cell) -> bool
     requires rows { All (HasCellRow place) fields.now }
     requires fits { CellFits twin }

@@ -62,6 +62,7 @@ impl<'r, 'a> RowWalk<'r, 'a> {
     ///
     /// # Requires
     /// A row is left.
+    #[tactic(auto, using(crate::proofs::RowRuns::some_runs, crate::proofs::RowRuns::left_past, crate::proofs::RowRuns::left_in))]
     pub(crate) fn next(&mut self) -> &'a Item
         requires { 0 < length (left self.old) }
         ensures { left self.old ≡ result ∷ left self.new }

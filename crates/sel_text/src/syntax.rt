@@ -29,6 +29,7 @@ pub fn find_type_error(alloc: Global, text: &[u8]) -> Result<Option<usize>, Allo
 }
 
 /// Finds the first byte at which `text` is not the beginning of a text that begins with `start`.
+#[tactic(auto, using(crate::proofs::Completions::at_end))]
 fn find_error(alloc: Global, start: Next, text: &[u8]) -> Result<Option<usize>, AllocError>
     ensures { IfOk result (HasFirstError (goes_on start []) text.now) }
 {

@@ -1,6 +1,6 @@
 use Rattle.std.proofs.Common.{◌≡◌, ap, arith, length, refl, reverse, slice_index_or, sym, ◌∙◌}
 use Rattle.sel_text.specs.Notation.{after_byte, innermost, is_end}
-use Rattle.sel_text.proofs.Completions.{at_end, ends_early, fails_at}
+use Rattle.sel_text.proofs.Completions.{ends_early, fails_at}
 use Rattle.sel_text.proofs.syntax.find_error.Goals as goal
 
 pub returns-in_default : goal.returns-in_default
@@ -8,12 +8,6 @@ returns-in_default c =
     let top = c.innermost_of.ensures ∙ ap (λ brackets. innermost (reverse brackets)) c.deref.ensures.value in
     let told = sym c.in_default.is ∙ c.after.ensures ∙ ap (λ top. after_byte c.loop-i.next top (slice_index_or c.args.text.now c.loop-i.i 0)) top in
     fails_at c.args.start c.args.text.now c.loop-i.next (reverse c.loop-i.brackets.items) c.loop-i.i (slice_index_or c.args.text.now c.loop-i.i 0) c.loop-i-test.true refl told c.loop-i.invariant
-
-pub returns-then-may_end : goal.returns-then-may_end
-returns-then-may_end c =
-    let told = sym c.may_end.ensures ∙ c.if-may_end.true in
-    let whole : c.loop-i.i ≡ length c.args.text.now = omega (arith, c.loop-i-test.false, c.loop-i.auto.i-end) in
-    at_end c.args.start c.args.text.now c.loop-i.next (reverse c.loop-i.brackets.items) c.loop-i.i whole c.loop-i.invariant ∙ ap (λ brackets. is_end c.loop-i.next (reverse brackets)) (sym c.deref-2.ensures.value) ∙ told
 
 pub returns : goal.returns
 returns c =
