@@ -109,6 +109,7 @@ fn read_byte(bytes: &[u8]) -> Result<(u8, &[u8]), Fault>
 }
 
 /// Parses an escape after its backslash. Accepts only the escape that is printed for the byte.
+#[tactic(auto, using(crate::proofs::Quotes::escape_told))]
 fn read_escape(bytes: &[u8]) -> Result<(u8, &[u8]), Fault>
     ensures shorter { IfOk result (λ read. length read.1.now < length bytes.now) }
     ensures whole { (byte : ℕ) (more : List ℕ) → 92 ∷ bytes.now ≡ escaped byte ++ more →
