@@ -1,13 +1,8 @@
 use Rattle.std.proofs.Common.{◌∙◌, ◌++◌, ◌≡◌, ap, lit<, arith, take, map, length, length-take, string_bytes}
-use Rattle.sel_text.proofs.Common.{slice_range, map_more, length-map, take_all, on_ok_weaker, rows, type_of, Null, value_text, field_text}
-use Rattle.sel_text.proofs.Printed.{opened, opened_first, opened_more, opened_closed, texts_more, texts_count, none_so_far, list_text, tuple_text}
+use Rattle.sel_text.proofs.Common.{map_more, length-map, on_ok_weaker, rows, type_of, Null, value_text, field_text}
+use Rattle.sel_text.proofs.Printed.{opened_first, opened_more, texts_more, texts_count, list_text, tuple_text}
 use Rattle.sel_text.proofs.print.+printing.Goals as goal
 use Rattle.sel_text.proofs.print.+printing.Goals.{push_items-then-i-start+in_ok-push-2, push_items-else-i-start, push_parts-then-k-gt0+in_ok-push-2, push_parts-else-k-gt0}
-
-pub push_items-loop-i-init : goal.push_items-loop-i-init
-push_items-loop-i-init t c =
-    c.in_ok-push.ensures.bytes ∙ ap (λ r. string_bytes c.args.text.now ++ r) (c.in_ok-push.ensures.ascii (lit< tt))
-    ∙ ap (opened (string_bytes c.args.text.now) 91) (none_so_far (value_text (type_of c.args.column.now)) (rows c.args.column.now) c.args.start)
 
 pub push_items-loop-i-preserved : goal.push_items-loop-i-preserved
 push_items-loop-i-preserved t c =
@@ -20,13 +15,6 @@ push_items-loop-i-preserved t c =
       | push_items-else-i-start w ↦ opened_first _ _ _ 91 _ _ _ (omega (arith, count, w.if-i-start.false)) more (ap string_bytes w.text-is ∙ c.loop-i.invariant) c.in_ok-push_row.ensures
     ]
 
-pub push_items-returns : goal.push_items-returns
-push_items-returns t c =
-    let all : c.loop-i.i ≡ c.args.end = omega arith in
-    let texts = ap (λ i. map (value_text (type_of c.args.column.now)) (slice_range (rows c.args.column.now) c.args.start i)) all in
-    opened_closed _ _ _ 91 93 (map (value_text (type_of c.args.column.now)) (slice_range (rows c.args.column.now) c.args.start c.args.end)) (c.loop-i.invariant ∙ ap (opened (string_bytes c.args.text.now) 91) texts)
-    (c.in_ok-push-3.ensures.bytes ∙ ap (λ r. string_bytes c.loop-i.text ++ r) (c.in_ok-push-3.ensures.ascii (lit< tt)))
-
 pub push_parts-loop-k-preserved : goal.push_parts-loop-k-preserved
 push_parts-loop-k-preserved t c =
     let more = map_more (field_text c.args.place) c.args.fields.now c.loop-k.k c.index-fields-k.result (omega arith) in
@@ -38,12 +26,6 @@ push_parts-loop-k-preserved t c =
           row
       | push_parts-else-k-gt0 w ↦ opened_first _ _ _ 40 _ _ _ (omega (arith, count, w.if-k-gt0.false)) more (ap string_bytes w.text-is ∙ c.loop-k.invariant) row
     ]
-
-pub push_parts-returns : goal.push_parts-returns
-push_parts-returns t c =
-    let texts = ap (map (field_text c.args.place)) (take_all c.loop-k.k c.args.fields.now (omega arith)) in
-    opened_closed _ _ _ 40 41 (map (field_text c.args.place) c.args.fields.now) (c.loop-k.invariant ∙ ap (opened (string_bytes c.args.text.now) 40) texts)
-    (c.in_ok-push-3.ensures.bytes ∙ ap (λ r. string_bytes c.loop-k.text ++ r) (c.in_ok-push-3.ensures.ascii (lit< tt)))
 
 pub push_row-returns-in-Items : goal.push_row-returns-in-Items
 push_row-returns-in-Items t c =

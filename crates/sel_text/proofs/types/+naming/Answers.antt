@@ -1,6 +1,6 @@
 use Rattle.std.proofs.Common.{◌∙◌, ◌++◌, ◌≡◌, ap, lit<, arith, take, map, length, length-take, append_assoc, string_bytes, codes}
-use Rattle.sel_text.proofs.Common.{angled, map_more, length-map, take_all, on_ok_weaker}
-use Rattle.sel_text.proofs.Printed.{opened, opened_first, opened_more, opened_closed}
+use Rattle.sel_text.proofs.Common.{angled, map_more, length-map, on_ok_weaker}
+use Rattle.sel_text.proofs.Printed.{opened_first, opened_more}
 use Rattle.sel_text.proofs.TypeTexts.{text_of_type, struct_text}
 use Rattle.sel_text.proofs.types.+naming.Goals as goal
 use Rattle.sel_text.proofs.types.+naming.Goals.{push_dtypes-then-k-gt0+in_ok-push-2, push_dtypes-else-k-gt0}
@@ -16,12 +16,6 @@ push_dtypes-loop-k-preserved t c =
           named
       | push_dtypes-else-k-gt0 w ↦ opened_first _ _ _ 60 _ _ _ (omega (arith, count, w.if-k-gt0.false)) more (ap string_bytes w.text-is ∙ c.loop-k.invariant) named
     ]
-
-pub push_dtypes-returns : goal.push_dtypes-returns
-push_dtypes-returns t c =
-    let texts = ap (map text_of_type) (take_all c.loop-k.k c.args.dtypes.now (omega arith)) in
-    opened_closed _ _ _ 60 62 (map text_of_type c.args.dtypes.now) (c.loop-k.invariant ∙ ap (opened (string_bytes c.args.text.now) 60) texts)
-    (c.in_ok-push-3.ensures.bytes ∙ ap (λ r. string_bytes c.loop-k.text ++ r) (c.in_ok-push-3.ensures.ascii (lit< tt)))
 
 pub push_dtype-returns-in_ok-push_str-in-Struct : goal.push_dtype-returns-in_ok-push_str-in-Struct
 push_dtype-returns-in_ok-push_str-in-Struct t c =
