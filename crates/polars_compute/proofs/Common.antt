@@ -13,7 +13,7 @@ pub use Rattle.polars_compute.specs.Need.{so_many_bytes, so_many_rows}
 pub use Rattle.polars_compute.specs.Pick.{all_below, all_within, found, is_within, pick, pick_of, place_pick, take_rows}
 pub use Rattle.polars_compute.specs.Reverse.{last_to_first}
 pub use Rattle.polars_compute.specs.Select.{effective_mask, is_true, kept, kept_from, select}
-pub use Rattle.polars_compute.specs.Steps.{entry_place, narrowed, near_index, near_place}
+pub use Rattle.polars_compute.specs.Steps.{entry_place, narrowed, near_place, near_value}
 pub use Rattle.polars_compute.specs.TakenFields.{exceeded_in_taken}
 pub use Rattle.polars_compute.specs.Trim.{IsRun}
 pub use Rattle.polars_compute.specs.ValidPicks.{bit_or_true, live_index, valid_pick}
@@ -72,7 +72,7 @@ pub use Rattle.std.proofs.Common.{get_or-take, if◌then◌else◌, inl, inr, is
 pub use Rattle.std.proofs.Common.{ltb-true, map, map-id, nat_le, nat_lt, ne_eqb, negsuc, not, of_z, option_and_then, option_copied, option_map, pos, refl, replicate}
 pub use Rattle.std.proofs.Common.{reverse, rules, slice_get, slice_index, slice_index_or, slice_range, subst, suc, sym, take, take-append-drop, take_all, to_z, true}
 pub use Rattle.std.proofs.Common.{true≢false, unwrap_or, vec_capacity, vec_len, w64, zero, zero-add, ℕ, ℤ, ⊎_elim, ◌%◌, ◌&&◌, ◌*◌, ◌++◌, ◌+◌, ◌-◌, ◌/◌, ◌<ℤ◌, ◌<◌, ◌==◌}
-pub use Rattle.std.proofs.Common.{◌^◌, ◌||◌, ◌∙◌, ◌∷◌, ◌≡◌, ◌≤ℤ◌, ◌≤◌, ◌⊎◌}
+pub use Rattle.std.proofs.Common.{◌^◌, ◌||◌, ◌∙◌, ◌∷◌, ◌≡◌, ◌≢◌, ◌≤ℤ◌, ◌≤◌, ◌⊎◌}
 pub use Rattle.std.proofs.Math.Nat.{mul_assoc, suc-mul}
 pub use Rattle.std.proofs.Math.Seq.{drop-append-add, take-append_seam}
 pub use Rattle.std.proofs.lemmas.Bool.{cases_lt}

@@ -69,16 +69,3 @@ named_at bs filler [] below = refl
 named_at bs filler (place ∷ places) below =
     let here = get_or_default bs place false filler (ltb-true place (length bs) (and_first _ (all_below (length bs) places) below)) in
     (λ i. here i ∷ named_at bs filler places (and_second _ (all_below (length bs) places) below) i)
-
--- ---- indices of which some may be null
-
-taken_here : (bs : List Bool) (filler : Bool) (rows : List Value) (k : ℕ) → k < length rows → get_or (pick filler (bs ∷ []) (map pick_of rows)) k false ≡ found filler (bs ∷ []) (pick_of (get_or rows k Null))
-taken_here bs filler rows k h =
-    get_or-map (found filler (bs ∷ [])) (map pick_of rows) k None false (rw length-map h) ∙ ap (found filler (bs ∷ [])) (get_or-map pick_of rows k Null None h)
-
--- Entry k of a part.
-pub taken_at : (bs : List Bool) (filler : Bool) (rows : List Value) (at len k : ℕ) (bit : Bool) → k < len → at + len ≤ length rows → bit ≡ found filler (bs ∷ []) (pick_of (get_or rows (at + k) Null))
-    → bit ≡ get_or (take len (drop at (pick filler (bs ∷ []) (map pick_of rows)))) k false
-taken_at bs filler rows at len k bit few within is =
-    let all = pick filler (bs ∷ []) (map pick_of rows) in
-    is ∙ sym (get_or-take len (drop at all) k false few ∙ get_or-drop at all k false ∙ taken_here bs filler rows (at + k) (omega arith))

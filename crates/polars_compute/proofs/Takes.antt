@@ -27,24 +27,22 @@ taken_list f validity xs d [] covers within = refl
 taken_list f validity xs d (index ∷ indices) covers within =
     (λ i. row_taken f validity xs d index covers (and_first _ _ within) i ∷ taken_list f validity xs d indices covers (and_second _ _ within) i)
 
--- The rows of a column with the values and the validity at the indices are the rows at the indices.
-pub taken_rows : {A : Type 0} (f : A → Value) → (validity : Option Bits) (bits : Bits) (xs ys : List A) (d : A) (indices : List Value) → Covers validity (length xs) → all_within (length xs) indices ≡ true
-    → ys ≡ pick d (xs ∷ []) (map pick_of indices) → bits.bits ≡ map (valid_pick validity) (map pick_of indices)
-    → masked (Some bits) (map f ys) ≡ take_rows (masked validity (map f xs)) indices
-taken_rows f validity bits xs ys d indices covers within values valid =
-    (λ i. hidden (valid i) (map f (values i))) ∙ taken_list f validity xs d indices covers within
-
 pub hidden_trues : (n : ℕ) (vs : List Value) → hidden (replicate n true) vs ≡ vs
 hidden_trues (suc n) (v ∷ vs) = ap (λ l. v ∷ l) (hidden_trues n vs)
 hidden_trues n vs = refl
 
--- The same for an optional validity, which is none if each row is valid.
-pub taken_rows_for : {A : Type 0} (f : A → Value) → (validity taken : Option Bits) (xs ys : List A) (d : A) (indices : List Value) → Covers validity (length xs) → all_within (length xs) indices ≡ true
-    → ys ≡ pick d (xs ∷ []) (map pick_of indices) → bits_for (length indices) taken ≡ map (valid_pick validity) (map pick_of indices)
+-- Rows under an optional validity, which is none if each row is valid.
+pub masked_for : (n : ℕ) (taken : Option Bits) (vs : List Value) → masked taken vs ≡ hidden (bits_for n taken) vs
+masked_for n None vs = sym (hidden_trues n vs)
+masked_for n (Some bits) vs = refl
+
+-- The rows of a column with the values and the validity at the indices are the rows at the indices.
+pub taken_rows : {A : Type 0} (f : A → Value) → (validity taken : Option Bits) (xs ys : List A) (d : A) (indices : List Value) → Covers validity (length xs) → all_within (length xs) indices ≡ true
+    → hidden (map (valid_pick validity) (map pick_of indices)) (map f ys) ≡ hidden (map (valid_pick validity) (map pick_of indices)) (map f (pick d (xs ∷ []) (map pick_of indices)))
+    → bits_for (length indices) taken ≡ map (valid_pick validity) (map pick_of indices)
     → masked taken (map f ys) ≡ take_rows (masked validity (map f xs)) indices
-taken_rows_for f validity (Some bits) xs ys d indices covers within values valid = taken_rows f validity bits xs ys d indices covers within values valid
-taken_rows_for f validity None xs ys d indices covers within values valid =
-    sym (hidden_trues (length indices) (map f ys)) ∙ (λ i. hidden (valid i) (map f (values i))) ∙ taken_list f validity xs d indices covers within
+taken_rows f validity taken xs ys d indices covers within values valid =
+    masked_for (length indices) taken (map f ys) ∙ ap (λ bits. hidden bits (map f ys)) valid ∙ values ∙ taken_list f validity xs d indices covers within
 
 -- Indices without a validity, of rows without one.
 pub none_null : (places : List ℕ) → replicate (length (map (λ x. Number (pos x)) places)) true ≡ map (valid_pick None) (map pick_of (map (λ x. Number (pos x)) places))
@@ -54,20 +52,12 @@ none_null (place ∷ places) = ap (λ l. true ∷ l) (none_null places)
 pub length-pick : {A : Type 0} (d : A) → (xss : List (List A)) (indices : List Value) → length (pick d xss (map pick_of indices)) ≡ length indices
 length-pick d xss indices = length-map (map pick_of indices) (found d xss) ∙ length-map indices pick_of
 
--- The rows at one more index.
-pub picked_more : {A : Type 0} (d : A) (xss : List (List A)) (rows : List Value) (k : ℕ) (old new : List A) (x : A) → k < length rows → new ≡ old ++ x ∷ [] → old ≡ pick d xss (map pick_of (take k rows)) →
-    x ≡ found d xss (pick_of (get_or rows k Null)) → new ≡ pick d xss (map pick_of (take (k + 1) rows))
-picked_more d xss rows k old new x inside pushed before at =
-    let f = found d xss in
-    pushed ∙ ap (λ l. l ++ x ∷ []) before ∙ ap (λ v. map f (map pick_of (take k rows)) ++ v ∷ []) at
-    ∙ sym (ap (map f) (map_more pick_of rows k Null inside) ∙ map-append f (map pick_of (take k rows)) _)
-
 pub length-valid : (validity : Option Bits) (indices : List Value) → length (map (valid_pick validity) (map pick_of indices)) ≡ length indices
 length-valid validity indices = length-map (map pick_of indices) (valid_pick validity) ∙ length-map indices pick_of
 
 -- ---- properties of each element
 
-passed_at : {A : Type 0} (p : A → Bool) → (xs : List A) (d : A) (i : ℕ) → list_all p xs ≡ true → p d ≡ true → p (get_or xs i d) ≡ true
+pub passed_at : {A : Type 0} (p : A → Bool) → (xs : List A) (d : A) (i : ℕ) → list_all p xs ≡ true → p d ≡ true → p (get_or xs i d) ≡ true
 passed_at p [] d i all filler = filler
 passed_at p (x ∷ xs) d zero all filler = and_first (p x) (list_all p xs) all
 passed_at p (x ∷ xs) d (suc i) all filler = passed_at p xs d i (and_second (p x) (list_all p xs) all) filler
@@ -93,13 +83,6 @@ pub covers_for : {A : Type 0} → (taken : Option Bits) (xs : List A) (indices :
 covers_for taken xs indices validity valid count =
     λ v there. sym (ap (λ o. length (bits_for (length indices) o)) there) ∙ ap (λ (l : List Bool). length l) valid ∙ length-valid validity indices ∙ sym count
 
--- There are as many rows as indices.
-pub count_taken : {A : Type 0} → (ys : List A) (d : A) (xss : List (List A)) (indices : List Value) → ys ≡ pick d xss (map pick_of indices) → length ys ≡ length indices
-count_taken ys d xss indices is = ap (λ l. length l) is ∙ length-pick d xss indices
-
-pub passed_by : {A : Type 0} (p : A → Bool) → (xs ys : List A) (d : A) (indices : List Value) → ys ≡ pick d (xs ∷ []) (map pick_of indices) → list_all p xs ≡ true → p d ≡ true → list_all p ys ≡ true
-passed_by p xs ys d indices is all filler = ap (list_all p) is ∙ passed_taken p xs d indices all filler
-
 -- ---- nulls
 
 null_at : (n : ℕ) (i : ℕ) → get_or (replicate n Null) i Null ≡ Null
@@ -123,10 +106,6 @@ places_within n places within =
     let there : k < length (map number places) = rw length-map h in
     ltb-true (get_or places k d) n (ap (is_within n) (sym (get_or-map number places k d (number d) h)) ∙ all_at (is_within n) (map number places) k (number d) within there)
 
-pub picked_places : {A : Type 0} (values : List A) (filler : A) (places : List ℕ) → map (λ place. get_or values place filler) places ≡ pick filler (values ∷ []) (map pick_of (map (λ x. Number (pos x)) places))
-picked_places values filler [] = refl
-picked_places values filler (place ∷ places) = ap (λ l. get_or values place filler ∷ l) (picked_places values filler places)
-
 -- ---- validity bits at indices
 
 -- Bits of a validity at indices, false for a null index, are the validity of the rows.
@@ -141,18 +120,3 @@ named_bits [] [] same = refl
 named_bits (true ∷ bits) (place ∷ places) same = ap (λ l. true ∷ l) (named_bits bits places (omega (arith, same)))
 named_bits (false ∷ bits) (place ∷ places) same = ap (λ l. false ∷ l) (named_bits bits places (omega (arith, same)))
 named_bits bits places same = absurd (omega (arith, same))
-
--- ---- values at indices that may be null
-
-found_by : {A : Type 0} (b : Bool) (filler : A) (values : List A) (places : List ℕ) (valid : Bits) (k : ℕ) → get_or valid.bits k false ≡ b → k < length places → Covers (Some valid) (length places)
-    → (if b then get_or values (get_or places k 0) filler else filler) ≡ found filler (values ∷ []) (pick_of (get_or (number_rows pos places (Some valid)) k Null))
-found_by true filler values places valid k is lt covers =
-    let place = get_or places k 0 in
-    sym (ap (λ row. found filler (values ∷ []) (pick_of row)) (valid_number pos places (Some valid) k place is lt covers (get_or_default places k 0 place lt)))
-found_by false filler values places valid k is lt covers = sym (ap (λ row. found filler (values ∷ []) (pick_of row)) (null_number pos places (Some valid) k is lt covers))
-
--- The value at a valid index, or the filler, is what the row of the index refers to.
-pub found_at : {A : Type 0} (filler : A) (values : List A) (places : List ℕ) (valid : Bits) (k : ℕ) → k < length places → length valid.bits ≡ length places
-    → (if get_or valid.bits k false then get_or values (get_or places k 0) filler else filler) ≡ found filler (values ∷ []) (pick_of (get_or (number_rows pos places (Some valid)) k Null))
-found_at filler values places valid k lt long =
-    found_by (get_or valid.bits k false) filler values places valid k refl lt (λ v there. let same : valid ≡ v = cc in ap (λ (b : Bits). length b.bits) (sym same) ∙ long)

@@ -1,5 +1,5 @@
 -- What functions of this crate state of each other; no public contract has these words.
-use Rattle.std.specs.Prelude.{ℕ, ℤ, pos, negsuc, ◌+◌, ◌++◌, ◌*◌, List, map, Option, None, slice_index_or}
+use Rattle.std.specs.Prelude.{ℕ, ℤ, pos, negsuc, ◌+◌, ◌++◌, ◌*◌, List, length, map, Option, None, slice_index_or}
 use Rattle.std.specs.Prelude.{if◌then◌else◌, nat_le, nat_lt}
 use Rattle.std.specs.List.{range_with_len}
 use Rattle.std.specs.Option.{option_map}
@@ -37,9 +37,9 @@ entry_places arr indices =
 abbrev pub near_place : ℕ → ℕ → ℕ
 near_place n place = if nat_lt place n then place else 0
 
--- The index of that position.
-abbrev pub near_index : ℕ → ℕ → Value
-near_index n place = Number (pos (near_place n place))
+-- The value at that position; the filler if there are no values.
+abbrev pub near_value : {A : Type 0} → List A → A → ℕ → A
+near_value values filler place = slice_index_or values (near_place (length values) place) filler
 
 -- The number if it can be an index of a row, otherwise 0.
 abbrev pub narrowed : ℤ → ℕ

@@ -1,15 +1,14 @@
 //! Gather for bitmaps.
 
-ghost use Rattle.std.specs.Prelude.{◌≡◌, ◌+◌, ◌*◌, ◌<◌, ◌≤◌, IsTrue, Some, length, take, drop, pos, [], ◌∷◌, map, false, slice_index_or, if◌then◌else◌, IfOk, IfErr};
+ghost use Rattle.std.specs.Prelude.{◌≡◌, ◌+◌, ◌*◌, ◌<◌, ◌≤◌, IsTrue, Some, length, pos, [], ◌∷◌, map, false, slice_index_or, IfOk, IfErr};
 ghost use Rattle.sel_bits.specs.Faults.{IsOutOfMemory};
 ghost use Rattle.sel_bits.specs.Bits.{bits_from};
-ghost use Rattle.sel_bits.specs.Limits.{max_rows};
 ghost use Rattle.sel_bits.specs.Words.{word_of};
 ghost use Rattle.sel_arrow.specs.Columns.{primitive_rows};
 ghost use Rattle.sel_arrow.specs.Masked.{number_rows};
 ghost use Rattle.polars_compute.specs.Pick.{all_within, all_below, pick, pick_of, place_pick};
 
-use crate::gather::bit_slice::BitSlice;
+use crate::gather::near::near_places;
 use sel_arrow::primitive::IdxArr;
 use sel_bits::bitmap::Bitmap;
 use sel_bits::faults::PolarsResult;
@@ -121,6 +120,8 @@ pub(crate) fn take_bits_or(
 
 /// Returns the bit of `values` at each index whose bit is set in `valid`, and `filler` for the
 /// others.
+///
+/// Takes the bits at all indices, then sets those of null indices a word at a time.
 fn take_valid_bits(
     alloc: Global,
     values: &Bitmap,
@@ -129,51 +130,21 @@ fn take_valid_bits(
     filler: bool,
 ) -> PolarsResult<Bitmap>
     requires long { length valid.now.bits ≡ length places.now }
-    requires few { length places.now ≤ max_rows }
+    requires within { IsTrue (all_within (length values.now.bits)
+        (number_rows pos places.now (Some valid.now))) }
     ensures bits { IfOk result (λ taken. taken.bits ≡ pick filler (values.now.bits ∷ [])
         (map pick_of (number_rows pos places.now (Some valid.now)))) }
     ensures refusal { IfErr result IsOutOfMemory }
 {
-    let count = places.len();
-    let mut taken = BitPacker::with_capacity(alloc, count)?;
-    let mut at = 0;
-    while at < count {
-        let len = (count - at).min(MOST_BITS);
-        let word = word_of_rows(values, places, valid, at, len, filler);
-        taken.append(word, len as u32)?;
-        at += len;
+    if values.is_empty() {
+        return Bitmap::new_with_value(alloc, filler, places.len());
     }
-    taken.into_bitmap(count)
-}
-
-/// Packs the bits at `len` indices starting at index `at` into a word; an index whose bit is not
-/// set in `valid` gives `filler`.
-#[inline]
-fn word_of_rows(
-    values: &Bitmap,
-    places: &[u32],
-    valid: &Bitmap,
-    at: usize,
-    len: usize,
-    filler: bool,
-) -> u64
-    requires few { len ≤ 64 }
-    requires long { length valid.now.bits ≡ length places.now }
-    requires within { at + len ≤ length places.now }
-    requires rows { length places.now ≤ max_rows }
-    ensures { result ≡ word_of (take len (drop at (pick filler (values.now.bits ∷ [])
-        (map pick_of (number_rows pos places.now (Some valid.now)))))) }
-{
-    // The number of indices fits in `usize`.
-    let _whole = places.len();
-    let source = BitSlice::of(values);
-    let bits = BitSlice::of(valid);
-    let mut word = 0;
-    for k in 0..len {
-        let bit = bit_if(&source, places[at + k], bits.get(at + k), filler);
-        word += u64::from(bit) << k;
+    let near = near_places(alloc, places, values.len())?;
+    let taken = take_bitmap_unchecked(alloc, values, near.as_slice())?;
+    if filler {
+        return taken.or_not(alloc, valid);
     }
-    word
+    taken.and(alloc, valid)
 }
 
 /// Returns the first bit, or false if there is none.
@@ -184,20 +155,4 @@ fn first_bit(values: &Bitmap) -> bool
         return false;
     }
     values.get_bit(0)
-}
-
-/// Returns the bit at `place` if `valid` is true and `place` is in bounds, otherwise `filler`.
-///
-/// Reads the first bit where `valid` is false, so that no branch depends on it.
-#[inline(always)]
-fn bit_if(values: &BitSlice, place: u32, valid: bool, filler: bool) -> bool
-    ensures { result ≡ (if valid then slice_index_or values.now place filler else filler) }
-{
-    let at = if valid { place as usize } else { 0 };
-    let bit = if at < values.len() {
-        values.get(at)
-    } else {
-        filler
-    };
-    if valid { bit } else { filler }
 }

@@ -21,6 +21,7 @@ mod blocks;
 pub mod boolean;
 pub mod fixed_size_list;
 pub(crate) mod generic_binary;
+mod near;
 pub mod primitive;
 pub mod sublist;
 mod validity;

@@ -1,11 +1,9 @@
 //! Validity of gathered rows.
 
-ghost use Rattle.std.specs.Prelude.{◌≡◌, IsTrue, List, length, map, IfOk, IfErr};
+ghost use Rattle.std.specs.Prelude.{◌≡◌, IsTrue, length, map, IfOk, IfErr};
 ghost use Rattle.std.specs.Option.{ForSome};
 ghost use Rattle.sel_bits.specs.Faults.{IsOutOfMemory};
 ghost use Rattle.sel_arrow.specs.Columns.{primitive_rows};
-ghost use Rattle.sel_arrow.specs.Masked.{hidden, masked, Covers};
-ghost use Rattle.sel_arrow.specs.Value.{Value};
 ghost use Rattle.sel_gather.specs.Validity.{bits_for};
 ghost use Rattle.polars_compute.specs.Pick.{all_within, pick_of};
 ghost use Rattle.polars_compute.specs.ValidPicks.{live_index, valid_pick};
@@ -60,22 +58,4 @@ pub(crate) fn live_indices(
     let validity = take_validity(alloc, validity, indices)?;
     let values = indices.values.try_clone()?;
     Ok(PrimitiveArray { values, validity })
-}
-
-/// Returns the bits of a validity where `named` is set. Without a validity all bits count as true.
-pub(crate) fn narrowed_validity(
-    alloc: Global,
-    validity: &Option<Bitmap>,
-    named: &Bitmap,
-) -> PolarsResult<Bitmap>
-    requires { Covers validity.now (length named.now.bits) }
-    ensures rows { IfOk result (λ narrowed. (rows : List Value) → hidden narrowed.bits rows ≡
-        hidden named.now.bits (masked validity.now rows)) }
-    ensures len { IfOk result (λ narrowed. length narrowed.bits ≡ length named.now.bits) }
-    ensures refusal { IfErr result IsOutOfMemory }
-{
-    match validity {
-        None => named.try_clone(),
-        Some(bits) => bits.and(alloc, named),
-    }
 }

@@ -1,6 +1,6 @@
 use Rattle.polars_compute.proofs.Common.{◌≡◌, ◌∙◌, [], ◌∷◌, List, Bool, length, ap, false, pos, arith, slice_index_or, primitive_rows, Truth, length-truth_rows}
-use Rattle.polars_compute.proofs.Common.{length-number_rows}
-use Rattle.polars_compute.proofs.Takes.{within_as, validity_within, covers_for, taken_rows_for, length-pick}
+use Rattle.polars_compute.proofs.Common.{length-number_rows, map, hidden, pick_of, valid_pick}
+use Rattle.polars_compute.proofs.Takes.{within_as, validity_within, covers_for, taken_rows, length-pick}
 use Rattle.polars_compute.proofs.gather.boolean.take_unchecked.Goals as goal
 
 pub take_bitmap_nulls_unchecked-requires : goal.take_bitmap_nulls_unchecked-requires
@@ -27,5 +27,5 @@ pub returns-clause-rows : goal.returns-clause-rows
 returns-clause-rows c =
     let values = c.args.values.now in
     let indices = primitive_rows c.args.indices.now in
-    taken_rows_for Truth values.validity c.in_ok-validity.validity values.values.bits c.in_ok-bits.bits.bits (slice_index_or values.values.bits 0 false) indices values.validity_fits
-    (within_as _ _ indices (length-truth_rows values.values.bits values.validity) c.requires) c.in_ok-bits.ensures.bits c.in_ok-validity.ensures.bits
+    taken_rows Truth values.validity c.in_ok-validity.validity values.values.bits c.in_ok-bits.bits.bits (slice_index_or values.values.bits 0 false) indices values.validity_fits
+    (within_as _ _ indices (length-truth_rows values.values.bits values.validity) c.requires) (ap (λ l. hidden (map (valid_pick values.validity) (map pick_of indices)) (map Truth l)) c.in_ok-bits.ensures.bits) c.in_ok-validity.ensures.bits

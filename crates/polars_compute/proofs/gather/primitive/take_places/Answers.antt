@@ -1,4 +1,5 @@
-use Rattle.polars_compute.proofs.Common.{◌≤◌, ◌∙◌, ◌∷◌, ◌++◌, [], ℕ, length, map, take, slice_index_or, ap, sym, arith, get_or_default, map-append, take_all, take_more}
+use Rattle.polars_compute.proofs.Common.{◌∙◌, length, map, get_or, ap, sym, arith, get_or_default, lt-ltb, take_all, near_value}
+use Rattle.polars_compute.proofs.NearRows.{near_at, pushed_more}
 use Rattle.polars_compute.proofs.gather.primitive.take_places.Goals as goal
 
 pub loop-place-init : goal.loop-place-init
@@ -10,21 +11,17 @@ push_reserved-requires g c = omega (arith, c.loop-place.invariant.count, c.loop-
 pub loop-place-preserved : goal.loop-place-preserved
 loop-place-preserved g c =
     let values = c.args.values.now in
-    let places = c.args.places.now in
-    let i = c.loop-place.place-index in
-    let value = λ (place : ℕ). slice_index_or values place c.args.filler in
-    let here = c.index-values-place.is ∙ get_or_default values (slice_index_or places i 0) c.index-values-place.result c.args.filler (c.requires i 0 c.loop-place-test.true) in
+    let filler = c.args.filler in
+    let place = get_or c.args.places.now c.loop-place.place-index 0 in
+    let inside = c.requires c.loop-place.place-index 0 c.loop-place-test.true in
+    let here =
+    c.index-values-place.is ∙ get_or_default values place c.index-values-place.result filler inside ∙ sym (near_at values filler place (lt-ltb place (length values) inside)) in
     record {
-      items =
-          c.push_reserved.ensures.items ∙ ap (λ l. l ++ c.index-values-place.result ∷ []) c.loop-place.invariant.items
-          ∙ ap (λ v. map value (take i places) ++ v ∷ []) here
-          ∙ sym (ap (map value) (take_more places i 0 c.loop-place-test.true) ∙ map-append value (take i places) (slice_index_or places i 0 ∷ []));
+      items = pushed_more (near_value values filler) c.args.places.now c.loop-place.place-index _ _ _ c.loop-place-test.true c.push_reserved.ensures.items c.loop-place.invariant.items here;
       count = omega (arith, c.push_reserved.ensures.len, c.loop-place.invariant.count);
       room = omega (arith, c.push_reserved.ensures.capacity, c.loop-place.invariant.room);
     }
 
 pub returns-clause-items : goal.returns-clause-items
 returns-clause-items g c =
-    let places = c.args.places.now in
-    let all : length places ≤ c.loop-place.place-index = omega (arith, c.loop-place-test.false) in
-    c.loop-place.invariant.items ∙ ap (map (λ (place : ℕ). slice_index_or c.args.values.now place c.args.filler)) (take_all c.loop-place.place-index places all)
+    c.loop-place.invariant.items ∙ ap (map (near_value c.args.values.now c.args.filler)) (take_all c.loop-place.place-index c.args.places.now (omega (arith, c.loop-place-test.false)))

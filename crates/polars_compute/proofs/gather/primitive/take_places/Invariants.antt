@@ -1,10 +1,10 @@
 -- Loop invariant: the values taken so far, and capacity for the rest.
-use Rattle.polars_compute.proofs.Common.{◌≡◌, ◌≤◌, length, map, slice_index_or, take, vec_len, vec_capacity}
+use Rattle.polars_compute.proofs.Common.{◌≡◌, ◌≤◌, length, map, near_value, take, vec_len, vec_capacity}
 use Rattle.polars_compute.proofs.gather.primitive.take_places.Given as goal
 
 abbrev pub invariant-loop-place : goal.invariant-loop-place
 invariant-loop-place g l = record {
-  items : l.taken.items ≡ map (λ place. slice_index_or l.values place l.fn.filler) (take l.place-index l.places);
+  items : l.taken.items ≡ map (near_value l.values l.fn.filler) (take l.place-index l.places);
   count : vec_len l.taken ≡ l.place-index;
   room : length l.places ≤ vec_capacity l.taken;
 }

@@ -1,36 +1,35 @@
-use Rattle.polars_compute.proofs.Common.{◌≡◌, ◌<◌, ◌∙◌, List, length, map, pos, true, ap, sym, subst, IfOk-weaker, primitive_rows, hidden, masked, Value, Number}
-use Rattle.polars_compute.proofs.Common.{length-number_rows, all_within, take_rows, near_index}
-use Rattle.polars_compute.proofs.NearRows.{length-near, near_rows, near_within, not_empty}
-use Rattle.polars_compute.proofs.Takes.{within_as}
+use Rattle.polars_compute.proofs.Common.{◌≡◌, ◌∙◌, length, pos, ap, sym, arith, primitive_rows, Number, length-map, length-number_rows, near_value}
+use Rattle.polars_compute.proofs.NearRows.{near_rows}
+use Rattle.polars_compute.proofs.Takes.{within_as, validity_within, covers_for}
 use Rattle.polars_compute.proofs.gather.primitive.take_primitive_unchecked.Goals as goal
 
-pub take_rows_of-requires-2 : goal.take_rows_of-requires-2
-take_rows_of-requires-2 g c =
+pub take_values-requires : goal.take_values-requires
+take_values-requires g c =
     let arr = c.args.arr.now in
-    let n = length c.as_slice-3.result.now in
-    let places = c.as_slice-2.result.now in
-    let same : n ≡ length (primitive_rows arr) = ap (λ l. length l) c.as_slice-3.ensures ∙ sym (length-number_rows g.T.NativeType.number arr.values arr.validity) in
-    let some : 0 < n = subst (λ l. 0 < length l) (c.as_slice.ensures ∙ sym c.as_slice-3.ensures) (not_empty c.as_slice.result.now c.if-is_empty.ensures) in
-    subst (λ l. all_within (length (primitive_rows arr)) l ≡ true) (sym c.in_ok-near.ensures.rows) (within_as n (length (primitive_rows arr)) (map (near_index n) places) same (near_within n places some))
+    rw c.as_slice.ensures (within_as _ (length arr.values) (primitive_rows c.args.indices.now) (length-number_rows g.T.NativeType.number arr.values arr.validity) c.requires)
 
-pub null_unless-requires : goal.null_unless-requires
-null_unless-requires g c =
-    let rows = primitive_rows c.args.arr.now in
-    let n = length c.as_slice-3.result.now in
-    let taken = c.in_ok-taken.ensures.rows ∙ ap (take_rows rows) c.in_ok-near.ensures.rows in
-    c.args.indices.now.validity_fits c.in-Some.named c.in-Some.is ∙ ap (λ l. length l) (sym c.as_slice-2.ensures)
-    ∙ sym (ap (λ (l : List Value). length l) taken ∙ length-near rows n c.as_slice-2.result.now)
+pub take_validity-requires : goal.take_validity-requires
+take_validity-requires g c =
+    let arr = c.args.arr.now in
+    validity_within arr.validity (length arr.values) (primitive_rows c.args.indices.now) arr.validity_fits
+    (within_as _ (length arr.values) (primitive_rows c.args.indices.now) (length-number_rows g.T.NativeType.number arr.values arr.validity) c.requires)
+
+pub invariant_of-result : goal.invariant_of-result
+invariant_of-result g c =
+    let indices = c.args.indices.now in
+    let items = c.in_ok-values-2.ensures.items ∙ c.in_ok-values.ensures.items in
+    let rows = length-number_rows pos indices.values indices.validity in
+    let count : length c.in_ok-values-2.values ≡ length (primitive_rows indices) =
+    ap (λ l. length l) items ∙ length-map indices.values (near_value c.as_slice.result.now c.LEAST.result) ∙ sym rows in
+    record {
+      rows_fit = omega (arith, count, rows, indices.rows_fit);
+      validity_fits = covers_for c.in_ok-validity.validity c.in_ok-values-2.values (primitive_rows indices) c.args.arr.now.validity c.in_ok-validity.ensures.bits count;
+    }
 
 pub returns-clause-rows : goal.returns-clause-rows
 returns-clause-rows g c =
     let arr = c.args.arr.now in
     let indices = c.args.indices.now in
-    let rows = primitive_rows arr in
-    let named = c.in-Some.named.bits in
-    let same = ap (λ l. length l) c.as_slice-3.ensures ∙ sym (length-number_rows g.T.NativeType.number arr.values arr.validity) in
-    let near = c.in_ok-near.ensures.rows ∙ (λ i. map (near_index (same i)) (c.as_slice-2.ensures i)) in
-    let whole = ap (λ v. masked v (map (λ x. Number (pos x)) indices.values)) c.in-Some.is in
-    let within = sym (ap (all_within (length rows)) whole) ∙ c.requires in
-    IfOk-weaker c.null_unless.result _ _
-    (λ array is. is ∙ ap (hidden named) (c.in_ok-taken.ensures.rows ∙ ap (take_rows rows) near) ∙ near_rows rows named indices.values (indices.validity_fits c.in-Some.named c.in-Some.is) within ∙ sym (ap (take_rows rows) whole))
-    c.null_unless.ensures.rows
+    let items = rw c.as_slice.ensures at (c.in_ok-values-2.ensures.items ∙ c.in_ok-values.ensures.items) in
+    near_rows (λ x. Number (g.T.NativeType.number x)) arr.validity c.in_ok-validity.validity indices.validity arr.values c.in_ok-values-2.values c.LEAST.result indices.values arr.validity_fits
+    indices.validity_fits (within_as _ (length arr.values) (primitive_rows indices) (length-number_rows g.T.NativeType.number arr.values arr.validity) c.requires) items c.in_ok-validity.ensures.bits

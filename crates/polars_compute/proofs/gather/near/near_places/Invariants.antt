@@ -1,6 +1,6 @@
 -- Loop invariant: the positions so far, and capacity for the rest.
 use Rattle.polars_compute.proofs.Common.{◌≡◌, ◌≤◌, length, map, take, near_place, vec_len, vec_capacity}
-use Rattle.polars_compute.proofs.gather.primitive.near_indices.Given as goal
+use Rattle.polars_compute.proofs.gather.near.near_places.Given as goal
 
 abbrev pub invariant-loop-place : goal.invariant-loop-place
 invariant-loop-place l = record {
