@@ -23,6 +23,7 @@ pub fn law_take_of_take()
 ///
 /// Row k of all columns selected by one mask and the same indices therefore comes from one source
 /// row. Batch executors depend on it.
+#[tactic(auto, using(crate::proofs::LawProofs::selected_rows))]
 pub fn law_select_rows()
     ensures { SelectedRowsAreTaken }
 {}

@@ -15,7 +15,7 @@ use sel_bits::buffer::Buffer;
 use sel_bits::faults::PolarsResult;
 use std::alloc::Global;
 
-// The view for null slots: no bytes.
+// The view for null slots if there are no views to take: no bytes.
 const NO_BYTES: View = View {
     length: 0,
     prefix: 0,

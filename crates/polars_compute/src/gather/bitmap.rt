@@ -65,6 +65,7 @@ fn word_of_places(bytes: &[u8], shift: usize, len: usize, places: &[u32]) -> u64
 
 /// Returns the bit at `place`; bit 0 is bit `shift` of the first byte.
 #[inline(always)]
+#[tactic(auto, using(sel_bits::proofs::BitLists::read_bit))]
 fn bit_in(bytes: &[u8], shift: usize, len: usize, place: u32) -> bool
     requires shift { shift < 8 }
     requires within { shift + len ≤ 8 * length bytes.now }

@@ -141,6 +141,7 @@ pub fn array_to_unit_list(
 }
 
 // Returns the lists of one element with these offsets, or the array and `OutOfMemory`.
+#[tactic(auto, using(crate::proofs::Units::units_formed, crate::proofs::Units::units_rows))]
 fn unit_column(
     alloc: Global,
     offsets: OffsetsBuffer<i64>,

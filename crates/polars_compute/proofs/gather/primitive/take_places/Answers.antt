@@ -2,12 +2,6 @@ use Rattle.polars_compute.proofs.Common.{◌∙◌, length, map, get_or, ap, sym
 use Rattle.polars_compute.proofs.NearRows.{near_at, pushed_more}
 use Rattle.polars_compute.proofs.gather.primitive.take_places.Goals as goal
 
-pub loop-place-init : goal.loop-place-init
-loop-place-init g c = record { items = c.in_ok-taken.ensures.items; count = c.in_ok-taken.ensures.len; room = omega (arith, c.in_ok-taken.ensures.capacity) }
-
-pub push_reserved-requires : goal.push_reserved-requires
-push_reserved-requires g c = omega (arith, c.loop-place.invariant.count, c.loop-place.invariant.room, c.loop-place-test.true)
-
 pub loop-place-preserved : goal.loop-place-preserved
 loop-place-preserved g c =
     let values = c.args.values.now in
