@@ -1,6 +1,6 @@
 -- Values at indices of which some are null: those of null indices are any, and hidden by the validity.
 use Rattle.polars_compute.proofs.Common.{◌≡◌, ◌≢◌, ℕ, zero, suc, ◌<◌, pos, Bool, true, false, List, [], ◌∷◌, length, map, get_or, Option, Some, None, refl, ap, ◌∙◌, sym, arith}
-use Rattle.polars_compute.proofs.Common.{lt-ltb, ltb-true, if◌then◌else◌, list_all, nat_lt, ForSome, Bits, hidden, number_rows, valid_at, Covers, bits_for, masked}
+use Rattle.polars_compute.proofs.Common.{lt-ltb, ltb-true, if◌then◌else◌, list_all, nat_lt, Bits, hidden, number_rows, valid_at, Covers, bits_for, masked}
 use Rattle.polars_compute.proofs.Common.{Value, Null, Number, pick, pick_of, take_rows, all_below, all_within, valid_pick, near_place, near_value, and_first}
 use Rattle.polars_compute.proofs.Common.{and_second, zip_with, get_or_default, replicate, map_more, take, ◌+◌, ◌++◌, ◌&&◌, ◌||◌, not}
 use Rattle.polars_compute.proofs.TakenBits.{bits_at}

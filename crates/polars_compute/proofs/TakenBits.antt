@@ -1,8 +1,8 @@
 -- Bits at positions, a word at a time.
 use Rattle.polars_compute.proofs.Common.{◌≡◌, ◌≤◌, ◌<◌, ◌+◌, ◌*◌, ◌%◌, ◌^◌, ◌∙◌, ℕ, zero, suc, pos, Bool, true, false, List, [], ◌∷◌, ◌++◌, length, map, take, drop}
-use Rattle.polars_compute.proofs.Common.{get_or, refl, ap, sym, append-nil, arith, ◌==◌, from_bool, eqb-true, ltb-true, drop-map, get_or_default, get_or-drop}
-use Rattle.polars_compute.proofs.Common.{get_or-take, length-map, take-append-drop, take-map, word_of, word_of-few, word_of-next, Value, Null, Number, all_below, found}
-use Rattle.polars_compute.proofs.Common.{pick, pick_of, place_pick, and_first, and_second, get_or-map, None}
+use Rattle.polars_compute.proofs.Common.{get_or, refl, ap, sym, append-nil, arith, ◌==◌, from_bool, eqb-true, ltb-true, drop-map, get_or_default}
+use Rattle.polars_compute.proofs.Common.{length-map, take-append-drop, take-map, word_of, word_of-few, word_of-next, Number, all_below, found}
+use Rattle.polars_compute.proofs.Common.{pick, pick_of, place_pick, and_first, and_second}
 use Rattle.std.proofs.lemmas.List.Folds.{list_all-append}
 use Rattle.sel_bits.specs.Words.{bits}
 use Rattle.sel_bits.proofs.Packed.{bits_word_of, block_packed}

@@ -1,9 +1,8 @@
 -- Rows at indices.
 use Rattle.polars_compute.proofs.Common.{◌≡◌, All, ℕ, zero, suc, ◌<◌, pos, Bool, true, false, List, [], ◌∷◌, length, map, get_or, replicate, Option, Some, None, refl, ap}
-use Rattle.polars_compute.proofs.Common.{sym, ◌∙◌, subst, arith, if◌then◌else◌, list_all, ForSome, get_or_default, length-map, get_or-map, ltb-true, Bits, Value, Null}
-use Rattle.polars_compute.proofs.Common.{Number, hidden, masked, number_rows, Covers, valid_at, all_at, and_first, and_second, masked_null, masked_valid, bits_for, found}
-use Rattle.polars_compute.proofs.Common.{pick, pick_of, take_rows, is_within, all_within, valid_pick, map_more, map-append, take, ◌+◌, ◌++◌}
-use Rattle.sel_arrow.proofs.Rows.{null_number, valid_number}
+use Rattle.polars_compute.proofs.Common.{sym, ◌∙◌, subst, arith, if◌then◌else◌, list_all, ForSome, length-map, get_or-map, ltb-true, Bits, Value, Null}
+use Rattle.polars_compute.proofs.Common.{Number, hidden, masked, Covers, valid_at, all_at, and_first, and_second, masked_null, masked_valid, bits_for, found}
+use Rattle.polars_compute.proofs.Common.{pick, pick_of, take_rows, is_within, all_within, valid_pick}
 
 -- ---- the row at one index
 

@@ -6,7 +6,7 @@ use Rattle.std.specs.Option.{option_map}
 use Rattle.sel_bits.specs.Copying.{Copying}
 use Rattle.sel_bits.specs.Limits.{max_rows}
 use Rattle.sel_bits.specs.Place.{place}
-use Rattle.sel_arrow.specs.Value.{Value, Null, Number}
+use Rattle.sel_arrow.specs.Value.{Value, Null}
 use Rattle.sel_arrow.specs.Masked.{valid_at}
 use Rattle.sel_arrow.specs.declared.fixed_size_list.FixedSizeListArray.{FixedSizeListArray}
 use Rattle.polars_compute.specs.Blocks.{block_at}

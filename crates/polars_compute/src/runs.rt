@@ -30,6 +30,7 @@ impl Runs for MaskRuns<'_> {
     ghost picks = { λ runs. map place_pick (kept_from runs.at (drop runs.at runs.mask.now.bits)) };
 
     #[inline(always)]
+    #[tactic(auto, using(crate::proofs::Places::run_kept, crate::proofs::Places::run_some))]
     fn next_run(&mut self) -> Run {
         let start = self.at + self.mask.zeros_from(self.at);
         let len = self.mask.ones_from(start);
@@ -50,6 +51,7 @@ impl Runs for MaskRuns<'_> {
     }
 
     #[inline(always)]
+    #[tactic(auto, using(crate::proofs::KeptRuns::kept_picked))]
     fn has_nulls(&self) -> bool {
         false
     }

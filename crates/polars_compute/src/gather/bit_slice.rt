@@ -49,14 +49,6 @@ impl BitSlice<'_> {
         }
     }
 
-    /// Returns the number of bits.
-    #[inline(always)]
-    pub(crate) fn len(&self) -> usize
-        ensures { result ≡ length self.now }
-    {
-        self.len
-    }
-
     /// Returns bit `i`.
     ///
     /// # Requires

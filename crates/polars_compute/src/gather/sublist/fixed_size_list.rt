@@ -195,6 +195,7 @@ impl Places for LiteralPlaces<'_> {
         (entry_places places.blocks.arr.now (at_each places.blocks.arr.now places.index)) };
 
     #[inline(always)]
+    #[tactic(auto, using(crate::proofs::Blocks::entries_long, crate::proofs::Blocks::lists_few))]
     fn len(&self) -> usize {
         self.blocks.arr.len
     }
@@ -233,6 +234,7 @@ impl Places for EntryPlaces<'_, '_> {
         (entry_places places.blocks.arr.now (primitive_rows places.index.now)) };
 
     #[inline(always)]
+    #[tactic(auto, using(crate::proofs::Blocks::entries_long, crate::proofs::Blocks::lists_few))]
     fn len(&self) -> usize {
         self.blocks.arr.len
     }
