@@ -8,7 +8,7 @@ ghost use Rattle.sel_arrow.specs.Columns.{primitive_rows};
 ghost use Rattle.sel_arrow.specs.Masked.{number_rows};
 ghost use Rattle.polars_compute.specs.Pick.{all_within, all_below, pick, pick_of, place_pick};
 
-use crate::gather::near::near_places;
+use crate::gather::near::{Near, PlaceRule, Unchanged};
 use sel_arrow::primitive::IdxArr;
 use sel_bits::bitmap::Bitmap;
 use sel_bits::faults::PolarsResult;
@@ -32,13 +32,28 @@ pub fn take_bitmap_unchecked(
         pick false (values.now.bits ∷ []) (map place_pick indices.now)) }
     ensures refusal { IfErr result IsOutOfMemory }
 {
+    take_bits_at::<Unchanged>(alloc, values, indices)
+}
+
+/// Returns the bits of `values` at the positions of `indices`.
+fn take_bits_at<R: PlaceRule>(
+    alloc: Global,
+    values: &Bitmap,
+    indices: &[u32],
+) -> PolarsResult<Bitmap>
+    requires { IsTrue (all_below (length values.now.bits)
+        (map (R.position (length values.now.bits)) indices.now)) }
+    ensures bits { IfOk result (λ taken. taken.bits ≡ pick false (values.now.bits ∷ [])
+        (map place_pick (map (R.position (length values.now.bits)) indices.now))) }
+    ensures refusal { IfErr result IsOutOfMemory }
+{
     let (bytes, shift, len) = values.as_slice();
     let mut taken = BitPacker::with_capacity(alloc, indices.len())?;
     let mut rest = indices;
     while !rest.is_empty() {
         let (places, others) = rest.split_at(rest.len().min(MOST_BITS));
         taken.append(
-            word_of_places(bytes, shift, len, places),
+            word_of_places::<R>(bytes, shift, len, places),
             places.len() as u32,
         )?;
         rest = others;
@@ -46,19 +61,20 @@ pub fn take_bitmap_unchecked(
     taken.into_bitmap(indices.len())
 }
 
-/// Packs the bits at `places` into a word; bit 0 is bit `shift` of the first byte.
+/// Packs the bits at the positions of `indices` into a word; bit 0 is bit `shift` of the first byte.
 #[inline]
-fn word_of_places(bytes: &[u8], shift: usize, len: usize, places: &[u32]) -> u64
-    requires few { length places.now ≤ 64 }
+fn word_of_places<R: PlaceRule>(bytes: &[u8], shift: usize, len: usize, indices: &[u32]) -> u64
+    requires few { length indices.now ≤ 64 }
     requires shift { shift < 8 }
     requires within { shift + len ≤ 8 * length bytes.now }
-    requires inside { IsTrue (all_below len places.now) }
-    ensures { result ≡
-        word_of (pick false (bits_from bytes.now shift len ∷ []) (map place_pick places.now)) }
+    requires inside { IsTrue (all_below len (map (R.position len) indices.now)) }
+    ensures { result ≡ word_of (pick false (bits_from bytes.now shift len ∷ [])
+        (map place_pick (map (R.position len) indices.now))) }
 {
     let mut word = 0;
-    for k in 0..places.len() {
-        word += u64::from(bit_in(bytes, shift, len, places[k])) << k;
+    for k in 0..indices.len() {
+        let place = R::place_at(indices[k], len);
+        word += u64::from(bit_in(bytes, shift, len, place)) << k;
     }
     word
 }
@@ -140,8 +156,7 @@ fn take_valid_bits(
     if values.is_empty() {
         return Bitmap::new_with_value(alloc, filler, places.len());
     }
-    let near = near_places(alloc, places, values.len())?;
-    let taken = take_bitmap_unchecked(alloc, values, near.as_slice())?;
+    let taken = take_bits_at::<Near>(alloc, values, places)?;
     if filler {
         return taken.or_not(alloc, valid);
     }

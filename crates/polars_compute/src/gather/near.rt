@@ -1,11 +1,7 @@
 //! Indices that are in bounds where those in null slots may be anything.
 
-ghost use Rattle.std.specs.Prelude.{◌≡◌, map, IfOk, IfErr};
-ghost use Rattle.sel_bits.specs.Faults.{IsOutOfMemory};
+ghost use Rattle.std.specs.Prelude.{◌≡◌, ℕ};
 ghost use Rattle.polars_compute.specs.Steps.{near_place};
-
-use sel_bits::faults::PolarsResult;
-use std::alloc::Global;
 
 /// Returns `place` if it is less than `count`, otherwise 0.
 #[inline(always)]
@@ -15,16 +11,34 @@ pub(crate) fn near_place(place: u32, count: usize) -> u32
     if (place as usize) < count { place } else { 0 }
 }
 
-/// Returns the indices, and 0 for each that is not less than `count`.
-///
-/// Rows at such indices are read without a test of a validity bit for each.
-pub(crate) fn near_places(alloc: Global, places: &[u32], count: usize) -> PolarsResult<Vec<u32>>
-    ensures places { IfOk result (λ near. near.items ≡ map (near_place count) places.now) }
-    ensures refusal { IfErr result IsOutOfMemory }
-{
-    let mut near = Vec::with_capacity(alloc, places.len())?;
-    for place in places {
-        near.push_reserved(near_place(*place, count));
+/// The position of an index among `count` rows.
+pub(crate) trait PlaceRule {
+    ghost position: { ℕ → ℕ → ℕ };
+
+    fn place_at(place: u32, count: usize) -> u32
+        ensures { result ≡ position count place };
+}
+
+/// Each index is a position.
+pub(crate) struct Unchanged;
+
+impl PlaceRule for Unchanged {
+    ghost position = { λ _ place. place };
+
+    #[inline(always)]
+    fn place_at(place: u32, _count: usize) -> u32 {
+        place
     }
-    Ok(near)
+}
+
+/// Those that are out of bounds are position 0, where they are in null slots.
+pub(crate) struct Near;
+
+impl PlaceRule for Near {
+    ghost position = { near_place };
+
+    #[inline(always)]
+    fn place_at(place: u32, count: usize) -> u32 {
+        near_place(place, count)
+    }
 }

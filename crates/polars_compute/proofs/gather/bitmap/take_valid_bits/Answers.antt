@@ -1,7 +1,6 @@
 use Rattle.polars_compute.proofs.Common.{◌≡◌, ◌≢◌, ◌∙◌, ◌&&◌, ◌||◌, not, true, false, Bool, List, Some, [], ◌∷◌, length, pos, map, replicate, ap, sym, IfOk-weaker, Bits, zip_with}
-use Rattle.polars_compute.proofs.Common.{number_rows, length-number_rows, pick, pick_of, near_place}
+use Rattle.polars_compute.proofs.Common.{number_rows, length-number_rows, pick, pick_of}
 use Rattle.polars_compute.proofs.NearRows.{falses_near, near_below, no_bits, trues_near}
-use Rattle.polars_compute.proofs.TakenBits.{bits_at}
 use Rattle.polars_compute.proofs.gather.bitmap.take_valid_bits.Goals as goal
 
 pub returns-then-is_empty-clause-bits : goal.returns-then-is_empty-clause-bits
@@ -13,17 +12,17 @@ returns-then-is_empty-clause-bits c =
     (λ taken is. ap (λ (b : Bits). b.bits) is ∙ ap (λ n. replicate n c.args.filler) (sym (length-number_rows pos places (Some c.args.valid.now))) ∙ sym (no_bits c.args.filler c.args.values.now.bits rows none))
     c.new_with_value.ensures.value
 
-pub take_bitmap_unchecked-requires : goal.take_bitmap_unchecked-requires
-take_bitmap_unchecked-requires c =
+pub take_bits_at-requires : goal.take_bits_at-requires
+take_bits_at-requires c =
     let some : length c.args.values.now.bits ≢ 0 = λ none. let t = c.is_empty.ensures.1 none in let f = c.if-is_empty.false in cc in
-    rw (c.as_slice.ensures.value, c.in_ok-near.ensures.places, c.len.ensures) (near_below (length c.args.values.now.bits) c.args.places.now some)
+    near_below (length c.args.values.now.bits) c.args.places.now some
 
 pub returns-then-filler-clause-bits : goal.returns-then-filler-clause-bits
 returns-then-filler-clause-bits c =
     let bits = c.args.values.now.bits in
     let places = c.args.places.now in
     let valid = c.args.valid.now in
-    let near = c.in_ok-taken.ensures.bits ∙ ap (bits_at bits) (c.as_slice.ensures.value ∙ c.in_ok-near.ensures.places ∙ ap (λ n. map (near_place n) places) c.len.ensures) in
+    let near = c.in_ok-taken.ensures.bits in
     IfOk-weaker c.or_not.result _ _
     (λ taken is. ap (λ (b : Bits). b.bits) is ∙ ap (λ l. zip_with (λ x y. x || not y) l valid.bits) near ∙ trues_near bits valid.bits places c.requires.long c.requires.within
     ∙ ap (λ filler. pick filler (bits ∷ []) (map pick_of (number_rows pos places (Some valid)))) (sym c.if-filler.true))
@@ -34,7 +33,7 @@ returns-clause-bits c =
     let bits = c.args.values.now.bits in
     let places = c.args.places.now in
     let valid = c.args.valid.now in
-    let near = c.in_ok-taken.ensures.bits ∙ ap (bits_at bits) (c.as_slice.ensures.value ∙ c.in_ok-near.ensures.places ∙ ap (λ n. map (near_place n) places) c.len.ensures) in
+    let near = c.in_ok-taken.ensures.bits in
     IfOk-weaker c.and.result _ _
     (λ taken is. ap (λ (b : Bits). b.bits) is ∙ ap (λ l. zip_with (λ x y. x && y) l valid.bits) near ∙ falses_near bits valid.bits places c.requires.long c.requires.within
     ∙ ap (λ filler. pick filler (bits ∷ []) (map pick_of (number_rows pos places (Some valid)))) (sym c.if-filler.false))

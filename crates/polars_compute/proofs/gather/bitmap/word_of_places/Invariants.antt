@@ -1,7 +1,7 @@
 -- Loop invariant: the word has the bits so far.
-use Rattle.polars_compute.proofs.Common.{◌≡◌, take, bits_from, word_of}
+use Rattle.polars_compute.proofs.Common.{◌≡◌, map, take, bits_from, word_of}
 use Rattle.polars_compute.proofs.TakenBits.{bits_at}
 use Rattle.polars_compute.proofs.gather.bitmap.word_of_places.Given as goal
 
 abbrev pub invariant-loop-k : goal.invariant-loop-k
-invariant-loop-k l = l.word ≡ word_of (take l.k (bits_at (bits_from l.bytes l.shift l.len) l.places))
+invariant-loop-k g l = l.word ≡ word_of (take l.k (bits_at (bits_from l.bytes l.shift l.len) (map (g.R.PlaceRule.position l.len) l.indices)))
