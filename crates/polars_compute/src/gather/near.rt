@@ -1,4 +1,4 @@
-//! Indices that are in bounds where those in null slots may be anything.
+//! Positions of indices of which some are null: an index in a null slot may be out of bounds.
 
 ghost use Rattle.std.specs.Prelude.{◌≡◌, ℕ};
 ghost use Rattle.polars_compute.specs.Steps.{near_place};
@@ -11,7 +11,7 @@ pub(crate) fn near_place(place: u32, count: usize) -> u32
     if (place as usize) < count { place } else { 0 }
 }
 
-/// The position of an index among `count` rows.
+/// A rule that gives the position to read among `count` rows from an index.
 pub(crate) trait PlaceRule {
     ghost position: { ℕ → ℕ → ℕ };
 
@@ -19,7 +19,7 @@ pub(crate) trait PlaceRule {
         ensures { result ≡ position count place };
 }
 
-/// Each index is a position.
+/// The position is the index.
 pub(crate) struct Unchanged;
 
 impl PlaceRule for Unchanged {
@@ -31,7 +31,7 @@ impl PlaceRule for Unchanged {
     }
 }
 
-/// Those that are out of bounds are position 0, where they are in null slots.
+/// The position is the index, or 0 if it is out of bounds, as it may be in a null slot.
 pub(crate) struct Near;
 
 impl PlaceRule for Near {
