@@ -133,6 +133,9 @@ pub row_fits : (xss : List (List Value)) (p : Option (ℕ × ℕ)) → IsRow xss
 row_fits xss None is = tt
 row_fits xss (Some p) is = is p refl
 
+pub rows_fit_all : (xss : List (List Value)) (ps : List (Option (ℕ × ℕ))) → All (IsRow xss) ps → All (PickFits xss) ps
+rows_fit_all xss ps are k d h = row_fits xss (get_or ps k d) (are k d h)
+
 pub fits_rows : (xss : List (List Value)) (ps : List (Option (ℕ × ℕ))) → All (PickFits xss) ps → All (IsRow xss) ps
 fits_rows xss ps fits k d h p is = subst (PickFits xss) is (fits k d h)
 

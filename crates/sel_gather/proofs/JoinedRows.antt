@@ -1,12 +1,12 @@
 -- Concatenated binary rows, and the column that is built from them.
-use Rattle.sel_gather.proofs.Common.{map-id, ◌≡◌, ℕ, suc, ◌+◌, ◌≤◌, ◌<◌, ℤ, pos, List, [], ◌∷◌, ◌++◌, length, take, drop, map, Option, refl, ap, sym, subst}
-use Rattle.sel_gather.proofs.Common.{◌∙◌, arith, get_or, length-append, append_assoc, if◌then◌else◌, take_all, take-append-drop, append-nil, map-append}
+use Rattle.sel_gather.proofs.Common.{map-id, ◌≡◌, ℕ, suc, ◌+◌, ◌≤◌, ℤ, pos, List, [], ◌∷◌, ◌++◌, length, take, drop, map, Option, refl, ap, sym}
+use Rattle.sel_gather.proofs.Common.{◌∙◌, arith, get_or, length-append, append_assoc, if◌then◌else◌, take-append-drop, append-nil, map-append}
 use Rattle.sel_gather.proofs.Common.{flat_map-append, Bits, IsOffsets, IsRising, magnitudes, Value, Null, Bytes, validities, is_valid, hidden, pieces}
 use Rattle.sel_gather.proofs.Common.{pieces_after, byte_rows, rows_between, last_offset, length-pieces, Run, ends_from, IsBytesRow, bytes_of, joined_bytes}
-use Rattle.sel_gather.proofs.Common.{AllBytesRows, GrewBy, bytes_needed, pick, expand, unrolled, bits_for}
+use Rattle.sel_gather.proofs.Common.{AllBytesRows, GrewBy, bytes_needed, pick, unrolled, bits_for}
 use Rattle.sel_bits.specs.Signs.{magnitude}
 use Rattle.sel_gather.specs.declared.binary.Joined.{Joined}
-use Rattle.sel_gather.proofs.RunLists.{pick_split, length-pick, length-unrolled, pick_more, run_at}
+use Rattle.sel_gather.proofs.RunLists.{length-pick, length-unrolled}
 use Rattle.sel_gather.proofs.EachRow.{mapped_all, masked_all, picked_all, sources_all}
 use Rattle.sel_gather.proofs.EndsBy.{byte_ends, ends_by-append, ends_by_between, ends_by_last, ends_by_rise, length-bytes_of, pieces_by}
 use Rattle.sel_gather.proofs.Grown.{finished}
@@ -28,16 +28,6 @@ needed_part rows i =
     let both = needed-append (take i rows) (drop i rows) in
     let whole = ap bytes_needed (take-append-drop i rows) in
     omega (arith, both, whole)
-
--- A prefix of the runs needs at most as many bytes as all runs.
-needed_runs : (xss : List (List Value)) (rs : List Run) (i : ℕ) → bytes_needed (pick Null xss (expand (take i rs))) ≤ bytes_needed (pick Null xss (expand rs))
-needed_runs xss rs i =
-    omega (arith, ap bytes_needed (pick_split Null xss rs i), needed-append (pick Null xss (expand (take i rs))) (pick Null xss (expand (drop i rs))))
-
--- One more run.
-pub needed_run : (xss : List (List Value)) (rs : List Run) (i : ℕ) → i < length rs →
-    bytes_needed (pick Null xss (expand (take (i + 1) rs))) ≡ bytes_needed (pick Null xss (expand (take i rs))) + bytes_needed (pick Null xss (unrolled (run_at rs i)))
-needed_run xss rs i h = ap bytes_needed (pick_more Null xss rs i h) ∙ needed-append (pick Null xss (expand (take i rs))) (pick Null xss (unrolled (run_at rs i)))
 
 pub length-joined : (rows : List Value) → length (joined_bytes rows) ≡ bytes_needed rows
 length-joined [] = refl
@@ -66,20 +56,6 @@ grew_more a b s t u first second =
       bits = second.bits ∙ ap (λ l. l ++ validities b) first.bits ∙ append_assoc s.validity (validities a) (validities b)
           ∙ ap (λ l. s.validity ++ l) (sym (map-append is_valid a b));
     }
-
--- One more run.
-pub grew_run : (xss : List (List Value)) (rs : List Run) (i : ℕ) (s t u : Joined) → i < length rs → GrewBy (pick Null xss (expand (take i rs))) s t → GrewBy (pick Null xss (unrolled (run_at rs i))) t u →
-    GrewBy (pick Null xss (expand (take (i + 1) rs))) s u
-grew_run xss rs i s t u h first second =
-    subst (λ l. GrewBy l s u) (sym (pick_more Null xss rs i h)) (grew_more (pick Null xss (expand (take i rs))) (pick Null xss (unrolled (run_at rs i))) s t u first second)
-
-pub grew_runs : (xss : List (List Value)) (rs : List Run) (i : ℕ) (s t : Joined) → length rs ≤ i → GrewBy (pick Null xss (expand (take i rs))) s t → GrewBy (pick Null xss (expand rs)) s t
-grew_runs xss rs i s t past grew = subst (λ l. GrewBy (pick Null xss (expand l)) s t) (take_all i rs past) grew
-
-pub run_room : (xss : List (List Value)) (rs : List Run) (i : ℕ) (s t : Joined) (n : ℕ) → i < length rs → GrewBy (pick Null xss (expand (take i rs))) s t → length s.bytes.items + bytes_needed (pick Null xss (expand rs)) ≤ n →
-    length t.bytes.items + bytes_needed (pick Null xss (unrolled (run_at rs i))) ≤ n
-run_room xss rs i s t n h grew room =
-    omega (arith, grew_length (pick Null xss (expand (take i rs))) s t grew, needed_run xss rs i h, needed_runs xss rs (i + 1), room)
 
 -- ---- rows that are null or bytes
 

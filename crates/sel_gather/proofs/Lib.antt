@@ -17,6 +17,7 @@ pub mod JoinedRows
 pub mod KeptBlocks
 pub mod Layouts
 pub mod ListParts
+pub mod LiveBits
 pub mod NullItems
 pub mod OneSource
 pub mod PlanRuns

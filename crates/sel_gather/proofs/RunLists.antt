@@ -190,3 +190,17 @@ named_picked (r ∷ rs) named =
     let here = picked_run r.source r.start r.len (All-head (λ r. is_none r.source ≡ false) r rs named) in
     let rest = named_picked rs (All-tail (λ r. is_none r.source ≡ false) r rs named) in
     All-append IsPicked (unrolled r) (expand rs) here rest
+
+-- ---- a run and the row references after it
+
+-- The run with the next row reference, which continues it.
+pub run_extended : (all both one : Run) (ps : List (Option (ℕ × ℕ))) (at : ℕ) (p : Option (ℕ × ℕ)) → at < length ps → p ≡ get_or ps at None → unrolled one ≡ p ∷ [] → unrolled both ≡ unrolled all ++ unrolled one →
+    unrolled all ++ drop at ps ≡ unrolled both ++ drop (at + 1) ps
+run_extended all both one ps at p h is of_one joined =
+    ap (λ l. unrolled all ++ l) (drop_more ps at None h) ∙ ap (λ q. unrolled all ++ (q ∷ drop (at + 1) ps)) (sym is)
+    ∙ ap (λ l. unrolled all ++ (l ++ drop (at + 1) ps)) (sym of_one) ∙ sym (append_assoc (unrolled all) (unrolled one) (drop (at + 1) ps)) ∙ ap (λ l. l ++ drop (at + 1) ps) (sym joined)
+
+pub length-extended : (all both one : Run) → unrolled both ≡ unrolled all ++ unrolled one → both.len ≡ all.len + one.len
+length-extended all both one joined =
+    let long = ap length joined ∙ length-append (unrolled all) (unrolled one) in
+    omega (arith, long, length-unrolled all, length-unrolled both, length-unrolled one)

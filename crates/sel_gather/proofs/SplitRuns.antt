@@ -1,5 +1,5 @@
 -- Validity bits of gathered rows, and row references to null rows.
-use Rattle.sel_gather.proofs.Common.{◌≡◌, ◌≢◌, All, Bor, ℕ, zero, suc, ◌+◌, ◌≤◌, ◌<◌, Bool, true, false, List, [], ◌∷◌, length, map, replicate, Option, Some}
+use Rattle.sel_gather.proofs.Common.{◌≡◌, ◌≢◌, All, Bor, ℕ, zero, suc, ◌+◌, ◌≤◌, ◌<◌, Bool, true, false, List, [], ◌∷◌, ◌++◌, length, map, replicate, Option, Some}
 use Rattle.sel_gather.proofs.Common.{None, refl, ap, sym, ◌∙◌, arith, get_or, if◌then◌else◌, length-map, get_or-map, Bits, IsValidityOf, rows, Shape, of_null}
 use Rattle.sel_gather.proofs.Common.{Value, Null, is_valid, validities, Column, cleared, kept_by, found, pick, PickFits, unrolled, picks_of, Run, subst}
 use Rattle.sel_gather.proofs.Common.{All-get_or, get_or-replicate, type_of}
@@ -84,6 +84,13 @@ module _ (cs : List (Bor Column)) (r : Run) (s : ℕ) (c : Bor Column) (is : r.s
         let count = length (rows c.now) in
         sym (all_kept (replicate count true) r.source r.start r.len (λ i h. get_or-replicate count (r.start + i) true false (omega (arith, split_inside, h))))
         ∙ kept_bits (replicate count true) (told_valid (type_of c.now) v (rows c.now) other tells none)
+
+    -- The first rows under the validity bits, followed by the other row references.
+    pub kept_first : (b : Bits) → v ≡ Some b → (first left : Run) → map (kept_by b.bits) (unrolled r) ≡ unrolled first ++ map (kept_by b.bits) (unrolled left) → left.source ≡ r.source →
+        map (cleared (rows_of cs)) (unrolled r) ≡ unrolled first ++ map (cleared (rows_of cs)) (unrolled left)
+    kept_first b there first left split same =
+        let tells = told_bits (type_of c.now) v (rows c.now) other tells b there in
+        sym (kept_run b there) ∙ split ∙ ap (λ l. unrolled first ++ l) (rw (same, is) (kept_picks b.bits tells left.start left.len))
 
 -- ---- runs of nulls, and empty runs
 

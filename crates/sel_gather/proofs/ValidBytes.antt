@@ -4,7 +4,10 @@ use Rattle.sel_gather.proofs.Common.{replicate, Option, Some, None, refl, ap, sy
 use Rattle.sel_gather.proofs.Common.{take-add, take_more, take_all, append-nil, drop-drop, get_or-take, get_or-drop, get_or-replicate, length-map}
 use Rattle.sel_gather.proofs.Common.{flat_map-append, Bits, IsRising, binary_rows, Covers, valid_at, byte_rows, last_offset, rows_between, Value, Null, Bytes}
 use Rattle.sel_gather.proofs.Common.{is_valid, validities, length-byte_rows, null_bytes, valid_bytes, length-part, cleared, IsLive, ends_from, bytes_of}
-use Rattle.sel_gather.proofs.Common.{joined_bytes, byte_count, bytes_needed, found, pick, PickFits, picks_of, unrolled, unrolled_from, Run}
+use Rattle.sel_gather.proofs.Common.{joined_bytes, byte_count, bytes_needed, found, pick, PickFits, picks_of, unrolled, unrolled_from, IsNear, Run}
+use Rattle.sel_gather.proofs.Common.{Collects, Column, ExceedsBytes, ExceedsNone, IfOk, IsLimitOrMemory, IsWellFormed, PolarsError, Result, rows, type_of}
+use Rattle.std.specs.Prelude.{IfErr}
+use Rattle.sel_arrow.specs.Shape.{of_large_binary}
 use Rattle.sel_bits.specs.declared.native.NativeType.{Ghosts}
 use Rattle.sel_arrow.specs.declared.binary.BinaryArray.{BinaryArray}
 use Rattle.sel_gather.proofs.JoinedRows.{ends-append, length-joined, needed-append, needed_part}
@@ -201,6 +204,38 @@ module _ (xss : List (List Value)) where
 
   pub cleared_fits : (ps : List (Option (ℕ × ℕ))) → All (PickFits xss) ps → All (PickFits xss) (map (cleared xss) ps)
   cleared_fits ps fits = All-map (PickFits xss) (cleared xss) ps (λ k d h. fit_one (get_or ps k d) (fits k d h))
+
+  near_one : (p : Option (ℕ × ℕ)) → IsNear p → IsNear (cleared xss p)
+  near_one None near = near
+  near_one (Some p) near = by (is_valid (found Null xss (Some p)))
+    where
+      by : (b : Bool) → IsNear (if b then Some p else None)
+      by true = near
+      by false = λ q is. absurd cc
+
+  pub cleared_near : (ps : List (Option (ℕ × ℕ))) → All IsNear ps → All IsNear (map (cleared xss) ps)
+  cleared_near ps near = All-map IsNear (cleared xss) ps (λ k d h. near_one (get_or ps k d) (near k d h))
+
+-- Cleared row references to the rows of columns, as row references to those of their binary arrays.
+module _ (yss xss : List (List Value)) (same : yss ≡ xss) (ps qs : List (Option (ℕ × ℕ))) (again : qs ≡ ps) where
+  pub shown_fits : All (PickFits xss) ps → All (PickFits yss) (map (cleared xss) qs)
+  shown_fits fits = subst (λ zss. All (PickFits zss) (map (cleared xss) qs)) (sym same) (cleared_fits xss qs (subst (All (PickFits xss)) (sym again) fits))
+
+  pub shown_live : All (IsLive yss) (map (cleared xss) qs)
+  shown_live = subst (λ zss. All (IsLive zss) (map (cleared xss) qs)) (sym same) (cleared_live xss qs)
+
+  pub shown_rows : pick Null yss (map (cleared xss) qs) ≡ pick Null xss ps
+  shown_rows = ap (λ zss. pick Null zss (map (cleared xss) qs)) same ∙ cleared_picks xss qs ∙ ap (pick Null xss) again
+
+pub binary_collected : (r : Result Column PolarsError) (columns : List Column) (vs ws : List Value) → vs ≡ ws → IfOk r (λ column. rows column ≡ vs) → IfOk r (λ column. type_of column ≡ of_large_binary) →
+    IfOk r (λ column. IsWellFormed column) → IfOk r (λ column. ExceedsNone (ExceedsBytes (pos 9223372036854775807) vs)) → IfErr r (IsLimitOrMemory (ExceedsBytes (pos 9223372036854775807) vs)) → Collects r of_large_binary columns ws
+binary_collected r columns vs ws same has dtype formed within refusal = record {
+  rows = subst (λ l. IfOk r (λ column. rows column ≡ l)) same has;
+  dtype = dtype;
+  formed = formed;
+  within = subst (λ l. IfOk r (λ column. ExceedsNone (ExceedsBytes (pos 9223372036854775807) l))) same within;
+  refusal = subst (λ l. IfErr r (IsLimitOrMemory (ExceedsBytes (pos 9223372036854775807) l))) same refusal;
+}
 
 -- ---- the source of a run that is not empty
 

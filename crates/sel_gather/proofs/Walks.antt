@@ -123,6 +123,14 @@ one_told [] c v some one is told = absurd (omega (arith, some))
 one_told (x ∷ []) c v some one is told = (subst (λ (y : Bor Column). IsValidityOf (type_of y.now) v (rows y.now)) is told, tt)
 one_told (x ∷ y ∷ cs) c v some one is told = absurd (omega (arith, one))
 
+-- The validities of two sources.
+pub two_told : (cs : List (Bor Column)) (c d : Bor Column) (v w : Option Bits) → 2 ≤ length cs → length cs < 3 → c ≡ get_or cs 0 c → d ≡ get_or cs 1 d → IsValidityOf (type_of c.now) v (rows c.now) → IsValidityOf (type_of d.now) w (rows d.now) → AreValidities (v ∷ w ∷ []) (columns_of cs)
+two_told [] c d v w some two is other told more = absurd (omega (arith, some))
+two_told (x ∷ []) c d v w some two is other told more = absurd (omega (arith, some))
+two_told (x ∷ y ∷ []) c d v w some two is other told more =
+    (subst (λ (z : Bor Column). IsValidityOf (type_of z.now) v (rows z.now)) is told, (subst (λ (z : Bor Column). IsValidityOf (type_of z.now) w (rows z.now)) other more, tt))
+two_told (x ∷ y ∷ z ∷ cs) c d v w some two is other told more = absurd (omega (arith, two))
+
 -- Sources without a validity.
 pub none_told : (cs : List (Bor Column)) → All (λ c. IsValidityOf (type_of c.now) None (rows c.now)) cs → AreValidities (map (λ c. None) cs) (columns_of cs)
 none_told [] none = tt
@@ -142,11 +150,25 @@ lists_child s cs alike = λ k d h. child_type (get_or cs k d).now s (alike k d h
 pub lists_listing : (s : Shape) (cs : List (Bor Column)) → All (λ c. type_of c.now ≡ of_large_list s) cs → All (λ c. is_listing (type_of c.now) ≡ true) cs
 lists_listing s cs alike = λ k d h. ap is_listing (alike k d h)
 
+-- A property of each of one or two columns.
+pub one_mapped : {A B : Type 0} (f : A → B) (cs : List A) (c : A) (x : B) → 1 ≤ length cs → length cs < 2 → c ≡ get_or cs 0 c → x ≡ f c → x ∷ [] ≡ map f cs
+one_mapped f [] c x some one is e = absurd (omega (arith, some))
+one_mapped f (y ∷ []) c x some one is e = ap (λ z. z ∷ []) (e ∙ ap f is)
+one_mapped f (y ∷ z ∷ cs) c x some one is e = absurd (omega (arith, one))
+
+pub two_mapped : {A B : Type 0} (f : A → B) (cs : List A) (c d : A) (x y : B) → 2 ≤ length cs → length cs < 3 → c ≡ get_or cs 0 c → d ≡ get_or cs 1 d → x ≡ f c → y ≡ f d → x ∷ y ∷ [] ≡ map f cs
+two_mapped f [] c d x y some two is other e h = absurd (omega (arith, some))
+two_mapped f (a ∷ []) c d x y some two is other e h = absurd (omega (arith, some))
+two_mapped f (a ∷ b ∷ []) c d x y some two is other e h = (λ i. (e ∙ ap f is) i ∷ (h ∙ ap f other) i ∷ [])
+two_mapped f (a ∷ b ∷ z ∷ cs) c d x y some two is other e h = absurd (omega (arith, two))
+
 -- The child of a single column.
 pub one_child : (cs : List (Bor Column)) (c x : Bor Column) → 1 ≤ length cs → length cs < 2 → c ≡ get_or cs 0 c → x.now ≡ child c.now → x.now ∷ [] ≡ map (λ c. child c.now) cs
-one_child [] c x some one is child_is = absurd (omega (arith, some))
-one_child (y ∷ []) c x some one is child_is = ap (λ z. z ∷ []) (child_is ∙ ap (λ (z : Bor Column). child z.now) is)
-one_child (y ∷ z ∷ cs) c x some one is child_is = absurd (omega (arith, one))
+one_child cs c x some one is child_is = one_mapped (λ (z : Bor Column). child z.now) cs c x.now some one is child_is
+
+-- The children of two columns.
+pub two_children : (cs : List (Bor Column)) (c d x y : Bor Column) → 2 ≤ length cs → length cs < 3 → c ≡ get_or cs 0 c → d ≡ get_or cs 1 d → x.now ≡ child c.now → y.now ≡ child d.now → x.now ∷ y.now ∷ [] ≡ map (λ c. child c.now) cs
+two_children cs c d x y some two is other e h = two_mapped (λ (z : Bor Column). child z.now) cs c d x.now y.now some two is other e h
 
 module _ (s : Shape) (cs xs : List (Bor Column)) (found : map (λ x. x.now) xs ≡ map (λ c. child c.now) cs) (lists : All (λ c. is_listing (type_of c.now) ≡ true) cs) (alike : All (λ c. type_of (child c.now) ≡ s) cs) (formed : All (λ c. IsWellFormed c.now) cs) where
   pub children_recurse : Recurses s xs (below_of cs)

@@ -1,7 +1,7 @@
 -- The children of columns, and the values of nested rows.
 use Rattle.std.specs.Prelude.{ℕ, List, [], ◌∷◌, Bool, true, false, replicate, slice_index_or}
 use Rattle.std.specs.List.{flat_map}
-use Rattle.sel_arrow.specs.Shape.{Shape, of_large_list, of_fixed_size_list}
+use Rattle.sel_arrow.specs.Shape.{Shape, of_large_list, of_fixed_size_list, of_struct}
 use Rattle.sel_arrow.specs.Value.{Value, Null, Items, Tuple, listed}
 use Rattle.sel_arrow.specs.declared.column.Column.{Column, Row_of-Column, end_of-Column}
 use Rattle.sel_arrow.specs.declared.column.Column.{more_of-Column}
@@ -12,6 +12,14 @@ abbrev pub is_listing : Shape → Bool
 is_listing (of_large_list s) = true
 is_listing (of_fixed_size_list s width) = true
 is_listing s = false
+
+-- Whether columns of the type have children: lists, fixed-size lists and structs (Arrow columnar
+-- format: nested layouts).
+abbrev pub has_children : Shape → Bool
+has_children (of_large_list s) = true
+has_children (of_fixed_size_list s width) = true
+has_children (of_struct ss) = true
+has_children s = false
 
 -- The child of a list column; any other column itself (Arrow columnar format: list layouts).
 abbrev pub child : Column → Column

@@ -12,8 +12,6 @@ use Rattle.sel_arrow.specs.declared.column.Column.{Column}
 use Rattle.sel_arrow.specs.Nulls.{IsValidityOf}
 use Rattle.sel_gather.specs.Children.{part_at, child}
 use Rattle.sel_gather.specs.Picks.{pick}
-use Rattle.sel_gather.specs.Runs.{expand}
-use Rattle.sel_gather.specs.declared.runs.Run.{Run}
 
 -- The first n values of struct values, field by field.
 abbrev pub parts_of : ℕ → List Value → List (List Value)
@@ -28,10 +26,10 @@ abbrev pub binaries : {O : Type 0} {type : Ghosts O}
     → List (Bor (BinaryArray O type)) → List (List Value)
 binaries sources = map (λ s. binary_rows s.now) sources
 
--- The rows of binary columns that runs refer to; null for a run without a source.
+-- The rows of binary columns at row references; null for none.
 abbrev pub picked_bytes : {O : Type 0} {type : Ghosts O}
-    → List (Bor (BinaryArray O type)) → List Run → List Value
-picked_bytes sources runs = pick Null (binaries sources) (expand runs)
+    → List (Bor (BinaryArray O type)) → List (Option (ℕ × ℕ)) → List Value
+picked_bytes sources picks = pick Null (binaries sources) picks
 
 -- Each entry is the validity of the column at the same position (Arrow columnar format: validity
 -- bitmaps).

@@ -1,22 +1,31 @@
-//! Binary columns, collected by runs of rows.
+//! Gathered binary columns, copied by runs of rows.
 
 ghost use Rattle.std.specs.Prelude.{◌≡◌, ◌≤◌, ◌+◌, ◌*◌, ◌∷◌, ◌++◌, [], true, pos, All, length, map, take, drop, replicate, IfOk, IfErr, OnOk};
 ghost use Rattle.sel_bits.specs.Faults.{IsOutOfMemory};
 ghost use Rattle.sel_bits.specs.Limits.{max_rows};
 ghost use Rattle.sel_arrow.specs.Columns.{binary_rows};
-ghost use Rattle.sel_arrow.specs.Value.{validities};
+ghost use Rattle.sel_arrow.specs.Rows.{rows, type_of, IsWellFormed};
+ghost use Rattle.sel_arrow.specs.Shape.{of_large_binary};
+ghost use Rattle.sel_arrow.specs.Value.{Null, validities};
 ghost use Rattle.sel_gather.specs.Cleared.{IsLive};
 ghost use Rattle.sel_gather.specs.JoinedBytes.{ends_from};
 ghost use Rattle.sel_gather.specs.GrownBytes.{joined_bytes, GrewBy};
 ghost use Rattle.sel_gather.specs.Need.{ExceedsBytes, IsLimitOrMemory, ExceedsNone, bytes_needed};
-ghost use Rattle.sel_gather.specs.Picks.{PickFits};
-ghost use Rattle.sel_gather.specs.Runs.{expand, unrolled};
+ghost use Rattle.sel_gather.specs.Gathers.{Collects};
+ghost use Rattle.sel_gather.specs.Picks.{pick, PickFits};
+ghost use Rattle.sel_gather.specs.Runs.{unrolled};
+ghost use Rattle.sel_gather.specs.Sources.{columns_of, rows_of};
 ghost use Rattle.sel_gather.specs.Steps.{binaries, picked_bytes};
 ghost use Rattle.sel_gather.specs.RunRows.{run_bytes};
 
 use crate::bits::validity_from;
-use crate::runs::Run;
+use crate::live_runs::LiveRuns;
+use crate::row_refs::Plan;
+use crate::run_refs::Runs;
+use crate::runs::{NO_ROWS, Run};
+use crate::typed_arrays::{binaries_of, binary_of};
 use sel_arrow::binary::BinaryArray;
+use sel_arrow::column::Column;
 use sel_bits::buffer::Buffer;
 use sel_bits::faults::{Limit, PolarsError, PolarsResult};
 use sel_bits::offsets::OffsetsBuffer;
@@ -32,40 +41,75 @@ struct Joined {
     validity: BitPacker,
 }
 
-/// Returns the rows of several binary columns that runs refer to, in order; a run without a source
-/// gives null rows.
+/// Returns the rows of several binary columns at the row references of `plan`, in order; a null
+/// reference gives a null row.
 ///
-/// The value bytes of each run are copied at once.
+/// The value bytes of each run of valid rows are copied at once. The runs are read twice, for the
+/// number of bytes and for the rows, so that they are not listed.
 ///
 /// # Requires
-/// Every run is within the rows of its source, and a run with a source contains no null row. The
-/// runs have `len` rows in total, at most 2^32 - 1.
+/// All sources are well-formed binary columns, and every non-null row reference refers to a row of
+/// a source.
 ///
 /// # Errors
 /// `OutOfMemory` if an allocation fails; `SizeLimit(Limit::Bytes)` if the rows have more than 2^63
 /// - 1 value bytes.
-pub fn collect_binary<'a>(
+pub(crate) fn gather_binary<'a, P: Plan>(
     alloc: Global,
-    sources: &'a [&'a BinaryArray<i64>],
-    runs: &[Run],
-    len: usize,
-) -> PolarsResult<BinaryArray<i64>>
-    requires fits { All (PickFits (binaries sources.now)) (expand runs.now) }
-    requires live { All (IsLive (binaries sources.now)) (expand runs.now) }
-    requires len { length (expand runs.now) ≡ len }
-    requires few { len ≤ max_rows }
-    ensures rows { IfOk result (λ array. binary_rows array ≡ picked_bytes sources.now runs.now) }
-    ensures within { IfOk result (λ _. ExceedsNone
-        (ExceedsBytes (pos 9223372036854775807) (picked_bytes sources.now runs.now))) }
-    ensures refusal { IfErr result (IsLimitOrMemory
-        (ExceedsBytes (pos 9223372036854775807) (picked_bytes sources.now runs.now))) }
+    sources: &'a [&'a Column],
+    plan: &P,
+) -> PolarsResult<Column>
+    requires alike { All (λ c. type_of c.now ≡ of_large_binary) sources.now }
+    requires formed { All (λ c. IsWellFormed c.now) sources.now }
+    requires fits { All (PickFits (rows_of sources.now)) (P.picks plan.now) }
+    ensures { Collects result of_large_binary (columns_of sources.now)
+        (pick Null (rows_of sources.now) (P.picks plan.now)) }
 {
-    let need = count_bytes(sources, runs);
+    let len = plan.len();
+    let live = LiveRuns {
+        sources,
+        run: NO_ROWS,
+        rest: plan.again(),
+    };
+    if let [only] = sources {
+        return collect_binary(alloc, &[binary_of(*only)], &live, len);
+    }
+    if let [one, other] = sources {
+        return collect_binary(alloc, &[binary_of(*one), binary_of(*other)], &live, len);
+    }
+    let arrays = binaries_of(alloc, sources)?;
+    collect_binary(alloc, &arrays, &live, len)
+}
+
+// Returns the rows of several binary columns that runs refer to, in order; a run without a source
+// gives null rows, and a run with a source has no null row. The runs have `len` rows in total.
+//
+// Errors: `OutOfMemory`; `SizeLimit(Limit::Bytes)` if the rows have more than 2^63 - 1 value bytes.
+fn collect_binary<R: Runs>(
+    alloc: Global,
+    sources: &[&BinaryArray<i64>],
+    runs: &R,
+    len: usize,
+) -> PolarsResult<Column>
+    requires fits { All (PickFits (binaries sources.now)) (R.picks runs.now) }
+    requires live { All (IsLive (binaries sources.now)) (R.picks runs.now) }
+    requires len { length (R.picks runs.now) ≡ len }
+    requires few { len ≤ max_rows }
+    ensures rows { IfOk result (λ column. rows column ≡
+        picked_bytes sources.now (R.picks runs.now)) }
+    ensures dtype { IfOk result (λ column. type_of column ≡ of_large_binary) }
+    ensures formed { IfOk result (λ column. IsWellFormed column) }
+    ensures within { IfOk result (λ _. ExceedsNone
+        (ExceedsBytes (pos 9223372036854775807) (picked_bytes sources.now (R.picks runs.now)))) }
+    ensures refusal { IfErr result (IsLimitOrMemory
+        (ExceedsBytes (pos 9223372036854775807) (picked_bytes sources.now (R.picks runs.now)))) }
+{
+    let need = count_bytes(sources, runs, len);
     if need > i64::MAX as u128 {
         return Err(PolarsError::SizeLimit(Limit::Bytes));
     }
     let mut joined = with_room(alloc, len, need as usize)?;
-    push_runs(&mut joined, sources, runs)?;
+    push_runs(&mut joined, sources, runs, len)?;
     let Joined {
         ends,
         bytes,
@@ -74,23 +118,28 @@ pub fn collect_binary<'a>(
     let validity = validity_from(validity, len)?;
     let offsets = OffsetsBuffer::of_rising(ends)?;
     let values = Buffer::from_vec(bytes)?;
-    Ok(BinaryArray {
+    Ok(Column::LargeBinary(BinaryArray {
         offsets,
         values,
         validity,
-    })
+    }))
 }
 
-// Returns the number of value bytes of the rows that runs refer to.
-fn count_bytes(sources: &[&BinaryArray<i64>], runs: &[Run]) -> u128
-    requires fits { All (PickFits (binaries sources.now)) (expand runs.now) }
-    requires live { All (IsLive (binaries sources.now)) (expand runs.now) }
-    requires few { length (expand runs.now) ≤ max_rows }
-    ensures { result ≡ bytes_needed (picked_bytes sources.now runs.now) }
+// Returns the number of value bytes of the rows that runs refer to, `len` rows in total.
+fn count_bytes<R: Runs>(sources: &[&BinaryArray<i64>], runs: &R, len: usize) -> u128
+    requires fits { All (PickFits (binaries sources.now)) (R.picks runs.now) }
+    requires live { All (IsLive (binaries sources.now)) (R.picks runs.now) }
+    requires len { length (R.picks runs.now) ≡ len }
+    requires few { len ≤ max_rows }
+    ensures { result ≡ bytes_needed (picked_bytes sources.now (R.picks runs.now)) }
 {
+    let mut rest = runs.again();
     let mut total: u128 = 0;
-    for run in runs {
-        total += count_run(sources, *run);
+    let mut at = 0;
+    while at < len {
+        let run = rest.next_run();
+        total += count_run(sources, run);
+        at += run.len as usize;
     }
     total
 }
@@ -155,17 +204,29 @@ fn with_room(alloc: Global, len: usize, need: usize) -> PolarsResult<Joined>
     })
 }
 
-// Appends the rows that runs refer to. Errors: `OutOfMemory`.
-fn push_runs(joined: &mut Joined, sources: &[&BinaryArray<i64>], runs: &[Run]) -> PolarsResult<()>
-    requires fits { All (PickFits (binaries sources.now)) (expand runs.now) }
-    requires live { All (IsLive (binaries sources.now)) (expand runs.now) }
+// Appends the rows that runs refer to, `len` in total. Errors: `OutOfMemory`.
+fn push_runs<R: Runs>(
+    joined: &mut Joined,
+    sources: &[&BinaryArray<i64>],
+    runs: &R,
+    len: usize,
+) -> PolarsResult<()>
+    requires fits { All (PickFits (binaries sources.now)) (R.picks runs.now) }
+    requires live { All (IsLive (binaries sources.now)) (R.picks runs.now) }
+    requires len { length (R.picks runs.now) ≡ len }
+    requires few { len ≤ max_rows }
     requires room { length joined.old.bytes.items + bytes_needed
-        (picked_bytes sources.now runs.now) ≤ 9223372036854775807 }
-    ensures rows { OnOk result (GrewBy (picked_bytes sources.now runs.now) joined.old joined.new) }
+        (picked_bytes sources.now (R.picks runs.now)) ≤ 9223372036854775807 }
+    ensures rows { OnOk result
+        (GrewBy (picked_bytes sources.now (R.picks runs.now)) joined.old joined.new) }
     ensures refusal { IfErr result IsOutOfMemory }
 {
-    for run in runs {
-        push_run(joined, sources, *run)?;
+    let mut rest = runs.again();
+    let mut at = 0;
+    while at < len {
+        let run = rest.next_run();
+        push_run(joined, sources, run)?;
+        at += run.len as usize;
     }
     Ok(())
 }

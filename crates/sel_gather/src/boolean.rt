@@ -19,6 +19,7 @@ use sel_arrow::boolean::BooleanArray;
 use sel_arrow::column::Column;
 use sel_bits::bitmap::Bitmap;
 use sel_bits::faults::PolarsResult;
+use sel_bits::packer::BitPacker;
 use std::alloc::Global;
 
 /// Returns the boolean arrays of the columns. Errors: `OutOfMemory`.
@@ -30,12 +31,20 @@ fn booleans_of<'a>(alloc: Global, sources: &'a [&'a Column]) -> PolarsResult<Vec
 {
     let mut found = Vec::with_capacity(alloc, sources.len())?;
     for source in sources {
-        let Column::Boolean(array) = *source else {
-            unreachable!()
-        };
-        found.push(array)?;
+        found.push(boolean_of(*source))?;
     }
     Ok(found)
+}
+
+// Returns the array of a boolean column.
+fn boolean_of<'a>(column: &'a Column) -> &'a BooleanArray
+    requires { type_of column.now ≡ of_boolean }
+    ensures { boolean_rows result.now ≡ rows column.now }
+{
+    let Column::Boolean(array) = column else {
+        unreachable!()
+    };
+    array
 }
 
 /// Returns the rows of several boolean columns at the row references of `plan`; a null reference
@@ -59,15 +68,48 @@ pub fn gather_boolean<'a, P: Plan>(
     ensures formed { IfOk result (λ column. IsWellFormed column) }
     ensures refusal { IfErr result IsOutOfMemory }
 {
+    if let [only] = sources {
+        return gather_truths(alloc, plan, &[boolean_of(*only)]);
+    }
+    if let [one, other] = sources {
+        return gather_truths(alloc, plan, &[boolean_of(*one), boolean_of(*other)]);
+    }
+    let arrays = booleans_of(alloc, sources)?;
+    gather_truths(alloc, plan, &arrays)
+}
+
+// Returns the rows of several boolean arrays at the row references of `plan`. Errors:
+// `OutOfMemory`.
+fn gather_truths<P: Plan>(alloc: Global, plan: &P, arrays: &[&BooleanArray]) -> PolarsResult<Column>
+    requires { All (PickFits (map (λ s. boolean_rows s.now) arrays.now)) (P.picks plan.now) }
+    ensures rows { IfOk result (λ column. rows column ≡
+        pick Null (map (λ s. boolean_rows s.now) arrays.now) (P.picks plan.now)) }
+    ensures dtype { IfOk result (λ column. type_of column ≡ of_boolean) }
+    ensures formed { IfOk result (λ column. IsWellFormed column) }
+    ensures refusal { IfErr result IsOutOfMemory }
+{
     let len = plan.len();
-    let found = booleans_of(alloc, sources)?;
-    let arrays = found.as_slice();
-    let truths = values_of(alloc, arrays)?;
-    let values = truths.as_slice();
-    let bits = gather_bits(alloc, plan, values)?;
+    let bits = truths_of(alloc, plan, arrays)?;
     let validity = validity_of(alloc, plan, arrays)?;
     let values = bits.into_bitmap(len)?;
     Ok(Column::Boolean(BooleanArray { values, validity }))
+}
+
+// Returns the value at each row reference, false for null references. Errors: `OutOfMemory`.
+fn truths_of<P: Plan>(alloc: Global, plan: &P, arrays: &[&BooleanArray]) -> PolarsResult<BitPacker>
+    requires { All (HasBit (map (λ s. Some s.now.values) arrays.now)) (P.picks plan.now) }
+    ensures bits { IfOk result (λ bits. bits ≡
+        bits_found (map (λ s. Some s.now.values) arrays.now) (P.picks plan.now)) }
+    ensures refusal { IfErr result IsOutOfMemory }
+{
+    if let [only] = arrays {
+        return gather_bits(alloc, plan, &[Some(&only.values)]);
+    }
+    if let [one, other] = arrays {
+        return gather_bits(alloc, plan, &[Some(&one.values), Some(&other.values)]);
+    }
+    let maps = values_of(alloc, arrays)?;
+    gather_bits(alloc, plan, &maps)
 }
 
 // Returns the values bitmap of each source. Errors: `OutOfMemory`.
@@ -101,9 +143,18 @@ fn validity_of<P: Plan>(
     if !plan.has_nulls() && !has_validity(arrays) {
         return Ok(None);
     }
-    let validities = validities_of(alloc, arrays)?;
-    let maps = validities.as_slice();
-    validity_at(alloc, plan, maps)
+    if let [only] = arrays {
+        return validity_at(alloc, plan, &[only.validity.as_ref()]);
+    }
+    if let [one, other] = arrays {
+        return validity_at(
+            alloc,
+            plan,
+            &[one.validity.as_ref(), other.validity.as_ref()],
+        );
+    }
+    let maps = validities_of(alloc, arrays)?;
+    validity_at(alloc, plan, &maps)
 }
 
 // Returns whether some source has a validity.

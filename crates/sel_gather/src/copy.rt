@@ -1,11 +1,11 @@
 //! Copies rows from several columns of one type, by runs, level by level.
 
-ghost use Rattle.std.specs.Prelude.{◌≡◌, ◌≤◌, ◌<◌, All, length, map, true, IfOk, IfErr};
+ghost use Rattle.std.specs.Prelude.{◌≡◌, ◌≤◌, ◌<◌, All, length, map, true, false, IfOk, IfErr};
 ghost use Rattle.sel_bits.specs.Limits.{max_rows};
 ghost use Rattle.sel_arrow.specs.Rows.{rows, type_of, IsField, IsWellFormed};
-ghost use Rattle.sel_arrow.specs.Shape.{of_large_binary, of_binary_view, of_utf8_view, of_large_list, of_fixed_size_list, of_struct, shapes_of};
+ghost use Rattle.sel_arrow.specs.Shape.{of_binary_view, of_utf8_view, of_large_list, of_fixed_size_list, of_struct, shapes_of};
 ghost use Rattle.sel_arrow.specs.Value.{Null};
-ghost use Rattle.sel_gather.specs.Children.{child, is_listing, joined_items};
+ghost use Rattle.sel_gather.specs.Children.{child, has_children, is_listing, joined_items};
 ghost use Rattle.sel_gather.specs.Steps.{child_rows, parts_of};
 ghost use Rattle.sel_gather.specs.Need.{IsLimitOrMemory, ExceedsNone, exceeded_in_fields};
 ghost use Rattle.sel_gather.specs.Picks.{pick, PickFits};
@@ -13,7 +13,7 @@ ghost use Rattle.sel_gather.specs.Runs.{expand};
 ghost use Rattle.sel_gather.specs.Gathers.{Collects, MayGather};
 ghost use Rattle.sel_gather.specs.Sources.{columns_of, first_type, picked, rows_of};
 
-use crate::binary::collect_binary;
+use crate::binary::gather_binary;
 use crate::boolean::gather_boolean;
 use crate::list_walk::walk_lists;
 use crate::lists::{child_of, child_runs, children_of, count_items};
@@ -24,7 +24,7 @@ use crate::primitive::gather_primitive;
 use crate::run_refs::{ListedRuns, RunRefs};
 use crate::runs::{NO_ROWS, Run};
 use crate::structs::{fields_at, split_runs};
-use crate::typed_arrays::{binaries_of, texts_of, views_of};
+use crate::typed_arrays::{texts_of, views_of};
 use crate::view::collect_views;
 use sel_arrow::column::Column;
 use sel_arrow::null::NullArray;
@@ -74,6 +74,33 @@ fn collect_like<'a>(
     ensures { Collects result (type_of first.now) (columns_of sources.now)
         (picked sources.now runs.now) }
 {
+    match first {
+        Column::LargeList { values, .. } => collect_lists(alloc, values, sources, runs, len),
+        Column::FixedSizeList { size, values, .. } => {
+            collect_blocks(alloc, *size, values, sources, runs, len)
+        }
+        Column::Struct { fields, .. } => collect_structs(alloc, fields, sources, runs, len),
+        _ => collect_leaf(alloc, first, sources, runs, len),
+    }
+}
+
+// Returns the rows of columns without children that runs refer to; `first` has their type.
+//
+// Not inlined: the results of its many arms would enlarge the frame of each step of the recursion.
+#[inline(never)]
+fn collect_leaf<'a>(
+    alloc: Global,
+    first: &Column,
+    sources: &'a [&'a Column],
+    runs: &[Run],
+    len: usize,
+) -> PolarsResult<Column>
+    requires leaf { has_children (type_of first.now) ≡ false }
+    requires alike { All (λ c. type_of c.now ≡ type_of first.now) sources.now }
+    requires may { MayGather sources.now (expand runs.now) len }
+    ensures { Collects result (type_of first.now) (columns_of sources.now)
+        (picked sources.now runs.now) }
+{
     let plan = &RunRefs {
         first: NO_ROWS,
         rest: ListedRuns { runs },
@@ -87,19 +114,16 @@ fn collect_like<'a>(
     match_number_types! { first, gather,
         Column::Null(_) => Ok(collect_null(sources, runs, len)),
         Column::Boolean(_) => gather_boolean(alloc, sources, plan),
-        Column::LargeBinary(_) => collect_large_binary(alloc, sources, runs, len),
+        Column::LargeBinary(_) => gather_binary(alloc, sources, plan),
         Column::BinaryView(_) => collect_binview(alloc, sources, runs, len),
         Column::Utf8View(_) => collect_utf8view(alloc, sources, runs, len),
-        Column::LargeList { values, .. } => collect_lists(alloc, values, sources, runs, len),
-        Column::FixedSizeList { size, values, .. } => {
-            collect_blocks(alloc, *size, values, sources, runs, len)
-        }
-        Column::Struct { fields, .. } => collect_structs(alloc, fields, sources, runs, len),
+        _ => unreachable!(),
     }
 }
 
 // Returns the lists that runs refer to; `child` has the type of their items.
 #[cycle(collecting)]
+#[inline(never)]
 fn collect_lists<'a>(
     alloc: Global,
     child: &Column,
@@ -150,12 +174,17 @@ pub(crate) fn collect_children<'a>(
         let children = [child_of(*only)];
         return collect_like(alloc, first, &children, runs, len);
     }
+    if let [one, other] = sources {
+        let both = [child_of(*one), child_of(*other)];
+        return collect_like(alloc, first, &both, runs, len);
+    }
     let children = children_of(alloc, sources)?;
     collect_like(alloc, first, &children, runs, len)
 }
 
 // Returns the fixed-size lists that runs refer to; `child` has the type of their items.
 #[cycle(collecting)]
+#[inline(never)]
 fn collect_blocks<'a>(
     alloc: Global,
     size: usize,
@@ -218,6 +247,7 @@ fn collect_items<'a>(
 
 // Returns the struct rows that runs refer to; `firsts` have the types of their fields.
 #[cycle(collecting)]
+#[inline(never)]
 fn collect_structs<'a>(
     alloc: Global,
     firsts: &[Column],
@@ -261,7 +291,7 @@ fn collect_fields<'a>(
         (IsLimitOrMemory (exceeded_in_fields (shapes_of (map type_of firsts.now)) 0
         (columns_of sources.now) (picked sources.now runs.now))) }
 {
-    let split = split_runs(alloc, sources, runs)?;
+    let split = split_runs(alloc, sources, runs, len)?;
     let count = firsts.len();
     let mut fields = Vec::with_capacity(alloc, count)?;
     for j in 0..count {
@@ -270,26 +300,6 @@ fn collect_fields<'a>(
         fields.push(field)?;
     }
     Ok(fields)
-}
-
-/// Returns the rows of binary columns that runs refer to.
-///
-/// First replaces null rows by runs of nulls, since a null slot may have value bytes.
-fn collect_large_binary<'a>(
-    alloc: Global,
-    sources: &'a [&'a Column],
-    runs: &[Run],
-    len: usize,
-) -> PolarsResult<Column>
-    requires alike { All (λ c. type_of c.now ≡ of_large_binary) sources.now }
-    requires may { MayGather sources.now (expand runs.now) len }
-    ensures { Collects result of_large_binary (columns_of sources.now)
-        (picked sources.now runs.now) }
-{
-    let live = split_runs(alloc, sources, runs)?;
-    let found = binaries_of(alloc, sources)?;
-    let array = collect_binary(alloc, &found, &live, len)?;
-    Ok(Column::LargeBinary(array))
 }
 
 /// Returns the rows of binary view columns that runs refer to.

@@ -236,6 +236,10 @@ fn gather_items<'a, P: Plan>(
         let children = [child_of(*only)];
         return gather_flat(alloc, first, &children, items);
     }
+    if let [one, other] = sources {
+        let both = [child_of(*one), child_of(*other)];
+        return gather_flat(alloc, first, &both, items);
+    }
     let children = children_of(alloc, sources)?;
     gather_flat(alloc, first, &children, items)
 }

@@ -1,8 +1,9 @@
 //! Gathers rows from several columns of one type at the row references of a plan.
 //!
-//! Integers and booleans are gathered one row reference at a time, and fixed-size lists of them
-//! list by list. Lists are read once, and only the runs of their items are built. For all other
-//! types the row references are first converted to runs, since nested rows are copied by runs too.
+//! Integers and booleans are gathered one row reference at a time, binary columns run by run, and
+//! fixed-size lists of integers or booleans list by list. Lists are read once, and only the runs of
+//! their items are built. For all other types the row references are first converted to runs, since
+//! nested rows are copied by runs too.
 
 ghost use Rattle.std.specs.Prelude.{◌≡◌, ◌≤◌, ◌<◌, All, length};
 ghost use Rattle.sel_bits.specs.Limits.{max_rows};
@@ -13,6 +14,7 @@ ghost use Rattle.sel_gather.specs.Gathers.{MayGatherAs, Collects, GathersFrom, M
 ghost use Rattle.sel_gather.specs.Picks.{pick, PickFits};
 ghost use Rattle.sel_gather.specs.Sources.{columns_of, first_type, rows_of};
 
+use crate::binary::gather_binary;
 use crate::boolean::gather_boolean;
 use crate::copy::{collect_children, collect_runs};
 use crate::flat_lists::{gather_flat_blocks, gather_flat_lists, gather_spanned_lists};
@@ -173,6 +175,7 @@ fn gather_like<'a, P: Plan>(
     }
     match_number_types! { first, gather,
         Column::Boolean(_) => gather_boolean(alloc, sources, plan),
+        Column::LargeBinary(_) => gather_binary(alloc, sources, plan),
         Column::LargeList { values, .. } => gather_lists(alloc, values, sources, plan),
         Column::FixedSizeList { size, values, .. } => {
             gather_blocks(alloc, *size, values, sources, plan)

@@ -165,8 +165,7 @@ fn gather_hidden<P: Plan, T: Copy + Drop>(
 {
     if plan.is_wide() {
         let values = copy_plan(alloc, plan, parts, zero)?;
-        let maps = validities_of(alloc, parts)?;
-        let bits = copy_bits(alloc, plan, &maps)?;
+        let bits = copy_validity(alloc, plan, parts)?;
         return Ok((values, bits));
     }
     let len = plan.len();
@@ -181,6 +180,28 @@ fn gather_hidden<P: Plan, T: Copy + Drop>(
         at += count;
     }
     Ok((values, bits))
+}
+
+// Returns the validity bit at each row reference, false for null references, copied by the runs of
+// the plan. Errors: `OutOfMemory`.
+fn copy_validity<P: Plan, T: Copy>(
+    alloc: Global,
+    plan: &P,
+    parts: &[Part<T>],
+) -> PolarsResult<BitPacker>
+    requires { All (HasBit (map (λ s. option_copied s.validity) parts.now)) (P.picks plan.now) }
+    ensures bits { IfOk result (λ bits. bits ≡
+        bits_found (map (λ s. option_copied s.validity) parts.now) (P.picks plan.now)) }
+    ensures refusal { IfErr result IsOutOfMemory }
+{
+    if let [only] = parts {
+        return copy_bits(alloc, plan, &[only.validity]);
+    }
+    if let [one, other] = parts {
+        return copy_bits(alloc, plan, &[one.validity, other.validity]);
+    }
+    let maps = validities_of(alloc, parts)?;
+    copy_bits(alloc, plan, &maps)
 }
 
 // Returns the validity of each source. Errors: `OutOfMemory`.

@@ -20,6 +20,7 @@ mod growable;
 mod item_runs;
 mod list_walk;
 mod lists;
+mod live_runs;
 mod nested;
 mod null;
 pub mod one_source;

@@ -52,12 +52,21 @@ fn numbers_of<'a, T: ArrowPrimitive>(
 {
     let mut found = Vec::with_capacity(alloc, sources.len())?;
     for source in sources {
-        let Some((values, validity)) = T::of_column(*source) else {
-            unreachable!()
-        };
-        found.push(Part { values, validity })?;
+        found.push(part_of::<T>(*source))?;
     }
     Ok(found)
+}
+
+// Returns the values and the validity of a column of integers.
+fn part_of<'a, T: ArrowPrimitive>(column: &'a Column) -> Part<'a, T>
+    requires { type_of column.now ≡ T.shape }
+    ensures { number_rows T.number result.values.now (option_copied result.validity) ≡
+        rows column.now }
+{
+    let Some((values, validity)) = T::of_column(column) else {
+        unreachable!()
+    };
+    Part { values, validity }
 }
 
 /// Returns the rows of several columns of one integer type at the row references of `plan`; a null
@@ -68,7 +77,8 @@ fn numbers_of<'a, T: ArrowPrimitive>(
 ///
 /// # Errors
 /// `OutOfMemory` if an allocation fails.
-pub fn gather_primitive<'a, P: Plan, T: ArrowPrimitive + Drop>(
+#[inline(always)]
+pub fn gather_primitive<'a, P: Plan, T: ArrowPrimitive + Drop + 'a>(
     alloc: Global,
     sources: &'a [&'a Column],
     plan: &P,
@@ -81,10 +91,39 @@ pub fn gather_primitive<'a, P: Plan, T: ArrowPrimitive + Drop>(
     ensures formed { IfOk result (λ column. IsWellFormed column) }
     ensures refusal { IfErr result IsOutOfMemory }
 {
+    if let [only] = sources {
+        let part: Part<'a, T> = part_of::<T>(*only);
+        let parts: [Part<'a, T>; 1] = [part];
+        return gather_numbers(alloc, plan, &parts);
+    }
+    if let [one, other] = sources {
+        let first: Part<'a, T> = part_of::<T>(*one);
+        let second: Part<'a, T> = part_of::<T>(*other);
+        let parts: [Part<'a, T>; 2] = [first, second];
+        return gather_numbers(alloc, plan, &parts);
+    }
+    let parts = numbers_of::<T>(alloc, sources)?;
+    gather_numbers(alloc, plan, &parts)
+}
+
+// Returns the rows of several columns of one integer type at the row references of `plan`, given
+// their values and validity. Errors: `OutOfMemory`.
+fn gather_numbers<P: Plan, T: ArrowPrimitive + Drop>(
+    alloc: Global,
+    plan: &P,
+    parts: &[Part<T>],
+) -> PolarsResult<Column>
+    requires { All (PickFits (map (λ s. number_rows T.number s.values.now
+        (option_copied s.validity)) parts.now)) (P.picks plan.now) }
+    ensures rows { IfOk result (λ column. rows column ≡
+        pick Null (map (λ s. number_rows T.number s.values.now
+        (option_copied s.validity)) parts.now) (P.picks plan.now)) }
+    ensures dtype { IfOk result (λ column. type_of column ≡ T.shape) }
+    ensures formed { IfOk result (λ column. IsWellFormed column) }
+    ensures refusal { IfErr result IsOutOfMemory }
+{
     // (there are no more row references than a column may have rows)
     let _len = plan.len();
-    let found = numbers_of::<T>(alloc, sources)?;
-    let parts = found.as_slice();
     let (values, validity) = gather_parts(alloc, plan, parts, T::LEAST)?;
     let values = Buffer::from_vec(values)?;
     Ok(T::into_column(values, validity))

@@ -6,7 +6,7 @@ ghost use Rattle.sel_bits.specs.Limits.{max_rows};
 ghost use Rattle.sel_gather.specs.Plans.{IsPicked};
 ghost use Rattle.sel_gather.specs.Runs.{expand, unrolled};
 
-use crate::runs::{Run, continues, nulls_of, push_run, run_of_pick};
+use crate::runs::{Run, continues, joined, nulls_of, push_run, run_of_pick};
 use sel_bits::faults::PolarsResult;
 use std::alloc::Global;
 
@@ -132,6 +132,15 @@ pub trait Places: Sized + Drop {
     /// The result is a hint for speed: an implementation may return true even if none is null.
     fn has_nulls(&self) -> bool
         ensures { result ≡ false → All IsPicked (picks self.now) };
+
+    /// Returns whether row references often continue those before them, so that the next run is
+    /// worth looking for.
+    ///
+    /// The result is a hint for speed, which the contract leaves open.
+    #[inline(always)]
+    fn is_in_runs(&self) -> bool {
+        false
+    }
 }
 
 /// An iterator over the row references of `places` from index `at` on.
@@ -140,6 +149,27 @@ pub struct Walk<G: Places> {
     pub places: G,
     pub at: usize,
     pub ghost within: { at ≤ length (G.picks places) },
+}
+
+impl<G: Places> Walk<G> {
+    // Returns the run with the row references after it that continue it, and consumes those.
+    fn extended(&mut self, run: Run) -> Run
+        requires few { run.len + length (drop self.old.at (G.picks self.old.places)) ≤ max_rows }
+        ensures picks { unrolled run ++ drop self.old.at (G.picks self.old.places) ≡
+            unrolled result ++ drop self.new.at (G.picks self.new.places) }
+        ensures some { run.len ≤ result.len }
+    {
+        let len = self.places.len();
+        let mut all = run;
+        while self.at < len {
+            let Some(both) = joined(all, run_of_pick(self.places.get(self.at))) else {
+                return all;
+            };
+            all = both;
+            self.at += 1;
+        }
+        all
+    }
 }
 
 impl<G: Places> Plan for Walk<G> {
@@ -161,7 +191,12 @@ impl<G: Places> Plan for Walk<G> {
 
     #[inline(always)]
     fn next_run(&mut self) -> Run {
-        run_of_pick(self.next())
+        let _len = self.places.len();
+        let run = run_of_pick(self.next());
+        if self.places.is_in_runs() {
+            return self.extended(run);
+        }
+        run
     }
 
     #[inline(always)]

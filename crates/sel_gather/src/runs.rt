@@ -88,10 +88,13 @@ pub fn nulls_of(len: u32) -> Run
     }
 }
 
-// Returns both runs as one if the second continues the first.
+/// Returns both runs as one if the second continues the first.
+///
+/// # Requires
+/// The runs have at most 2^32 - 1 rows in total.
 #[inline(always)]
 #[tactic(auto, using(crate::proofs::RunLists::run_rules))]
-fn joined(first: Run, second: Run) -> Option<Run>
+pub(crate) fn joined(first: Run, second: Run) -> Option<Run>
     requires { first.len + second.len ≤ max_rows }
     ensures { IfSome result (λ both. unrolled both ≡ unrolled first ++ unrolled second) }
 {

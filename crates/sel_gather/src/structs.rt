@@ -1,20 +1,20 @@
 //! Field rows of gathered struct rows.
 
-ghost use Rattle.std.specs.Prelude.{◌≡◌, ◌≢◌, ◌≤◌, ◌<◌, ◌+◌, ◌++◌, All, length, map, IfOk, IfErr, OnOk};
+ghost use Rattle.std.specs.Prelude.{◌≡◌, ◌≢◌, All, map, IfOk, IfErr};
 ghost use Rattle.sel_bits.specs.Faults.{IsOutOfMemory};
-ghost use Rattle.sel_bits.specs.Limits.{max_rows};
-ghost use Rattle.sel_arrow.specs.Rows.{type_of, IsWellFormed};
+ghost use Rattle.sel_arrow.specs.Rows.{type_of};
 ghost use Rattle.sel_arrow.specs.Shape.{of_null};
 ghost use Rattle.sel_gather.specs.Children.{field};
 ghost use Rattle.sel_gather.specs.Cleared.{cleared};
-ghost use Rattle.sel_gather.specs.KeptPicks.{kept_by};
-ghost use Rattle.sel_gather.specs.Picks.{PickFits};
-ghost use Rattle.sel_gather.specs.Runs.{expand, unrolled};
+ghost use Rattle.sel_gather.specs.Gathers.{MayGather};
+ghost use Rattle.sel_gather.specs.Runs.{expand};
 ghost use Rattle.sel_gather.specs.Sources.{rows_of};
 
-use crate::runs::{Run, nulls_of, push_run};
+use crate::live_runs::LiveRuns;
+use crate::row_refs::runs_of_plan;
+use crate::run_refs::{ListedRuns, RunRefs};
+use crate::runs::{NO_ROWS, Run};
 use sel_arrow::column::Column;
-use sel_bits::bitmap::Bitmap;
 use sel_bits::faults::PolarsResult;
 use std::alloc::Global;
 
@@ -54,76 +54,37 @@ fn field_of<'a>(column: &'a Column, j: usize) -> &'a Column
 ///
 /// # Requires
 /// No source is a null column, all sources are well-formed, and every run is within the rows of its
-/// source. The runs have at most 2^32 - 1 rows in total.
+/// source. The runs have `len` rows in total, at most 2^32 - 1.
 ///
 /// # Errors
 /// `OutOfMemory` if an allocation fails.
-pub fn split_runs(alloc: Global, sources: &[&Column], runs: &[Run]) -> PolarsResult<Vec<Run>>
+// (not inlined, since its caller is a step of a recursion, whose frame it would enlarge)
+#[inline(never)]
+pub fn split_runs(
+    alloc: Global,
+    sources: &[&Column],
+    runs: &[Run],
+    len: usize,
+) -> PolarsResult<Vec<Run>>
     requires known { All (λ c. type_of c.now ≢ of_null) sources.now }
-    requires formed { All (λ c. IsWellFormed c.now) sources.now }
-    requires fits { All (PickFits (rows_of sources.now)) (expand runs.now) }
-    requires few { length (expand runs.now) ≤ max_rows }
+    requires may { MayGather sources.now (expand runs.now) len }
     ensures picks { IfOk result (λ split. expand split.items ≡
         map (cleared (rows_of sources.now)) (expand runs.now)) }
     ensures refusal { IfErr result IsOutOfMemory }
 {
-    let mut split = Vec::with_capacity(alloc, runs.len())?;
-    for run in runs {
-        push_split(&mut split, sources, *run)?;
-    }
-    Ok(split)
-}
-
-// Appends a run, with nulls in place of its null rows. Errors: `OutOfMemory`.
-fn push_split(split: &mut Vec<Run>, sources: &[&Column], run: Run) -> PolarsResult<()>
-    requires known { All (λ c. type_of c.now ≢ of_null) sources.now }
-    requires formed { All (λ c. IsWellFormed c.now) sources.now }
-    requires fits { All (PickFits (rows_of sources.now)) (unrolled run) }
-    requires room { length (expand split.old.items) + run.len ≤ max_rows }
-    ensures picks { OnOk result (expand split.new.items ≡
-        expand split.old.items ++ map (cleared (rows_of sources.now)) (unrolled run)) }
-    ensures refusal { IfErr result IsOutOfMemory }
-{
-    if run.len == 0 {
-        return Ok(());
-    }
-    let Some(source) = run.source else {
-        push_run(split, run)?;
-        return Ok(());
+    let rows = RunRefs {
+        first: NO_ROWS,
+        rest: ListedRuns { runs },
+        left: len,
     };
-    match sources[source as usize].validity() {
-        None => {
-            push_run(split, run)?;
-            Ok(())
-        }
-        Some(bits) => {
-            push_kept(split, bits, run)?;
-            Ok(())
-        }
-    }
-}
-
-// Appends the rows of a run whose bit is true as runs, and nulls in place of the others. Errors:
-// `OutOfMemory`.
-fn push_kept(split: &mut Vec<Run>, bits: &Bitmap, run: Run) -> PolarsResult<()>
-    requires inside { run.start + run.len ≤ length bits.now.bits }
-    requires few { length bits.now.bits ≤ max_rows }
-    requires room { length (expand split.old.items) + run.len ≤ max_rows }
-    ensures picks { OnOk result (expand split.new.items ≡
-        expand split.old.items ++ map (kept_by bits.now.bits) (unrolled run)) }
-    ensures refusal { IfErr result IsOutOfMemory }
-{
-    let mut rest = bits
-        .try_clone()?
-        .sliced(run.start as usize, run.len as usize);
-    let mut start = run.start;
-    while !rest.is_empty() {
-        let nulls = rest.take_leading_zeros() as u32;
-        push_run(split, nulls_of(nulls))?;
-        start += nulls;
-        let len = rest.take_leading_ones() as u32;
-        push_run(split, Run { start, len, ..run })?;
-        start += len;
-    }
-    Ok(())
+    let live = RunRefs {
+        first: NO_ROWS,
+        rest: LiveRuns {
+            sources,
+            run: NO_ROWS,
+            rest: rows,
+        },
+        left: len,
+    };
+    runs_of_plan(alloc, &live)
 }

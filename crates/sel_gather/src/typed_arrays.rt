@@ -46,6 +46,17 @@ pub fn binaries_of<'a>(
     arrays_of!(alloc, sources, Column::LargeBinary(array) => array)
 }
 
+/// Returns the array of a binary column.
+pub(crate) fn binary_of<'a>(column: &'a Column) -> &'a BinaryArray<i64>
+    requires { type_of column.now ≡ of_large_binary }
+    ensures { binary_rows result.now ≡ rows column.now }
+{
+    let Column::LargeBinary(array) = column else {
+        unreachable!()
+    };
+    array
+}
+
 /// Returns the view array of each column.
 ///
 /// # Requires

@@ -77,6 +77,9 @@ pub fn gather_validity<P: Plan>(
     if let [only] = sources {
         return validity_at(alloc, plan, &[only.validity()]);
     }
+    if let [one, other] = sources {
+        return validity_at(alloc, plan, &[one.validity(), other.validity()]);
+    }
     if !plan.has_nulls() && !has_validity(sources) {
         return Ok(None);
     }

@@ -1,26 +1,36 @@
-use Rattle.sel_gather.proofs.Common.{ap, ◌∙◌, arith, map, take_all, binary_rows, Null, IsLive, bytes_needed, pick, PickFits, expand}
-use Rattle.sel_gather.proofs.{JoinedRows.needed_run, RunLists.all_at, RunLists.room_at, RunLists.length_more}
+use Rattle.sel_gather.proofs.Common.{◌∙◌, ap, arith, map, take, take_all, unrolled, binary_rows, Null, IsLive, bytes_needed, pick, PickFits}
+use Rattle.sel_gather.proofs.Walks.{picked_run, run_all, run_behind, run_within}
+use Rattle.sel_gather.proofs.{Gathers.left_all, JoinedRows.needed-append}
 use Rattle.sel_gather.proofs.binary.count_bytes.Goals as goal
 
 pub count_run-total-requires : goal.count_run-total-requires
-count_run-total-requires c = record {
-  fits = all_at (PickFits (map (λ s. binary_rows s.now) c.args.sources.now)) c.args.runs.now c.loop-run.run-index c.loop-run-test.true c.requires.fits;
-  live = all_at (IsLive (map (λ s. binary_rows s.now) c.args.sources.now)) c.args.runs.now c.loop-run.run-index c.loop-run-test.true c.requires.live;
-}
-
-pub overflow_add-total : goal.overflow_add-total
-overflow_add-total c = omega (arith, room_at c.args.runs.now c.loop-run.run-index c.loop-run-test.true, c.count_run-total.ensures.small, c.loop-run.invariant.1, c.requires.few)
-
-pub loop-run-preserved : goal.loop-run-preserved
-loop-run-preserved c =
+count_run-total-requires g c =
     let xss = map (λ s. binary_rows s.now) c.args.sources.now in
-    let runs = c.args.runs.now in
-    let i = c.loop-run.run-index in (
-      omega (arith, needed_run xss runs i c.loop-run-test.true, c.count_run-total.ensures.count, c.loop-run.invariant.0),
-      omega (arith, length_more runs i c.loop-run-test.true, c.count_run-total.ensures.small, c.loop-run.invariant.1),
-    )
+    let ps = g.R.Runs.picks c.args.runs.now in
+    let left = g.R.Runs.picks c.loop-at.rest in
+    let at = c.loop-at.at in
+    record {
+      fits = run_all (PickFits xss) left _ c.next_run-run.result c.next_run-run.ensures.picks (left_all (PickFits xss) ps left at c.loop-at.invariant.rest c.requires.fits);
+      live = run_all (IsLive xss) left _ c.next_run-run.result c.next_run-run.ensures.picks (left_all (IsLive xss) ps left at c.loop-at.invariant.rest c.requires.live);
+    }
+
+pub loop-at-preserved : goal.loop-at-preserved
+loop-at-preserved g c =
+    let xss = map (λ s. binary_rows s.now) c.args.sources.now in
+    let ps = g.R.Runs.picks c.args.runs.now in
+    let left = g.R.Runs.picks c.loop-at.rest in
+    let run = c.next_run-run.result in
+    let at = c.loop-at.at in
+    let inside = run_within ps left _ run at c.loop-at.invariant.rest c.next_run-run.ensures.picks (omega (arith, c.loop-at.invariant.within, c.requires.len)) in
+    let more = ap bytes_needed (picked_run ps left _ run at c.loop-at.invariant.rest c.next_run-run.ensures.picks xss) ∙ needed-append (pick Null xss (take at ps)) (pick Null xss (unrolled run)) in
+    record {
+      rest = run_behind ps left _ run at c.loop-at.invariant.rest c.next_run-run.ensures.picks;
+      within = omega (arith, inside, c.requires.len);
+      bytes = omega (arith, more, c.count_run-total.ensures.count, c.loop-at.invariant.bytes);
+      small = omega (arith, c.count_run-total.ensures.small, c.loop-at.invariant.small);
+    }
 
 pub returns : goal.returns
-returns c =
+returns g c =
     let xss = map (λ s. binary_rows s.now) c.args.sources.now in
-    c.loop-run.invariant.0 ∙ ap (λ rs. bytes_needed (pick Null xss (expand rs))) (take_all c.loop-run.run-index c.args.runs.now (omega (arith, c.loop-run-test.false)))
+    c.loop-at.invariant.bytes ∙ ap (λ ps. bytes_needed (pick Null xss ps)) (take_all c.loop-at.at (g.R.Runs.picks c.args.runs.now) (omega (arith, c.loop-at-test.false, c.requires.len)))

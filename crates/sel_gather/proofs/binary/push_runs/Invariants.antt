@@ -1,6 +1,13 @@
--- The rows of the runs so far are appended.
-use Rattle.sel_gather.proofs.Common.{map, take, binary_rows, Null, GrewBy, pick, expand}
+-- The rows so far are appended.
+use Rattle.sel_gather.proofs.Common.{◌≡◌, ◌≤◌, ◌-◌, map, take, drop, binary_rows, Null, GrewBy, pick}
 use Rattle.sel_gather.proofs.binary.push_runs.Given as goal
 
-abbrev pub invariant-loop-run : goal.invariant-loop-run
-invariant-loop-run l = GrewBy (pick Null (map (λ s. binary_rows s.now) l.sources) (expand (take l.run-index l.runs))) l.initial.joined l.joined
+abbrev pub invariant-loop-at : goal.invariant-loop-at
+invariant-loop-at g l = record {
+  rest : g.R.Runs.picks l.rest ≡ drop l.at (g.R.Runs.picks l.runs);
+  within : l.at ≤ l.len;
+  grew : GrewBy (pick Null (map (λ s. binary_rows s.now) l.sources) (take l.at (g.R.Runs.picks l.runs))) l.initial.joined l.joined;
+}
+
+abbrev pub decreases-loop-at : goal.decreases-loop-at
+decreases-loop-at g l = l.len - l.at

@@ -6,15 +6,12 @@ use Rattle.sel_arrow.proofs.Trees.{has_fields}
 use Rattle.sel_arrow.proofs.Types.{type_of-Struct}
 use Rattle.sel_gather.proofs.Below.{block_child_type, found_all, found_map, mapped_now, listed_shapes, refused_more, past_at, parts_more, field_kind}
 use Rattle.sel_gather.proofs.TupleRows.{field_rows, field_type, field_formed, picked_parts, parts_fit}
-use Rattle.sel_gather.proofs.Walks.{children_collected, children_may, children_recurse, lists_child, lists_listing, one_child}
+use Rattle.sel_gather.proofs.Walks.{children_collected, children_may, children_recurse, lists_child, lists_listing, one_child, two_children}
 use Rattle.sel_gather.proofs.{Depths.size_of, Depths.one_size, ItemRuns.rows_of, ItemRuns.below_of, NullItems.null_items_in, PlanRuns.near_may}
 use Rattle.sel_gather.proofs.{RunLists.length-pick, Within.fields_pass, Within.one_more_passes}
 use Rattle.sel_gather.proofs.copy.+collecting.Goals as goal
 
 -- ---- runs as row references
-
-pub collect_like-invariant_of-plan : goal.collect_like-invariant_of-plan
-collect_like-invariant_of-plan t c = record { count = c.requires.may.len; few = c.requires.may.few; near = near_may c.args.sources.now (expand c.args.runs.now) c.args.len c.requires.may }
 
 pub collect_lists-invariant_of-plan : goal.collect_lists-invariant_of-plan
 collect_lists-invariant_of-plan t c = record { count = c.requires.may.len; few = c.requires.may.few; near = near_may c.args.sources.now (expand c.args.runs.now) c.args.len c.requires.may }
@@ -48,6 +45,22 @@ collect_children-returns-in-len1 t c =
     let cs = c.args.sources.now in
     let found = one_child cs c.only-item.result c.child_of.result (omega (arith, c.in-len1.len_at_least)) (omega (arith, c.in-len1.len_below)) c.only-item.is c.child_of.ensures in
     children_collected (type_of c.args.first.now) cs (c.child_of.result ∷ []) found c.requires.lists c.requires.alike c.requires.formed _ (expand c.args.runs.now) c.collect_like.ensures
+
+pub collect_children-collect_like-requires-in-len2 : goal.collect_children-collect_like-requires-in-len2
+collect_children-collect_like-requires-in-len2 t c =
+    let cs = c.args.sources.now in
+    let s = type_of c.args.first.now in
+    let xs = c.child_of-in-len2.result ∷ c.child_of-in-len2-2.result ∷ [] in
+    let found = two_children cs c.one-item.result c.other-item.result c.child_of-in-len2.result c.child_of-in-len2-2.result (omega (arith, c.in-len2.len_at_least)) (omega (arith, c.in-len2.len_below)) c.one-item.is c.other-item.is c.child_of-in-len2.ensures c.child_of-in-len2-2.ensures in
+    let below = children_recurse s cs xs found c.requires.lists c.requires.alike c.requires.formed in
+    (omega (arith, c.decreases), (c.requires.first, (below.alike, children_may s cs xs found c.requires.lists c.requires.alike c.requires.formed (expand c.args.runs.now) c.args.len c.requires.fits c.requires.len c.requires.few)))
+
+pub collect_children-returns-in-len2 : goal.collect_children-returns-in-len2
+collect_children-returns-in-len2 t c =
+    let cs = c.args.sources.now in
+    let xs = c.child_of-in-len2.result ∷ c.child_of-in-len2-2.result ∷ [] in
+    let found = two_children cs c.one-item.result c.other-item.result c.child_of-in-len2.result c.child_of-in-len2-2.result (omega (arith, c.in-len2.len_at_least)) (omega (arith, c.in-len2.len_below)) c.one-item.is c.other-item.is c.child_of-in-len2.ensures c.child_of-in-len2-2.ensures in
+    children_collected (type_of c.args.first.now) cs xs found c.requires.lists c.requires.alike c.requires.formed _ (expand c.args.runs.now) c.collect_like-in-len2.ensures
 
 pub collect_children-collect_like-requires-2 : goal.collect_children-collect_like-requires-2
 collect_children-collect_like-requires-2 t c =

@@ -1,14 +1,10 @@
-use Rattle.sel_gather.proofs.Common.{◌≤◌, ◌+◌, ◌∙◌, All, ap, sym, subst, length, map, arith, option_copied, Null, PickFits, HasBit}
+use Rattle.sel_gather.proofs.Common.{◌≤◌, ◌+◌, length, map, arith, option_copied, Null, PickFits}
 use Rattle.sel_gather.proofs.Gathers.{word_lt, words_more, values_more, left_all, left_length, left_behind}
 use Rattle.sel_gather.proofs.Hiding.{bits_fit}
 use Rattle.sel_gather.proofs.gather_values.gather_hidden.Goals as goal
 
-pub copy_bits-requires : goal.copy_bits-requires
-copy_bits-requires g c =
-    let ps = g.P.Plan.picks c.args.plan.now in
-    let parts = c.args.parts.now in
-    let maps = ap (map option_copied) c.deref.ensures.value ∙ c.in_ok-maps.ensures.maps in
-    subst (λ vs. All (HasBit vs) ps) (sym maps) (bits_fit (λ s. s.values.now) (λ s. option_copied s.validity) (λ s. s.covers) (λ x. Null) c.args.zero parts ps c.requires)
+pub copy_validity-requires : goal.copy_validity-requires
+copy_validity-requires g c = bits_fit (λ s. s.values.now) (λ s. option_copied s.validity) (λ s. s.covers) (λ x. Null) c.args.zero c.args.parts.now (g.P.Plan.picks c.args.plan.now) c.requires
 
 pub push_word-word-requires-clause-fits : goal.push_word-word-requires-clause-fits
 push_word-word-requires-clause-fits g c =

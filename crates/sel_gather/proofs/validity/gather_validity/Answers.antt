@@ -1,5 +1,5 @@
 use Rattle.sel_gather.proofs.Common.{◌≡◌, ◌∙◌, ◌∷◌, [], All, None, ap, sym, subst, map, refl, arith, option_copied, IfOk-weaker, HasBit, bits_found}
-use Rattle.sel_gather.proofs.Walks.{none_told, one_told, told_fits, told_picked}
+use Rattle.sel_gather.proofs.Walks.{none_told, one_told, told_fits, told_picked, two_told}
 use Rattle.sel_gather.proofs.Gathers.{all_none, all_there}
 use Rattle.sel_gather.proofs.validity.gather_validity.Goals as goal
 
@@ -9,6 +9,22 @@ returns-in-len1-clause-bits g c =
     let v = option_copied c.validity.result in
     let told = one_told cs c.only-item.result v (omega (arith, c.in-len1.len_at_least)) (omega (arith, c.in-len1.len_below)) c.only-item.is c.validity.ensures in
     IfOk-weaker c.validity_at.result _ _ (λ bits is. is ∙ told_picked (v ∷ []) cs (g.P.Plan.picks c.args.plan.now) told c.requires.known c.requires.fits) c.validity_at.ensures.bits
+
+pub validity_at-requires-in-len2 : goal.validity_at-requires-in-len2
+validity_at-requires-in-len2 g c =
+    let cs = c.args.sources.now in
+    let v = option_copied c.validity-in-len2.result in
+    let w = option_copied c.validity-in-len2-2.result in
+    let told = two_told cs c.one-item.result c.other-item.result v w (omega (arith, c.in-len2.len_at_least)) (omega (arith, c.in-len2.len_below)) c.one-item.is c.other-item.is c.validity-in-len2.ensures c.validity-in-len2-2.ensures in
+    told_fits (v ∷ w ∷ []) cs (g.P.Plan.picks c.args.plan.now) told c.requires.known c.requires.fits
+
+pub returns-in-len2-clause-bits : goal.returns-in-len2-clause-bits
+returns-in-len2-clause-bits g c =
+    let cs = c.args.sources.now in
+    let v = option_copied c.validity-in-len2.result in
+    let w = option_copied c.validity-in-len2-2.result in
+    let told = two_told cs c.one-item.result c.other-item.result v w (omega (arith, c.in-len2.len_at_least)) (omega (arith, c.in-len2.len_below)) c.one-item.is c.other-item.is c.validity-in-len2.ensures c.validity-in-len2-2.ensures in
+    IfOk-weaker c.validity_at-in-len2.result _ _ (λ bits is. is ∙ told_picked (v ∷ w ∷ []) cs (g.P.Plan.picks c.args.plan.now) told c.requires.known c.requires.fits) c.validity_at-in-len2.ensures.bits
 
 pub returns-then-not-has_validity-clause-bits : goal.returns-then-not-has_validity-clause-bits
 returns-then-not-has_validity-clause-bits g c =

@@ -1,0 +1,15 @@
+use Rattle.sel_gather.proofs.Common.{All-append, IsRow, unrolled}
+use Rattle.sel_gather.proofs.{ItemPicks.fits_rows, ItemPicks.rows_fit_all, ItemRuns.rows_of, RunLists.All-left, RunLists.All-right}
+use Rattle.sel_gather.proofs.live_runs.LiveRunsRuns.next_run.Goals as goal
+
+pub split_live-requires-clause-fits : goal.split_live-requires-clause-fits
+split_live-requires-clause-fits g c =
+    let p = c.ready.new.self in
+    rows_fit_all (rows_of p.sources.now) (unrolled p.run) (All-left (IsRow (rows_of p.sources.now)) (unrolled p.run) (g.P.Plan.picks p.rest) p.fits)
+
+pub invariant_of-self-clause-fits : goal.invariant_of-self-clause-fits
+invariant_of-self-clause-fits g c =
+    let p = c.ready.new.self in
+    let xss = rows_of p.sources.now in
+    All-append (IsRow xss) (unrolled c.split_live.result.1) (g.P.Plan.picks p.rest) (fits_rows xss (unrolled c.split_live.result.1) c.split_live.ensures.fits)
+    (All-right (IsRow xss) (unrolled p.run) (g.P.Plan.picks p.rest) p.fits)
