@@ -1,12 +1,11 @@
 -- Compression of a word, four bits at a time.
 use Rattle.sel_filter.proofs.Common.{◌≡◌, ℕ, ◌+◌, ◌*◌, ◌/◌, ◌%◌, ◌^◌, ◌<◌, ◌≤◌, List, [], Bool, ◌++◌, length, get_or, ap, sym, ◌∙◌, arith, length-append}
-use Rattle.sel_filter.proofs.Common.{count_ones, div-one, shr-shr, pow_mono, bits, word_of, bits_zero, length_bits, bits_split, word_of_lt, bit_at_mod, select}
+use Rattle.sel_filter.proofs.Common.{count_ones, div-one, shr-shr, bits, word_of, bits_zero, length_bits, bits_split, bit_at_mod, select}
 use Rattle.sel_filter.proofs.Common.{compress, NIBBLES}
 use Rattle.std.specs.Prelude.{bit_or}
-use Rattle.std.proofs.lemmas.Nat.{shl_whole, or_comm, or_shifted}
 use Rattle.sel_bits.proofs.Packs.{bits_same}
 use Rattle.sel_filter.proofs.Selects.{select-append, few_kept}
-use Rattle.sel_filter.proofs.WordLists.{word_of-append}
+use Rattle.sel_filter.proofs.WordLists.{word_joined}
 use Rattle.sel_filter.proofs.FourBits.{kept_four, entry_is, count_is}
 
 -- The bits of v that m keeps, of the n lowest ones.
@@ -58,30 +57,17 @@ module _ (v m i values mask packed place : ℕ) (below : i < 16) (was : IsPacked
   packed_next = record {
     values-left = left v values was.values-left;
     mask-left = left m mask was.mask-left;
-    word = ap (λ t. bit_or packed (t * 2 ^ place % 2 ^ 64)) entry
-        ∙ ap (bit_or packed) (shl_whole (word_of four) 4 place 64 small (omega (arith, was.count, few_bits v m (4 * i))))
-        ∙ or_comm packed (word_of four * 2 ^ place)
-        ∙ or_shifted (word_of four) place packed fits
-        ∙ (λ j. word_of four * 2 ^ was.count j + was.word j)
-        ∙ sym (ap word_of grown ∙ word_of-append (kept_bits v m (4 * i)) four);
+    word = word_joined (kept_bits v m (4 * i)) four packed place _ was.word was.count (entry_is (values % 16) (mask % 16) (omega arith) (omega arith)) (omega (arith, was.count, few_bits v m (4 * i), few_bits (values % 16) (mask % 16) 4))
+        ∙ sym (ap word_of grown);
     count = omega (arith, was.count, count_is (values % 16) (mask % 16) (omega arith) (omega arith), ap (λ (l : List Bool). length l) grown, length-append (kept_bits v m (4 * i)) four);
   }
     where
       left : (x now : ℕ) → now ≡ x / 2 ^ (4 * i) → now / 16 ≡ x / 2 ^ (4 * (i + 1))
       left x now is = let e : 4 * i + 4 ≡ 4 * (i + 1) = omega arith in ap (λ n. n / 16) is ∙ shr-shr x (4 * i) 4 ∙ ap (λ n. x / 2 ^ n) e
 
-      entry : get_or NIBBLES (16 * (mask % 16) + values % 16) 0 ≡ word_of four
-      entry = entry_is (values % 16) (mask % 16) (omega arith) (omega arith)
-
-      small : word_of four < 2 ^ 4
-      small =
-          let up : 2 ^ length four ≤ 2 ^ 4 = pow_mono {j = 4} (omega (arith, few_bits (values % 16) (mask % 16) 4)) in
-          omega (arith, word_of_lt four, up)
-
-      fits : packed < 2 ^ place
-      fits = rw (was.word, was.count) (word_of_lt (kept_bits v m (4 * i)))
-
 -- After 16 rounds no bits are left.
 pub packed_last : (v m values mask packed place : ℕ) → IsPacked v m 16 values mask packed place → packed ≡ compress v m
 unfolding compress
 packed_last v m values mask packed place was = was.word
+
+pub ruleset packing = (packed_last, place_few)

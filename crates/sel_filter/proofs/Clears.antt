@@ -1,5 +1,6 @@
--- The number of clear bits below a position.
-use Rattle.sel_filter.proofs.Common.{◌≡◌, ℕ, zero, suc, ◌+◌, ◌-◌, ◌<◌, ◌≤◌, refl, ap, arith, bit_at}
+-- The numbers of set and of clear bits below a position.
+use Rattle.sel_filter.proofs.Common.{◌≡◌, ℕ, zero, suc, ◌+◌, ◌-◌, ◌/◌, ◌≤◌, refl, arith, bit_at, bit_at-lt, bit_at-suc, ones_below}
+use Rattle.sel_bits.proofs.Counts.{ones_zero, ones_suc}
 
 -- The number of clear bits of m below position q.
 unfoldable pub clears : ℕ → ℕ → ℕ
@@ -10,34 +11,20 @@ pub clears_suc : (m q : ℕ) → clears m (suc q) ≡ clears m q + (1 - bit_at m
 unfolding clears
 clears_suc m q = refl
 
-pub clears_zero : (m : ℕ) → clears m 0 ≡ 0
+pub clears_ones : (m q : ℕ) → clears m q + ones_below m q ≡ q
 unfolding clears
-clears_zero m = refl
-
-pub clears_le : (m q : ℕ) → clears m q ≤ q
-clears_le m zero = omega (arith, clears_zero m)
-clears_le m (suc q) = omega (arith, clears_le m q, clears_suc m q)
+clears_ones m zero = omega (arith, ones_zero m)
+clears_ones m (suc q) = omega (arith, clears_ones m q, ones_suc m q, bit_at-lt m q)
 
 -- d positions higher, the number of clear bits is at least as great, and at most d greater.
-clears_up : (m q d : ℕ) → (clears m q ≤ clears m (q + d)) × (clears m (q + d) ≤ clears m q + d)
-clears_up m q zero = let e : q + 0 ≡ q = omega arith in let h = ap (clears m) e in (omega (arith, h), omega (arith, h))
+pub clears_up : (m q d : ℕ) → (clears m q ≤ clears m (q + d)) × (clears m (q + d) ≤ clears m q + d)
+clears_up m q zero = let e : q + 0 ≡ q = omega arith in rw e (omega arith, omega arith)
 clears_up m q (suc d) =
     let e : q + suc d ≡ suc (q + d) = omega arith in
-    let h : clears m (q + suc d) ≡ clears m (suc (q + d)) = ap (clears m) e in
-    let more = clears_suc m (q + d) in
     let before = clears_up m q d in
-    (omega (arith, h, more, before.0), omega (arith, h, more, before.1))
+    rw e (omega (arith, clears_suc m (q + d), before.0), omega (arith, clears_suc m (q + d), before.1))
 
-pub clears_between : (m q r : ℕ) → q ≤ r → (clears m q ≤ clears m r) × (clears m r + q ≤ clears m q + r)
-clears_between m q r le =
-    let e : q + (r - q) ≡ r = omega arith in
-    let h : clears m (q + (r - q)) ≡ clears m r = ap (clears m) e in
-    let up = clears_up m q (r - q) in
-    (omega (arith, h, up.0), omega (arith, h, up.1))
-
--- From a set bit on, the number of clear bits grows by less than the position.
-pub clears_past : (m q r : ℕ) → bit_at m q ≡ 1 → q < r → (clears m q ≤ clears m r) × (clears m r + q + 1 ≤ clears m q + r)
-clears_past m q r set lt =
-    let here = clears_suc m q in
-    let on = clears_between m (suc q) r lt in
-    (omega (arith, here, on.0), omega (arith, here, on.1))
+-- The set bits of a word, of which the lowest is counted first.
+pub ones_front : (x q : ℕ) → ones_below x (suc q) ≡ bit_at x 0 + ones_below (x / 2) q
+ones_front x zero = omega (arith, ones_suc x 0, ones_zero x, ones_zero (x / 2))
+ones_front x (suc q) = omega (arith, ones_suc x (suc q), ones_front x q, ones_suc (x / 2) q, bit_at-suc x q)

@@ -29,9 +29,6 @@ pub record IsRun (rest t r : ℕ) : Type 0 where
   pub ends : bit_at (rest / 2 ^ t / 2 ^ r) 0 ≡ 0
 
 module _ {A : Type 0} (source target items : List A) (at rest t r : ℕ) (run : IsRun rest t r) (was : IsRunning source target items at rest) where
-  n : ℕ
-  n = length source - at
-
   pub run_within : at + t + r ≤ length source
   run_within =
       ⊎_elim
@@ -40,9 +37,6 @@ module _ {A : Type 0} (source target items : List A) (at rest t r : ℕ) (run : 
       absurd (omega (arith, last, run.some, bit_at_above rest (length source - at) (r - 1 + t) was.small (omega (arith, run.some, was.within)))))
       (λ le. le)
       (cases_lt (length source) (at + t + r))
-
-  left : ℕ
-  left = rest / 2 ^ t / 2 ^ r
 
   bits_are : bits (length source - at) rest ≡ replicate t false ++ (replicate r true ++ bits (length source - (at + t + r)) (rest / 2 ^ t / 2 ^ r))
   bits_are =
@@ -123,3 +117,13 @@ shifted_away x r some = let e : r - 1 + 1 ≡ r = omega arith in shr-shr x (r - 
 -- The run that the code reads.
 pub run_of : (rest r : ℕ) → 0 < rest → rest < 2 ^ 64 → r ≡ trailing_ones w64 (rest / 2 ^ trailing_zeros w64 rest) → IsRun rest (trailing_zeros w64 rest) r
 run_of rest r some fits is = subst (IsRun rest (trailing_zeros w64 rest)) (sym is) (lowest_run rest some fits)
+
+-- The next run is within the source, and not empty.
+pub run_inside : {A : Type 0} (source target items : List A) (at rest r : ℕ) → 0 < rest → rest < 2 ^ 64 → r ≡ trailing_ones w64 (rest / 2 ^ trailing_zeros w64 rest) → IsRunning source target items at rest
+    → at + trailing_zeros w64 rest + r ≤ length source
+run_inside source target items at rest r some fits is was = run_within source target items at rest _ r (run_of rest r some fits is) was
+
+pub run_some : (rest r : ℕ) → 0 < rest → rest < 2 ^ 64 → r ≡ trailing_ones w64 (rest / 2 ^ trailing_zeros w64 rest) → 0 < r
+run_some rest r some fits is = (run_of rest r some fits is).some
+
+pub ruleset running = (run_inside, run_some, running_last)

@@ -81,9 +81,6 @@ select_part xs ms at count long =
     (λ i. select (take-add at count xs i) (take-add at count ms i))
     ∙ select-append (take at xs) (take at ms) (take count (drop at xs)) (take count (drop at ms)) (omega (arith, length-take at xs, length-take at ms))
 
-pub count_part : (ms : List Bool) (at count : ℕ) → count_true (take (at + count) ms) ≡ count_true (take at ms) + count_true (take count (drop at ms))
-count_part ms at count = ap count_true (take-add at count ms) ∙ count_true-append (take at ms) (take count (drop at ms))
-
 -- The same after the elements of another list.
 pub select_more : {A : Type 0} (front old new xs : List A) (ms : List Bool) (at count : ℕ) → length xs ≡ length ms → old ≡ front ++ select (take at xs) (take at ms)
     → new ≡ old ++ select (take count (drop at xs)) (take count (drop at ms)) → new ≡ front ++ select (take (at + count) xs) (take (at + count) ms)

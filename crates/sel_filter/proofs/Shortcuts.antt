@@ -1,32 +1,20 @@
 -- Compression if the kept bits are all equal.
 use Rattle.sel_filter.proofs.Common.{◌≡◌, ℕ, zero, suc, ◌-◌, ◌/◌, ◌^◌, ◌<◌, ◌≤◌, ◌∙◌, sym, refl, ap, arith, List, [], ◌∷◌, replicate, Bool, true, false}
-use Rattle.sel_filter.proofs.Common.{bit_and, count_ones, bit_at, pow-suc, pow_pos, bit_at-lt, bit_at_and, bit_at-zero, count_by-le-length, bits, word_of}
+use Rattle.sel_filter.proofs.Common.{bit_and, count_ones, pow-suc, pow_pos, bit_at-zero, count_by-le-length, bits, word_of}
 use Rattle.sel_filter.proofs.Common.{compress, select, count_true, length_bits}
 use Rattle.std.proofs.lemmas.Nat.Bits.{ones_shr}
+use Rattle.std.specs.Int.Bits.{and_self}
 use Rattle.sel_filter.proofs.Rounds.{one_standing}
 use Rattle.sel_filter.proofs.Ranks.{compress_standing}
 use Rattle.sel_filter.proofs.Selects.{count_cons}
 use Rattle.sel_filter.proofs.WordLists.{ones_is}
 
--- The compressed word depends only on the bits under the mask.
-compress_masked : (v m : ℕ) → compress v m ≡ compress (bit_and v m) m
-compress_masked v m =
-    let s = compress_standing m (bit_and v m) in
-    one_standing m v 6 _ _ (compress_standing m v)
-    (record {
-      at_spots = λ q kept. s.at_spots q kept ∙ omega (arith, bit_at_and v m q, kept.1, bit_at-lt v q);
-      from_kept = s.from_kept;
-    })
-
 -- No kept bit is set.
-pub compress_none : (v m : ℕ) → bit_and v m ≡ 0 → 0 ≡ compress v m
-compress_none v m none =
-    one_standing m v 6 _ _
-    (record {
-      at_spots = λ q kept. bit_at-zero _ ∙ sym (omega (arith, bit_at_and v m q, kept.1, bit_at-lt v q, ap (λ x. bit_at x q) none, bit_at-zero q));
-      from_kept = λ s set. absurd (omega (arith, bit_at-zero s, set));
-    })
-    (compress_standing m v)
+pub compress_none : (v m : ℕ) → m < 2 ^ 64 → bit_and v m ≡ 0 → 0 ≡ compress v m
+compress_none v m fits none =
+    one_standing m 0 6 _ _
+    (record { there = λ q set. absurd (omega (arith, bit_at-zero q, set)); back = λ s set. absurd (omega (arith, bit_at-zero s, set)) })
+    (rw none at (compress_standing m v fits))
 
 select_self : (ms : List Bool) → select ms ms ≡ replicate (count_true ms) true
 select_self [] = refl
@@ -48,6 +36,6 @@ compress_all v m n fits count all =
     let back : 64 - (64 - n) ≡ n = omega arith in
     ones_shr 64 (64 - n) (omega arith)
     ∙ ap (λ k. 2 ^ k - 1) (back ∙ count ∙ ones_is 64 m fits)
-    ∙ sym (compress_masked v m ∙ ap (λ x. compress x m) all ∙ ap word_of (select_self (bits 64 m)) ∙ word_of_ones (count_true (bits 64 m)))
+    ∙ sym (one_standing m m 6 _ _ (rw all at (compress_standing m v fits)) (rw and_self at (compress_standing m m fits)) ∙ ap word_of (select_self (bits 64 m)) ∙ word_of_ones (count_true (bits 64 m)))
 
 pub ruleset shortcuts = (compress_none, compress_all)

@@ -3,6 +3,8 @@ use Rattle.sel_filter.proofs.Common.{◌≡◌, ℕ, zero, suc, ◌+◌, ◌-◌
 use Rattle.sel_filter.proofs.Common.{true, false, count_ones, ◌==◌, bit_at, pow-suc, bit_at-lt, bit_at_lowest, is_set, bits, word_of, count_true, bits_suc}
 use Rattle.sel_filter.proofs.Common.{bits_zero, bits_split, length_bits, word_of_lt, append-nil, cond_of_bit, select}
 use Rattle.std.proofs.Math.Nat.{div-eq_of_lt}
+use Rattle.std.specs.Prelude.{◌%◌, bit_or}
+use Rattle.std.proofs.lemmas.Nat.{or_comm, or_shifted, shl_whole}
 use lib.Count.{ones_step}
 use Rattle.sel_bits.proofs.Packed.{bits_word_of as listed}
 use Rattle.sel_filter.proofs.Selects.{count_cons, select_none, all_kept}
@@ -56,3 +58,13 @@ pub word_of-append : (a b : List Bool) → word_of (a ++ b) ≡ word_of b * 2 ^ 
 word_of-append [] b = omega arith
 word_of-append (true ∷ a) b = omega (arith, word_of-append a b, ap (λ p. word_of b * p) (pow-suc 2 (length a)))
 word_of-append (false ∷ a) b = omega (arith, word_of-append a b, ap (λ p. word_of b * p) (pow-suc 2 (length a)))
+
+-- More bits above a packed word.
+pub word_joined : (front more : List Bool) (packed place word : ℕ) → packed ≡ word_of front → place ≡ length front → word ≡ word_of more → place + length more ≤ 64
+    → bit_or packed (word * 2 ^ place % 2 ^ 64) ≡ word_of (front ++ more)
+word_joined front more packed place word is long word-is few =
+    ap (bit_or packed) (shl_whole word (length more) place 64 (rw word-is (word_of_lt more)) (omega arith))
+    ∙ or_comm packed (word * 2 ^ place)
+    ∙ or_shifted word place packed (rw (is, long) (word_of_lt front))
+    ∙ (λ i. word-is i * 2 ^ long i + is i)
+    ∙ sym (word_of-append front more)

@@ -10,22 +10,22 @@ use Rattle.sel_filter.proofs.WordLists.{all_set, bits_of_zero, bits_word_of, cou
 use Rattle.sel_filter.proofs.Selects.{select-append, select_front, select_none, length-select}
 
 module _ (v m : ℕ) (m_fits : m < 2 ^ 64) where
-  long : length (select (bits 64 v) (bits 64 m)) ≡ count_ones m
-  long = length-select (bits 64 v) (bits 64 m) (length_bits 64 v ∙ sym (length_bits 64 m)) ∙ sym (ones_is 64 m m_fits)
+  pub kept_ones : length (select (bits 64 v) (bits 64 m)) ≡ count_ones m
+  kept_ones = length-select (bits 64 v) (bits 64 m) (length_bits 64 v ∙ sym (length_bits 64 m)) ∙ sym (ones_is 64 m m_fits)
 
   pub few_ones : count_ones m ≤ 64
   few_ones = omega (arith, ones_is 64 m m_fits, count_by-le-length (λ b. b) (bits 64 m), length_bits 64 m)
 
   pub compress_fits : compress v m < 2 ^ count_ones m
   unfolding compress
-  compress_fits = subst (λ k. word_of (select (bits 64 v) (bits 64 m)) < 2 ^ k) long (word_of_lt (select (bits 64 v) (bits 64 m)))
+  compress_fits = subst (λ k. word_of (select (bits 64 v) (bits 64 m)) < 2 ^ k) kept_ones (word_of_lt (select (bits 64 v) (bits 64 m)))
 
   pub compress_bits : bits (count_ones m) (compress v m) ≡ select (bits 64 v) (bits 64 m)
   unfolding compress
   compress_bits =
       let s = select (bits 64 v) (bits 64 m) in
-      let none : count_ones m - length s ≡ 0 = omega (arith, long) in
-      bits_word_of s (count_ones m) (omega (arith, long)) ∙ ap (λ k. s ++ replicate k false) none ∙ append-nil s
+      let none : count_ones m - length s ≡ 0 = omega (arith, kept_ones) in
+      bits_word_of s (count_ones m) (omega (arith, kept_ones)) ∙ ap (λ k. s ++ replicate k false) none ∙ append-nil s
 
 full_count : count_ones 18446744073709551615 ≡ 64
 full_count = count_word (replicate 64 true)

@@ -124,6 +124,7 @@ fn append_few<T: Copy>(block: &[T], mask: u64, out: &mut Vec<T>) -> PolarsResult
 /// # Errors
 /// `OutOfMemory` if an allocation fails; the old items of `out` are then still at its front.
 #[inline(never)]
+#[tactic(auto, using(crate::proofs::Running::running))]
 fn append_runs<T: Copy>(block: &[T], mask: u64, out: &mut Vec<T>) -> PolarsResult<()>
     requires block { length block.now ≡ 64 }
     ensures appended { OnOk result

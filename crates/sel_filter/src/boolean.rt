@@ -122,6 +122,7 @@ fn append_words(
 ///
 /// # Errors
 /// `OutOfMemory` if an allocation fails; both readers may then have been read in part.
+#[tactic(auto, using(crate::proofs::Filtering::filtered))]
 pub fn filter_boolean_kernel_sparse(
     alloc: Global,
     values: &mut CountedBits<'_>,
@@ -184,6 +185,7 @@ fn append_marked(
 ///
 /// # Errors
 /// `OutOfMemory` if an allocation fails; both readers may then have been read in part.
+#[tactic(auto, using(crate::proofs::BlockSelects::kept_all))]
 pub fn filter_boolean_kernel_pext(
     alloc: Global,
     values: &mut U56Blocks<'_>,

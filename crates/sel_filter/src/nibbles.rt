@@ -26,6 +26,7 @@ const NIBBLES: [u8; 256] = [
 
 /// Returns the bits of `v` where `m` has a set bit, packed from bit 0, in 16 table steps.
 #[inline]
+#[tactic(auto, using(crate::proofs::ByFours::packing))]
 pub(crate) fn compress_by_fours(v: u64, m: u64) -> u64
     ensures { result ≡ compress v m }
 {

@@ -68,6 +68,7 @@ pub fn filter_counted_values<T: Copy>(
 ///
 /// # Errors
 /// `OutOfMemory` if an allocation fails. The items of `out` are then a prefix of the full result.
+#[tactic(auto, using(crate::proofs::RunFiltering::run_steps))]
 pub fn filter_runs<T: Copy>(
     out: &mut BlockCopy<'_, T>,
     mask: &mut AlignedWords<'_>,
@@ -97,6 +98,7 @@ pub fn filter_runs<T: Copy>(
 }
 
 /// Appends the items at the set bits of `word`, one copy per run; bit 0 belongs to item `start`.
+#[tactic(auto, using(crate::proofs::Running::running))]
 fn copy_runs<T: Copy>(out: &mut BlockCopy<'_, T>, start: usize, word: u64) -> PolarsResult<()>
     requires fits { length out.old.source < 2 ^ 64 }
     requires start { start ≤ length out.old.source }

@@ -1,6 +1,6 @@
-use Rattle.sel_filter.proofs.Common.{refl, arith, take_rest}
+use Rattle.sel_filter.proofs.Common.{◌*◌, refl, arith, take_rest}
 use Rattle.std.proofs.lemmas.Result.{err_from_is_err_and}
-use Rattle.sel_filter.proofs.Dense.{last_fits, last_kept, next_block}
+use Rattle.sel_filter.proofs.Dense.{last_fits, last_kept, part_kept}
 use Rattle.sel_filter.proofs.WordLists.{none_more}
 use Rattle.sel_filter.proofs.RunFiltering.{begins_through}
 use Rattle.sel_filter.proofs.block.append_blocks.Goals as goal
@@ -13,12 +13,13 @@ returns-in_err-append_block-clause-begun g c =
 pub loop-block-preserved-then-word-eq0 : goal.loop-block-preserved-then-word-eq0
 loop-block-preserved-then-word-eq0 g c =
     let out = c.loop-block.out.items in
-    next_block c.args.values.now _ c.args.bytes.now 0 _ refl refl c.loop-block.block c.whole_word-word.result c.args.out.now.items out out (omega arith) c.whole_word-word.ensures c.loop-block.invariant
-    (none_more _ out 64 c.whole_word-word.result c.if-word-eq0.true)
+    part_kept c.args.values.now _ c.args.bytes.now 0 _ refl refl (8 * c.loop-block.block) (64 * c.loop-block.block) 64 c.whole_word-word.result (omega arith) (omega arith) c.whole_word-word.ensures
+    c.args.out.now.items out out _ 64 (omega arith) refl c.loop-block.invariant (none_more _ out 64 c.whole_word-word.result c.if-word-eq0.true)
 
 pub loop-block-preserved : goal.loop-block-preserved
 loop-block-preserved g c =
-    next_block c.args.values.now _ c.args.bytes.now 0 _ refl refl c.loop-block.block c.whole_word-word.result c.args.out.now.items c.loop-block.out.items c.append_block.new.out.items (omega arith) c.whole_word-word.ensures c.loop-block.invariant c.in_ok-append_block.ensures.appended
+    part_kept c.args.values.now _ c.args.bytes.now 0 _ refl refl (8 * c.loop-block.block) (64 * c.loop-block.block) 64 c.whole_word-word.result (omega arith) (omega arith) c.whole_word-word.ensures
+    c.args.out.now.items c.loop-block.out.items c.append_block.new.out.items _ 64 (omega arith) refl c.loop-block.invariant c.in_ok-append_block.ensures.appended
 
 pub append_few-requires-clause-fits : goal.append_few-requires-clause-fits
 append_few-requires-clause-fits g c =

@@ -1,4 +1,4 @@
-use Rattle.sel_filter.proofs.Common.{◌-◌, arith}
+use Rattle.sel_filter.proofs.Common.{arith}
 use Rattle.sel_filter.proofs.Dense.{few_left}
 use Rattle.sel_filter.proofs.block.append_few.Goals as goal
 

@@ -1,44 +1,6 @@
-use Rattle.sel_filter.proofs.Common.{drop, ◌≡◌, ◌+◌, ◌*◌, ◌/◌, ◌^◌, ◌∙◌, ap, subst, arith, shr-shr}
-use Rattle.sel_filter.proofs.Dense.{IsDense, dense_few, dense_more, grown}
+use Rattle.sel_filter.proofs.Common.{◌≡◌, ◌+◌, ◌*◌, ◌/◌, ◌^◌, ◌∙◌, ap, subst, arith, shr-shr}
+use Rattle.sel_filter.proofs.Dense.{IsDense, dense_more}
 use Rattle.sel_filter.proofs.block.push_dense.Goals as goal
-
-pub push_four-requires-clause-room : goal.push_four-requires-clause-room
-push_four-requires-clause-room g c =
-    omega (arith, dense_few _ _ _ _ _ c.loop-round.invariant.dense, c.loop-round.invariant.capacity, c.requires.room, c.loop-round-test.true)
-
-pub push_four-requires-in-loop-round-clause-room : goal.push_four-requires-in-loop-round-clause-room
-push_four-requires-in-loop-round-clause-room g c =
-    omega (arith, dense_few _ _ _ _ _ c.loop-round.invariant.dense, grown _ _ _ (drop _ c.args.block.now) _ c.push_four.ensures.appended, c.push_four.ensures.capacity, c.loop-round.invariant.capacity, c.requires.room, c.loop-round-test.true)
-
-pub push_four-requires-in-loop-round-2-clause-room : goal.push_four-requires-in-loop-round-2-clause-room
-push_four-requires-in-loop-round-2-clause-room g c =
-    omega (
-      arith,
-      dense_few _ _ _ _ _ c.loop-round.invariant.dense,
-      grown _ _ _ (drop _ c.args.block.now) _ c.push_four.ensures.appended,
-      grown _ _ _ (drop _ c.args.block.now) _ c.push_four-in-loop-round.ensures.appended,
-      c.push_four.ensures.capacity,
-      c.push_four-in-loop-round.ensures.capacity,
-      c.loop-round.invariant.capacity,
-      c.requires.room,
-      c.loop-round-test.true,
-    )
-
-pub push_four-requires-in-loop-round-3-clause-room : goal.push_four-requires-in-loop-round-3-clause-room
-push_four-requires-in-loop-round-3-clause-room g c =
-    omega (
-      arith,
-      dense_few _ _ _ _ _ c.loop-round.invariant.dense,
-      grown _ _ _ (drop _ c.args.block.now) _ c.push_four.ensures.appended,
-      grown _ _ _ (drop _ c.args.block.now) _ c.push_four-in-loop-round.ensures.appended,
-      grown _ _ _ (drop _ c.args.block.now) _ c.push_four-in-loop-round-2.ensures.appended,
-      c.push_four.ensures.capacity,
-      c.push_four-in-loop-round.ensures.capacity,
-      c.push_four-in-loop-round-2.ensures.capacity,
-      c.loop-round.invariant.capacity,
-      c.requires.room,
-      c.loop-round-test.true,
-    )
 
 pub loop-round-preserved : goal.loop-round-preserved
 loop-round-preserved g c =

@@ -1,4 +1,4 @@
-use Rattle.sel_filter.proofs.Common.{◌≡◌, ◌+◌, ◌-◌, ◌<◌, ◌^◌, ◌++◌, ◌∙◌, ◌∷◌, [], length, length-append, take, ap, refl, arith, count_ones, vec_capacity, bits}
+use Rattle.sel_filter.proofs.Common.{◌≡◌, ◌+◌, ◌<◌, ◌^◌, ◌++◌, ◌∙◌, ◌∷◌, [], length, length-append, take, ap, refl, arith, count_ones, vec_capacity, bits}
 use Rattle.sel_filter.proofs.Common.{select}
 use Rattle.sel_filter.proofs.Dense.{few_begin, few_left, few_pair, kept_count}
 use Rattle.sel_filter.proofs.Selects.{few_kept}
@@ -9,9 +9,6 @@ loop-rest-init g c = rw c.replace-kept.ensures.value (record {
   capacity = refl;
   kept = few_begin c.args.block.now c.args.out.now.items c.args.mask (vec_capacity c.args.out.now) (omega (arith, c.requires.room, few_kept c.args.block.now (bits (length c.args.block.now) c.args.mask), c.requires.block));
 })
-
-pub push_reserved-requires : goal.push_reserved-requires
-push_reserved-requires g c = omega (arith, (c.loop-rest.invariant.kept.some (omega arith)).1, c.loop-rest.invariant.capacity)
 
 pub push_reserved-requires-in-loop-rest : goal.push_reserved-requires-in-loop-rest
 push_reserved-requires-in-loop-rest g c =

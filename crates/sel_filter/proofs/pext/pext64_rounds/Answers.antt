@@ -21,9 +21,9 @@ loop-i-preserved c =
           rw (last, w.odd-is) (last_marks c.args.m c.loop-i.blocks w.above_single-odd.result counts w.above_single-odd.ensures)
     ] in
     let fits : c.if-i-lt5.odd < 2 ^ 64 = omega arith in
-    rw c.move_down.ensures (state_next c.args.m c.args.word.now.source c.loop-i.i c.loop-i.blocks c.if-i-lt5.odd c.loop-i.word c.loop-i-test.true fits marks c.loop-i.invariant)
+    rw c.move_down.ensures (state_next c.args.m c.args.word.now.source c.loop-i.i c.loop-i.blocks c.if-i-lt5.odd c.loop-i.word c.ranges.m.fits c.loop-i-test.true fits marks c.loop-i.invariant)
 
 pub returns-clause-compressed : goal.returns-clause-compressed
 returns-clause-compressed c =
     let end : c.loop-i.i ≡ 6 = omega arith in
-    state_last c.args.m c.args.word.now.source c.loop-i.i c.loop-i.blocks c.loop-i.word end c.loop-i.invariant
+    state_last c.args.m c.args.word.now.source c.loop-i.i c.loop-i.blocks c.loop-i.word c.ranges.m.fits end c.loop-i.invariant

@@ -1,22 +1,19 @@
 use Rattle.sel_filter.proofs.Common.{◌/◌, ◌^◌, refl, arith, trailing_zeros, w64}
-use Rattle.sel_filter.proofs.Running.{run_of, run_within, running_next, counts_next, running_last, counts_last, shifted_away, copies_left}
+use Rattle.sel_filter.proofs.Running.{run_inside, run_of, running_next, counts_next, counts_last, shifted_away, copies_left}
 use Rattle.sel_filter.proofs.primitive.copy_runs.Goals as goal
 
 pub overflow_add-at : goal.overflow_add-at
-overflow_add-at g c = record { fits = omega (arith, run_within _ _ _ _ _ _ _ (run_of _ _ (omega arith) c.loop-rest.auto.rest-fits.fits c.trailing_ones-run.ensures) c.loop-rest.invariant.running, c.requires.fits) }
+overflow_add-at g c = record { fits = omega (arith, run_inside _ _ _ _ _ _ (omega arith) c.loop-rest.auto.rest-fits.fits c.trailing_ones-run.ensures c.loop-rest.invariant.running, c.requires.fits) }
 
 pub copy-requires-clause-inside : goal.copy-requires-clause-inside
-copy-requires-clause-inside g c = rw c.loop-rest.invariant.source (run_within _ _ _ _ _ _ _ (run_of _ _ (omega arith) c.loop-rest.auto.rest-fits.fits c.trailing_ones-run.ensures) c.loop-rest.invariant.running)
+copy-requires-clause-inside g c = rw c.loop-rest.invariant.source (run_inside _ _ _ _ _ _ (omega arith) c.loop-rest.auto.rest-fits.fits c.trailing_ones-run.ensures c.loop-rest.invariant.running)
 
 pub copy-requires-clause-countable : goal.copy-requires-clause-countable
 copy-requires-clause-countable g c =
     omega (arith, copies_left _ _ _ _ _ _ _ (run_of _ _ (omega arith) c.loop-rest.auto.rest-fits.fits c.trailing_ones-run.ensures) c.loop-rest.invariant.running _ c.loop-rest.out.copies c.loop-rest.invariant.counts, c.requires.counted)
 
 pub overflow_add-at-in-loop-rest : goal.overflow_add-at-in-loop-rest
-overflow_add-at-in-loop-rest g c = record { fits = omega (arith, run_within _ _ _ _ _ _ _ (run_of _ _ (omega arith) c.loop-rest.auto.rest-fits.fits c.trailing_ones-run.ensures) c.loop-rest.invariant.running, c.requires.fits) }
-
-pub overflow_sub-rest : goal.overflow_sub-rest
-overflow_sub-rest g c = (run_of _ _ (omega arith) c.loop-rest.auto.rest-fits.fits c.trailing_ones-run.ensures).some
+overflow_add-at-in-loop-rest g c = record { fits = omega (arith, run_inside _ _ _ _ _ _ (omega arith) c.loop-rest.auto.rest-fits.fits c.trailing_ones-run.ensures c.loop-rest.invariant.running, c.requires.fits) }
 
 pub loop-rest-preserved : goal.loop-rest-preserved
 loop-rest-preserved g c =
@@ -30,9 +27,6 @@ loop-rest-preserved g c =
       running = running_next source _ _ at rest _ _ run was;
       counts = counts_next source _ _ at rest _ _ run was _ c.loop-rest.out.copies c.loop-rest.invariant.counts;
     })
-
-pub returns-clause-appended : goal.returns-clause-appended
-returns-clause-appended g c = running_last c.args.out.now.source _ _ c.loop-rest.at c.loop-rest.rest (omega arith) c.loop-rest.invariant.running
 
 pub returns-clause-counted : goal.returns-clause-counted
 returns-clause-counted g c = counts_last c.args.out.now.source _ _ c.loop-rest.at c.loop-rest.rest (omega arith) c.loop-rest.invariant.counts

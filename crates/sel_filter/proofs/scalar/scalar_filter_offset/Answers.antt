@@ -1,7 +1,6 @@
-use Rattle.sel_filter.proofs.Common.{◌≡◌, ◌<◌, ◌-◌, ◌/◌, ◌^◌, ◌++◌, ◌∷◌, [], ◌∙◌, length, take, drop, get_or, ap, sym, arith, take_all, length-take}
+use Rattle.sel_filter.proofs.Common.{◌≡◌, ◌-◌, ◌/◌, ◌^◌, ◌++◌, ◌∷◌, [], ◌∙◌, length, take, drop, get_or, ap, sym, arith, take_all, length-take}
 use Rattle.sel_filter.proofs.Common.{length-drop, bits_from, select}
-use Rattle.sel_filter.specs.Scalar.{rows_to_boundary}
-use Rattle.sel_filter.proofs.Scalars.{first_bits, other_bits, boundary_some}
+use Rattle.sel_filter.proofs.Scalars.{first_bits, bits_rest, boundary_rows}
 use Rattle.sel_filter.proofs.scalar.scalar_filter_offset.Goals as goal
 
 pub returns-clause-appended : goal.returns-clause-appended
@@ -9,17 +8,14 @@ returns-clause-appended g c =
     let slice = c.as_slice-offset.ensures in
     let bytes = c.as_slice-offset.result.0.now in
     let o = c.as_slice-offset.result.1 in
-    let n = c.as_slice-offset.result.2 in
     let mask = c.args.mask.now in
     let values = c.args.values.now in
     let old = c.args.out.now.items in
     let count = c.min-count.result in
-    let some : 0 < o = omega arith in
-    let small : o < 8 = omega (arith, slice.offset) in
-    let boundary : rows_to_boundary mask ≡ count = boundary_some _ (length mask.bits) (omega (arith, slice.offset, some)) ∙ omega (arith, slice.offset, slice.len, c.min-count.ensures) in
+    let boundary = boundary_rows mask o _ count (omega arith) slice.offset slice.len c.min-count.ensures in
     let long : length (take count values) ≡ count = omega (arith, length-take count values, c.min-count.ensures, slice.len, c.requires) in
-    let bits : bits_from (get_or bytes 0 0 / 2 ^ o ∷ []) 0 (length (take count values)) ≡ take count mask.bits =
-    ap (bits_from (get_or bytes 0 0 / 2 ^ o ∷ []) 0) long ∙ first_bits bytes o n count small (omega (arith, c.min-count.ensures)) (omega (arith, c.min-count.ensures)) (omega (arith, slice.bytes)) ∙ ap (take count) (sym slice.bits) in
+    let bits = ap (bits_from (get_or bytes 0 0 / 2 ^ o ∷ []) 0) long
+    ∙ first_bits bytes o _ count (omega (arith, slice.offset)) (omega (arith, c.min-count.ensures)) (omega (arith, c.min-count.ensures)) (omega (arith, slice.bytes)) ∙ ap (take count) (sym slice.bits) in
     c.in_ok-scalar_filter.ensures.appended ∙ ap (λ bs. old ++ select (take count values) bs) bits ∙ ap (λ k. old ++ select (take k values) (take k mask.bits)) (sym boundary)
 
 pub returns-clause-bits : goal.returns-clause-bits
@@ -27,12 +23,10 @@ returns-clause-bits g c =
     let slice = c.as_slice-offset.ensures in
     let bytes = c.as_slice-offset.result.0.now in
     let o = c.as_slice-offset.result.1 in
-    let n = c.as_slice-offset.result.2 in
     let mask = c.args.mask.now in
     let values = c.args.values.now in
     let count = c.min-count.result in
-    let some : 0 < o = omega arith in
-    let boundary : rows_to_boundary mask ≡ count = boundary_some _ (length mask.bits) (omega (arith, slice.offset, some)) ∙ omega (arith, slice.offset, slice.len, c.min-count.ensures) in
+    let boundary = boundary_rows mask o _ count (omega arith) slice.offset slice.len c.min-count.ensures in
     let whole : take (length bytes - 1) (drop 1 bytes) ≡ drop 1 bytes = take_all (length bytes - 1) (drop 1 bytes) (omega (arith, length-drop 1 bytes)) in
-    let left : length (take (length values - count) (drop count values)) ≡ n - count = omega (arith, length-take (length values - count) (drop count values), length-drop count values, slice.len, c.requires) in
-    (λ i. bits_from (whole i) 0 (left i)) ∙ other_bits bytes o n count some (omega (arith, slice.offset)) c.min-count.ensures ∙ ap (drop count) (sym slice.bits) ∙ ap (λ k. drop k mask.bits) (sym boundary)
+    let left : length (take (length values - count) (drop count values)) ≡ c.as_slice-offset.result.2 - count = omega (arith, length-take (length values - count) (drop count values), length-drop count values, slice.len, c.requires) in
+    (λ i. bits_from (whole i) 0 (left i)) ∙ bits_rest bytes 1 0 o _ count (omega (arith, c.min-count.ensures)) (λ inside. omega (arith, c.min-count.ensures, inside)) ∙ ap (drop count) (sym slice.bits) ∙ ap (λ k. drop k mask.bits) (sym boundary)
