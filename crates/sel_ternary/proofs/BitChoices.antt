@@ -1,7 +1,8 @@
 -- If-then-else of bits, as bitmap operations.
-use Rattle.sel_ternary.proofs.Common.{◌≡◌, refl, ap, arith, List, [], ◌∷◌, length, map, replicate, Bool, true, false, not, ◌&&◌, zip_with, broadcast_true}
+use Rattle.sel_ternary.proofs.Common.{◌≡◌, refl, ap, arith, List, [], ◌∷◌, length, map, Bool, true, false, not, ◌&&◌, zip_with, broadcast_true}
 use Rattle.sel_ternary.proofs.Common.{broadcast_false, broadcast_both, if◌then◌else◌}
 use Rattle.std.proofs.Common.{◌||◌}
+use Rattle.sel_ternary.proofs.Chosen.{two_equal}
 use Rattle.std.proofs.Math.Bool.{or-true, or-false, and-true, and-false}
 
 -- A bitmap operation is an if-then-else with a broadcast value if it is one at each bit.
@@ -26,11 +27,6 @@ or_true = by_bit_false (λ x y. x || not y) true (λ t m. elim m as (λ m. (t ||
 
 pub or_false : (ms ts : List Bool) → length ts ≡ length ms → zip_with (λ x y. x && y) ts ms ≡ broadcast_false ms ts false
 or_false = by_bit_false (λ x y. x && y) false (λ t m. elim m as (λ m. (t && m) ≡ (if m then t else false)) [ true ↦ and-true t | false ↦ and-false t ])
-
-pub two_equal : {A : Type 0} → (ms : List Bool) (x : A) → broadcast_both ms x x ≡ replicate (length ms) x
-two_equal [] x = refl
-two_equal (true ∷ ms) x = ap (λ l. x ∷ l) (two_equal ms x)
-two_equal (false ∷ ms) x = ap (λ l. x ∷ l) (two_equal ms x)
 
 pub two_turned : (ms : List Bool) → map not ms ≡ broadcast_both ms false true
 two_turned [] = refl

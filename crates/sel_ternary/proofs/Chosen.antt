@@ -1,7 +1,9 @@
 -- If-then-else of lists, part by part.
 use Rattle.sel_ternary.proofs.Common.{◌≡◌, ℕ, suc, ◌+◌, ◌/◌, ◌^◌, ◌<◌, ◌≤◌, ◌∙◌, sym, refl, ap, arith, List, [], ◌∷◌, ◌++◌, length, get_or, take, drop}
 use Rattle.sel_ternary.proofs.Common.{replicate, map, Bool, if◌then◌else◌, eq-eqb, append_assoc, append-nil, length-replicate, get_or-replicate, take_all, bits}
-use Rattle.sel_ternary.proofs.Common.{is_set, length_bits, get_bits, choose, broadcast_true, broadcast_false, broadcast_both}
+use Rattle.sel_ternary.proofs.Common.{is_set, length_bits, get_bits, choose, broadcast_true, broadcast_false, broadcast_both, true, false}
+use Rattle.sel_ternary.proofs.Common.{Value, chosen_rows, first_row}
+use Rattle.sel_ternary.specs.Chosen.{SideFits, spread_rows}
 use Rattle.std.proofs.lemmas.List.{length-take, drop-drop, set_split, take-append-le, get_or_default}
 use Rattle.std.proofs.Common.{◌≢◌, bit_and}
 use Rattle.std.specs.Int.{bit_at}
@@ -25,6 +27,22 @@ repeated_otherwise (m ∷ ms) (t ∷ ts) x = ap (λ l. (if m then t else x) ∷ 
 pub repeated_both : {A : Type 0} → (ms : List Bool) (x y : A) → broadcast_both ms x y ≡ choose ms (replicate (length ms) x) (replicate (length ms) y)
 repeated_both [] x y = refl
 repeated_both (m ∷ ms) x y = ap (λ l. (if m then x else y) ∷ l) (repeated_both ms x y)
+
+pub two_equal : {A : Type 0} → (ms : List Bool) (x : A) → broadcast_both ms x x ≡ replicate (length ms) x
+two_equal [] x = refl
+two_equal (true ∷ ms) x = ap (λ l. x ∷ l) (two_equal ms x)
+two_equal (false ∷ ms) x = ap (λ l. x ∷ l) (two_equal ms x)
+
+-- Columns and broadcast rows, told as one function of the mask over the rows of both sides.
+pub chosen_spread : (t f : Bool) (ms : List Bool) (ts fs : List Value) → chosen_rows t f ms ts fs ≡ choose ms (spread_rows t ms ts) (spread_rows f ms fs)
+chosen_spread true true ms ts fs = refl
+chosen_spread true false ms ts fs = repeated_otherwise ms ts (first_row fs) ∙ ap (choose ms ts) (sym (two_equal ms (first_row fs)))
+chosen_spread false true ms ts fs = repeated_then ms (first_row ts) fs ∙ ap (λ l. choose ms l fs) (sym (two_equal ms (first_row ts)))
+chosen_spread false false ms ts fs = repeated_both ms (first_row ts) (first_row fs) ∙ (λ i. choose ms (sym (two_equal ms (first_row ts)) i) (sym (two_equal ms (first_row fs)) i))
+
+pub length-spread : (is_column : Bool) (ms : List Bool) (vs : List Value) → SideFits is_column (length vs) (length ms) → length (spread_rows is_column ms vs) ≡ length ms
+length-spread true ms vs fits = fits
+length-spread false ms vs fits = ap length (two_equal ms (first_row vs)) ∙ length-replicate (length ms) (first_row vs)
 
 -- ---- parts
 

@@ -10,11 +10,11 @@ use Rattle.std.specs.List.{range_with_len}
 use Rattle.std.specs.Simd.Lanes.{sel_l, Each1}
 use Rattle.std.proofs.lemmas.Bool.{ne_eqb}
 use Rattle.std.proofs.lemmas.Nat.Bits.{and_pow, bit_at-lt}
-use Rattle.std.proofs.lemmas.List.{get_or-drop, get_or-take, same_lists}
+use Rattle.std.proofs.lemmas.List.{get_or-drop, get_or-take, length-take, same_lists}
 use Rattle.std.proofs.lemmas.Simd.{map-map}
 use Rattle.sel_bits.proofs.Packs.{bits_same, bits_split}
 use Rattle.sel_bits.proofs.Shifts.{bit_at_mod, bit_at_shr}
-use Rattle.sel_ternary.proofs.Chosen.{AsLong, chosen_end, chosen_more, chosen_to, length-chosen_to}
+use Rattle.sel_ternary.proofs.Chosen.{AsLong, chosen_end, chosen_more, chosen_to}
 
 -- ---- the lanes of set bits
 
@@ -102,12 +102,21 @@ module _ {A : Type 0} (n : ℕ) (ms : List Bool) (ts fs : List A) (long : AsLong
   pub filled_all : at ≡ n → out.items ≡ items ++ choose ms ts fs
   filled_all all = was.appended ∙ ap (λ l. items ++ l) (chosen_end n ms ts fs long at all)
 
-  pub filled_length : at ≤ n → length out.items ≡ length items + at
-  filled_length le = ap length was.appended ∙ length-append items (chosen_to ms ts fs at) ∙ ap (λ k. length items + k) (length-chosen_to n ms ts fs long at le)
-
 -- Nothing is appended yet.
 pub filled_none : {A : Type 0} → (ms : List Bool) (ts fs : List A) (out : Vec A Global) → IsFilled out.items (chosen_to ms ts fs 0) (vec_capacity out) out
 filled_none ms ts fs out = record { appended = sym (append-nil out.items); room = refl }
+
+-- At most as many entries are appended as there are positions.
+few_chosen : {A : Type 0} → (ms : List Bool) (ts fs : List A) → length (choose ms ts fs) ≤ length ms
+few_chosen [] ts fs = omega arith
+few_chosen (m ∷ ms) [] fs = omega arith
+few_chosen (m ∷ ms) (t ∷ ts) [] = omega arith
+few_chosen (m ∷ ms) (t ∷ ts) (f ∷ fs) = omega (arith, few_chosen ms ts fs)
+
+pub chosen_grows : {A : Type 0} → (items ts fs : List A) (ms : List Bool) (at : ℕ) → length (items ++ choose (take at ms) (take at ts) (take at fs)) ≤ length items + at
+chosen_grows items ts fs ms at = omega (arith, length-append items (choose (take at ms) (take at ts) (take at fs)), few_chosen (take at ms) (take at ts) (take at fs), length-take at ms)
+
+pub ruleset filling = (filled_none, chosen_grows)
 
 -- The bits of a word from position `at` on.
 pub bits_part : (n mask at count : ℕ) → at + count ≤ n → bits count (mask / 2 ^ at) ≡ take count (drop at (bits n mask))

@@ -40,18 +40,16 @@ held_like : (s : Shape) (a b c d : Column) → Like s a c → Like s b d → (vs
 held_like s a b c d first second vs limit (inl past) = inl past
 held_like s a b c d first second vs limit (inr past) = inr (same_needs s (a ∷ b ∷ []) (c ∷ d ∷ []) (first, (second, tt)) vs limit past)
 
--- Rows exceed the same limits with the lists as with their children.
-taken_below : (type : Shape) (a b c d : Column) → IsBelow type a c → IsBelow type b d → (vs : List Value) (limit : Limit) →
-    exceeded_taken type (a ∷ b ∷ []) vs limit → exceeded_below type (c ∷ d ∷ []) vs limit
-taken_below (of_large_list s) a b c d first second vs limit past = held_like s (child a) (child b) c d (like_list s a c first) (like_list s b d second) (joined_items 0 vs) limit past
-taken_below (of_fixed_size_list s w) a b c d first second vs limit past = held_like s (child a) (child b) c d (like_block s w a c first) (like_block s w b d second) (joined_items w vs) limit past
-taken_below type a b c d first second vs limit past = absurd first
+held_both : (s : Shape) (a b c d : Column) → Like s a c → Like s b d → (vs : List Value) (limit : Limit) →
+    (exceeded_held s (a ∷ b ∷ []) vs limit → exceeded_held s (c ∷ d ∷ []) vs limit) × (exceeded_held s (c ∷ d ∷ []) vs limit → exceeded_held s (a ∷ b ∷ []) vs limit)
+held_both s a b c d first second vs limit = (held_like s a b c d first second vs limit, held_like s c d a b (back s a c first) (back s b d second) vs limit)
 
-below_taken : (type : Shape) (a b c d : Column) → IsBelow type a c → IsBelow type b d → (vs : List Value) (limit : Limit) →
-    exceeded_below type (c ∷ d ∷ []) vs limit → exceeded_taken type (a ∷ b ∷ []) vs limit
-below_taken (of_large_list s) a b c d first second vs limit past = held_like s c d (child a) (child b) (back s _ c (like_list s a c first)) (back s _ d (like_list s b d second)) (joined_items 0 vs) limit past
-below_taken (of_fixed_size_list s w) a b c d first second vs limit past = held_like s c d (child a) (child b) (back s _ c (like_block s w a c first)) (back s _ d (like_block s w b d second)) (joined_items w vs) limit past
-below_taken type a b c d first second vs limit past = absurd first
+-- Rows exceed the same limits with the lists as with their children.
+same_below : (type : Shape) (a b c d : Column) → IsBelow type a c → IsBelow type b d → (vs : List Value) (limit : Limit) →
+    (exceeded_taken type (a ∷ b ∷ []) vs limit → exceeded_below type (c ∷ d ∷ []) vs limit) × (exceeded_below type (c ∷ d ∷ []) vs limit → exceeded_taken type (a ∷ b ∷ []) vs limit)
+same_below (of_large_list s) a b c d first second vs limit = held_both s (child a) (child b) c d (like_list s a c first) (like_list s b d second) (joined_items 0 vs) limit
+same_below (of_fixed_size_list s w) a b c d first second vs limit = held_both s (child a) (child b) c d (like_block s w a c first) (like_block s w b d second) (joined_items w vs) limit
+same_below type a b c d first second vs limit = absurd first
 
 -- ---- errors and results
 
@@ -69,12 +67,12 @@ module _ {A C : Type 0} (result : Result A PolarsError) (own : C → Column) (ty
   pub refused_choice : IfErr result (IsLimitOrMemory (exceeded_taken (type_of a) (a ∷ b ∷ []) vs)) → IfErr result (IsLimitOrMemory (exceeded_lists own type t f ws))
   refused_choice h =
       IfErr-weaker result _ _ (λ fault. refused_more (exceeded_taken type (a ∷ b ∷ []) ws) (exceeded_lists own type t f ws) fault
-      (λ limit past. inr (taken_below type a b (below own t) (below own f) at_first at_second ws limit past)))
+      (λ limit past. inr ((same_below type a b (below own t) (below own f) at_first at_second ws limit).0 past)))
       (subst (λ past. IfErr result (IsLimitOrMemory past)) alike h)
 
   -- A result exceeds no limit if the rows themselves exceed none.
   pub answered_choice : ExceedsNone (exceeded_flat t f ws) → IfOk result (λ _. ExceedsNone (exceeded_taken (type_of a) (a ∷ b ∷ []) vs)) → IfOk result (λ _. ExceedsNone (exceeded_lists own type t f ws))
   answered_choice flat h =
       IfOk-weaker result _ _ (λ _ none. passes_neither (exceeded_flat t f ws) (exceeded_below type (below own t ∷ below own f ∷ []) ws) flat
-      (λ limit past. none limit (below_taken type a b (below own t) (below own f) at_first at_second ws limit past)))
+      (λ limit past. none limit ((same_below type a b (below own t) (below own f) at_first at_second ws limit).1 past)))
       (subst (λ past. IfOk result (λ _. ExceedsNone past)) alike h)

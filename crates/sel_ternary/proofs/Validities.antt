@@ -94,6 +94,17 @@ map-replicate (suc n) x f = ap (λ l. f x ∷ l) (map-replicate n x f)
 pub side_long : {A : Type 0} → (f : A → Value) (ms : List Bool) (xs : List A) (v : Option Bits) → length (masked v (map f xs)) ≡ length ms → length xs ≡ length ms
 side_long f ms xs v long = sym (length-mapped f xs v) ∙ long
 
+-- The validity of an if-then-else of two columns, or of a column and a value, is as long as the mask.
+pub two_covered : {A : Type 0} → (f : A → Value) (ms : List Bool) (vt vf v : Option Bits) (ts fs : List A) (b : Bits) → v ≡ Some b → IsChosenValidity ms vt vf v → length (masked vt (map f ts)) ≡ length ms → length (masked vf (map f fs)) ≡ length ms
+    → Covers vt (length ts) → Covers vf (length fs) → length b.bits ≡ length ms
+two_covered f ms vt vf v ts fs b there valid p q ct cf = covers_chosen ms vt vf v (λ d is. ct d is ∙ side_long f ms ts vt p) (λ d is. cf d is ∙ side_long f ms fs vf q) valid b there
+
+pub true_covered : {A : Type 0} → (f : A → Value) (ms : List Bool) (vt v : Option Bits) (ts : List A) (b : Bits) → v ≡ Some b → IsChosenValidity ms vt None v → length (masked vt (map f ts)) ≡ length ms → Covers vt (length ts) → length b.bits ≡ length ms
+true_covered f ms vt v ts b there valid p ct = covers_chosen ms vt None v (λ d is. ct d is ∙ side_long f ms ts vt p) (no_validity (length ms)) valid b there
+
+pub false_covered : {A : Type 0} → (f : A → Value) (ms : List Bool) (vf v : Option Bits) (fs : List A) (b : Bits) → v ≡ Some b → IsChosenValidity ms None vf v → length (masked vf (map f fs)) ≡ length ms → Covers vf (length fs) → length b.bits ≡ length ms
+false_covered f ms vf v fs b there valid q cf = covers_chosen ms None vf v (no_validity (length ms)) (λ d is. cf d is ∙ side_long f ms fs vf q) valid b there
+
 -- ---- columns whose rows each depend on one value
 
 module _ {A : Type 0} (f : A → Value) (ms : List Bool) (out : List A) (v : Option Bits) where
@@ -104,27 +115,29 @@ module _ {A : Type 0} (f : A → Value) (ms : List Bool) (out : List A) (v : Opt
       ∙ ap (masked v) (map-choose f ms ts fs)
       ∙ masked_choose ms vt vf v (map f ts) (map f fs) (length-map ts f ∙ side_long f ms ts vt p) (length-map fs f ∙ side_long f ms fs vf q) (λ b there. ct b there ∙ sym (length-map ts f)) (λ b there. cf b there ∙ sym (length-map fs f)) valid
 
-  pub rows_choose_one : (vf : Option Bits) (x : A) (fs : List A) → length (masked vf (map f fs)) ≡ length ms → Covers vf (length fs) → out ≡ broadcast_true ms x fs → IsChosenValidity ms None vf v
-      → masked v (map f out) ≡ broadcast_true ms (f x) (masked vf (map f fs))
-  rows_choose_one vf x fs q cf is valid =
+  pub rows_choose_one : (vf : Option Bits) (x : A) (y : Value) (fs : List A) → length (masked vf (map f fs)) ≡ length ms → Covers vf (length fs) → out ≡ broadcast_true ms x fs → IsChosenValidity ms None vf v → f x ≡ y
+      → masked v (map f out) ≡ broadcast_true ms y (masked vf (map f fs))
+  rows_choose_one vf x y fs q cf is valid to =
       rows_choose None vf (replicate (length ms) x) fs (length-map (replicate (length ms) x) f ∙ length-replicate (length ms) x) q (no_validity _) cf (is ∙ repeated_then ms x fs) valid
       ∙ ap (λ l. choose ms l (masked vf (map f fs))) (map-replicate (length ms) x f)
       ∙ sym (repeated_then ms (f x) (masked vf (map f fs)))
+      ∙ ap (λ z. broadcast_true ms z (masked vf (map f fs))) to
 
-  pub rows_choose_or_one : (vt : Option Bits) (ts : List A) (x : A) → length (masked vt (map f ts)) ≡ length ms → Covers vt (length ts) → out ≡ broadcast_false ms ts x → IsChosenValidity ms vt None v
-      → masked v (map f out) ≡ broadcast_false ms (masked vt (map f ts)) (f x)
-  rows_choose_or_one vt ts x p ct is valid =
+  pub rows_choose_or_one : (vt : Option Bits) (ts : List A) (x : A) (y : Value) → length (masked vt (map f ts)) ≡ length ms → Covers vt (length ts) → out ≡ broadcast_false ms ts x → IsChosenValidity ms vt None v → f x ≡ y
+      → masked v (map f out) ≡ broadcast_false ms (masked vt (map f ts)) y
+  rows_choose_or_one vt ts x y p ct is valid to =
       rows_choose vt None ts (replicate (length ms) x) p (length-map (replicate (length ms) x) f ∙ length-replicate (length ms) x) ct (no_validity _) (is ∙ repeated_otherwise ms ts x) valid
       ∙ ap (λ l. choose ms (masked vt (map f ts)) l) (map-replicate (length ms) x f)
       ∙ sym (repeated_otherwise ms (masked vt (map f ts)) (f x))
+      ∙ ap (broadcast_false ms (masked vt (map f ts))) to
 
-  pub rows_choose_of_two : (x y : A) → out ≡ broadcast_both ms x y → v ≡ None → masked v (map f out) ≡ broadcast_both ms (f x) (f y)
-  rows_choose_of_two x y is none =
-      (λ i. masked (none i) (map f (is i)))
-      ∙ ap (map f) (repeated_both ms x y)
+  pub rows_choose_of_two : (x y : A) (p q : Value) → out ≡ broadcast_both ms x y → f x ≡ p → f y ≡ q → map f out ≡ broadcast_both ms p q
+  rows_choose_of_two x y p q is first second =
+      ap (map f) (is ∙ repeated_both ms x y)
       ∙ map-choose f ms (replicate (length ms) x) (replicate (length ms) y)
       ∙ (λ i. choose ms (map-replicate (length ms) x f i) (map-replicate (length ms) y f i))
       ∙ sym (repeated_both ms (f x) (f y))
+      ∙ (λ i. broadcast_both ms (first i) (second i))
 
 -- A validity that is passed by reference is as long as the mask.
 pub side_covers : {A : Type 0} → (f : A → Value) (ms : List Bool) (xs : List A) (v lent : Option Bits) → Covers v (length xs) → length (masked v (map f xs)) ≡ length ms → lent ≡ v → Covers lent (length ms)
@@ -144,3 +157,5 @@ pub length-choose_of_two : {A : Type 0} → (ms : List Bool) (x y : A) → lengt
 length-choose_of_two ms x y = ap length (repeated_both ms x y) ∙ length-choose ms (replicate (length ms) x) (replicate (length ms) y) (length-replicate (length ms) x) (length-replicate (length ms) y)
 
 pub ruleset sides = (length-mapped, length-choose, length-choose_one, length-choose_or_one, length-choose_of_two, few_rows_pass, no_validity)
+
+pub ruleset columns = (sides, rows_choose, rows_choose_one, rows_choose_or_one, rows_choose_of_two, two_covered, true_covered, false_covered)

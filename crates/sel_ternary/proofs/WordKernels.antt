@@ -1,11 +1,8 @@
 -- Broadcast rows by the kernels of their types, and null rows by a validity.
 use Rattle.sel_ternary.proofs.Common.{◌≡◌, ℕ, suc, ◌<◌, ◌∙◌, Bool, true, false, not, ◌&&◌, List, [], ◌∷◌, length, map, get_or, refl, ap, sym, subst, arith}
 use Rattle.sel_ternary.proofs.Common.{replicate, Option, None, if◌then◌else◌, list_all, append-nil, Bits, zip_with, hidden, Covers, Value, Null, Bytes, View}
-use Rattle.sel_ternary.proofs.Common.{pick, broadcast_true, broadcast_false, broadcast_both, first_row}
-use Rattle.std.specs.Prelude.{◌≤◌, ◌+◌}
-use Rattle.sel_bits.specs.Limits.{max_buffers}
-use Rattle.sel_ternary.specs.Chosen.{chosen_rows, spread_rows, SideFits, SideIsValid}
-use Rattle.sel_ternary.specs.WordKernels.{HasRoom}
+use Rattle.sel_ternary.proofs.Common.{pick, choose, first_row}
+use Rattle.sel_ternary.specs.Chosen.{chosen_rows, spread_rows, SideFits}
 use Rattle.sel_arrow.specs.Texts.{is_text}
 use Rattle.std.proofs.Common.{◌≢◌, ⊎_elim}
 use Rattle.std.specs.Prelude.{count_by}
@@ -18,8 +15,8 @@ use Rattle.sel_gather.specs.Runs.{expand, unrolled}
 use Rattle.sel_gather.proofs.RunLists.{map_nulls}
 use Rattle.sel_ternary.proofs.SameNeeds.{held_count}
 use Rattle.std.proofs.lemmas.Bool.{cases_Bool}
+use Rattle.sel_ternary.proofs.Chosen.{chosen_spread, length-spread, two_equal}
 use Rattle.sel_ternary.proofs.Placed.{texts}
-use Rattle.sel_ternary.proofs.Validities.{length-choose_of_two}
 
 -- ---- the only row of a column
 
@@ -39,56 +36,36 @@ one_valid (v ∷ w ∷ vs) one none same = absurd (omega (arith, one))
 
 -- ---- null rows
 
-pub nulled_true : (ms : List Bool) (fs : List Value) → length fs ≡ length ms → hidden (map not ms) fs ≡ broadcast_true ms Null fs
+nulled_true : (ms : List Bool) (fs : List Value) → length fs ≡ length ms → hidden (map not ms) fs ≡ choose ms (replicate (length ms) Null) fs
 nulled_true [] [] long = refl
 nulled_true (true ∷ ms) (f ∷ fs) long = ap (λ l. Null ∷ l) (nulled_true ms fs (omega (arith, long)))
 nulled_true (false ∷ ms) (f ∷ fs) long = ap (λ l. f ∷ l) (nulled_true ms fs (omega (arith, long)))
 nulled_true ms fs long = absurd (omega (arith, long))
 
-pub nulled_false : (ms : List Bool) (ts : List Value) → length ts ≡ length ms → hidden ms ts ≡ broadcast_false ms ts Null
+nulled_false : (ms : List Bool) (ts : List Value) → length ts ≡ length ms → hidden ms ts ≡ choose ms ts (replicate (length ms) Null)
 nulled_false [] [] long = refl
 nulled_false (m ∷ ms) (t ∷ ts) long = ap (λ l. (if m then t else Null) ∷ l) (nulled_false ms ts (omega (arith, long)))
 nulled_false ms ts long = absurd (omega (arith, long))
 
-pub nulled_otherwise : (ms : List Bool) (x : Value) → hidden ms (broadcast_both ms x x) ≡ broadcast_both ms x Null
-nulled_otherwise [] x = refl
-nulled_otherwise (true ∷ ms) x = ap (λ l. x ∷ l) (nulled_otherwise ms x)
-nulled_otherwise (false ∷ ms) x = ap (λ l. Null ∷ l) (nulled_otherwise ms x)
-
-pub nulled_then : (ms : List Bool) (x : Value) → hidden (map not ms) (broadcast_both ms x x) ≡ broadcast_both ms Null x
-nulled_then [] x = refl
-nulled_then (true ∷ ms) x = ap (λ l. Null ∷ l) (nulled_then ms x)
-nulled_then (false ∷ ms) x = ap (λ l. x ∷ l) (nulled_then ms x)
+-- A null row, for each bit of the mask.
+null_spread : (ms : List Bool) (vs : List Value) → first_row vs ≡ Null → replicate (length ms) Null ≡ spread_rows false ms vs
+null_spread ms vs null = ap (replicate (length ms)) (sym null) ∙ sym (two_equal ms (first_row vs))
 
 pub null_then : (tc fc : Bool) (ms : List Bool) (ts fs : List Value) → tc ≡ false → first_row ts ≡ Null → SideFits fc (length fs) (length ms) → hidden (map not ms) (spread_rows fc ms fs) ≡ chosen_rows tc fc ms ts fs
-null_then false true ms ts fs row null fits = nulled_true ms fs fits ∙ ap (λ x. broadcast_true ms x fs) (sym null)
-null_then false false ms ts fs row null fits = nulled_then ms (first_row fs) ∙ ap (λ x. broadcast_both ms x (first_row fs)) (sym null)
+null_then false fc ms ts fs row null fits =
+    nulled_true ms (spread_rows fc ms fs) (length-spread fc ms fs fits) ∙ ap (λ l. choose ms l (spread_rows fc ms fs)) (null_spread ms ts null) ∙ sym (chosen_spread false fc ms ts fs)
 null_then true fc ms ts fs row null fits = absurd (cc row)
 
 pub null_otherwise : (tc fc : Bool) (ms : List Bool) (ts fs : List Value) → fc ≡ false → first_row fs ≡ Null → SideFits tc (length ts) (length ms) → hidden ms (spread_rows tc ms ts) ≡ chosen_rows tc fc ms ts fs
-null_otherwise true false ms ts fs row null fits = nulled_false ms ts fits ∙ ap (broadcast_false ms ts) (sym null)
-null_otherwise false false ms ts fs row null fits = nulled_otherwise ms (first_row ts) ∙ ap (broadcast_both ms (first_row ts)) (sym null)
+null_otherwise tc false ms ts fs row null fits =
+    nulled_false ms (spread_rows tc ms ts) (length-spread tc ms ts fits) ∙ ap (choose ms (spread_rows tc ms ts)) (null_spread ms fs null) ∙ sym (chosen_spread tc false ms ts fs)
 null_otherwise tc true ms ts fs row null fits = absurd (cc row)
-
-pub length-spread : (is_column : Bool) (ms : List Bool) (vs : List Value) → SideFits is_column (length vs) (length ms) → length (spread_rows is_column ms vs) ≡ length ms
-length-spread true ms vs fits = fits
-length-spread false ms vs fits = length-choose_of_two ms (first_row vs) (first_row vs)
 
 -- ---- the sides
 
 pub one_row : (is_column : Bool) (rows mask : ℕ) → SideFits is_column rows mask → is_column ≡ false → rows ≡ 1
 one_row true rows mask fits row = absurd (cc row)
 one_row false rows mask fits row = fits
-
-pub side_is_valid : (is_column : Bool) (vs : List Value) → (is_column ≡ false → first_row vs ≢ Null) → SideIsValid is_column vs
-side_is_valid true vs valid = tt
-side_is_valid false vs valid = valid refl
-
-pub has_room : (tc fc : Bool) (trues falses : ℕ) → trues + falses ≤ max_buffers → HasRoom tc fc trues falses
-has_room true true trues falses room = room
-has_room true false trues falses room = room
-has_room false true trues falses room = room
-has_room false false trues falses room = tt
 
 -- Rows under two validities are those under both at once.
 pub hidden_twice : (bs keep : List Bool) (vs : List Value) → length bs ≡ length keep → hidden (zip_with (λ x y. x && y) bs keep) vs ≡ hidden keep (hidden bs vs)

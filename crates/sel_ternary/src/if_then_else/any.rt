@@ -429,6 +429,11 @@ impl Places for MaskPlaces<'_> {
     fn has_nulls(&self) -> bool {
         false
     }
+
+    #[inline(always)]
+    fn is_in_runs(&self) -> bool {
+        true
+    }
 }
 
 // Returns the row reference that bit `i` of the mask gives.

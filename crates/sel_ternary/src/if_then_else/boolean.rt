@@ -13,7 +13,7 @@ use sel_bits::bitmap::Bitmap;
 use sel_bits::faults::{Limit, PolarsError, PolarsResult};
 use std::alloc::Global;
 
-#[tactic(auto, using(crate::proofs::Validities::sides))]
+#[tactic(auto, using(crate::proofs::Validities::columns))]
 impl IfThenElseKernel for BooleanArray {
     ghost use Rattle.std.specs.Prelude.{◌≡◌, ⊤};
     ghost use Rattle.sel_arrow.specs.Shape.{of_boolean};

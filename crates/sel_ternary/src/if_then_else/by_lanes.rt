@@ -169,6 +169,7 @@ fn choose_sides<T: ChooseLanes, A: Side<T>, B: Side<T>>(
 
 /// Appends for each `i` the value `if_true[i]` if bit `i` of `mask` is set, else `if_false[i]`.
 #[inline(always)]
+#[tactic(auto, using(crate::proofs::Lanes::filling))]
 fn push_word<T: ChooseLanes>(mask: u64, if_true: &[T], if_false: &[T], out: &mut Vec<T>)
     requires few { length if_true.now ≤ 64 }
     requires alike { length if_false.now ≡ length if_true.now }

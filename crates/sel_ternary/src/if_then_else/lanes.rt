@@ -116,6 +116,7 @@ impl ChooseLanes for u128 {
 /// # Requires
 /// Both slices have the same length, at most 64, and `out` has spare capacity for as many values.
 #[inline(always)]
+#[tactic(auto, using(crate::proofs::Lanes::filling))]
 pub(crate) fn push_bits<T: Copy>(mask: u64, if_true: &[T], if_false: &[T], out: &mut Vec<T>)
     requires few { length if_true.now ≤ 64 }
     requires alike { length if_false.now ≡ length if_true.now }

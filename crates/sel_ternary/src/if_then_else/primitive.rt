@@ -17,7 +17,7 @@ use sel_bits::buffer::Buffer;
 use sel_bits::faults::{Limit, PolarsError, PolarsResult};
 use std::alloc::Global;
 
-#[tactic(auto, using(crate::proofs::Validities::sides))]
+#[tactic(auto, using(crate::proofs::Validities::columns))]
 impl<T: ArrowPrimitive + ChooseLanes> IfThenElseKernel for PrimitiveArray<T> {
     ghost use Rattle.std.specs.Prelude.{◌≡◌, ⊤};
     ghost use Rattle.sel_arrow.specs.Value.{Number};

@@ -24,7 +24,7 @@ use std::alloc::Global;
 const MOST_VIEW_BYTES: usize = 4_294_967_295;
 
 /// Returns if-then-else of two columns, or `OutOfMemory`, or `SizeLimit` for data buffers.
-#[tactic(auto, using(crate::proofs::Validities::sides))]
+#[tactic(auto, using(crate::proofs::JoinedViews::joined_rows))]
 pub(crate) fn choose_columns(
     alloc: Global,
     mask: &Bitmap,
@@ -66,7 +66,7 @@ pub(crate) fn choose_columns(
 }
 
 /// Returns if-then-else of a byte scalar and a column, or `OutOfMemory` or `SizeLimit`.
-#[tactic(auto, using(crate::proofs::Validities::sides))]
+#[tactic(auto, using(crate::proofs::JoinedViews::joined_rows))]
 pub(crate) fn choose_bytes_true(
     alloc: Global,
     mask: &Bitmap,
@@ -100,7 +100,7 @@ pub(crate) fn choose_bytes_true(
 }
 
 /// Returns if-then-else of a column and a byte scalar, or `OutOfMemory` or `SizeLimit`.
-#[tactic(auto, using(crate::proofs::Validities::sides))]
+#[tactic(auto, using(crate::proofs::JoinedViews::joined_rows))]
 pub(crate) fn choose_bytes_false(
     alloc: Global,
     mask: &Bitmap,
@@ -137,6 +137,7 @@ pub(crate) fn choose_bytes_false(
 }
 
 /// Returns if-then-else of two byte scalars, or `OutOfMemory` or `SizeLimit`.
+#[tactic(auto, using(crate::proofs::JoinedViews::two_scalars))]
 pub(crate) fn choose_bytes(
     alloc: Global,
     mask: &Bitmap,

@@ -1,12 +1,7 @@
 use Rattle.sel_ternary.proofs.Common.{◌≡◌, ◌+◌, ◌-◌, ◌*◌, ◌/◌, ◌^◌, ◌≤◌, ◌∙◌, length, take, drop, ap, subst, arith, vec_capacity, bits, length_part, choose}
 use Rattle.sel_ternary.proofs.Chosen.{word_long, chosen_to}
-use Rattle.sel_ternary.proofs.Lanes.{IsFilled, bits_part, bits_part_16, filled_all, filled_length, filled_next}
+use Rattle.sel_ternary.proofs.Lanes.{IsFilled, bits_part, bits_part_16, filled_all, filled_next}
 use Rattle.sel_ternary.proofs.if_then_else.by_lanes.push_word.Goals as goal
-
-pub push_16-requires-clause-room : goal.push_16-requires-clause-room
-push_16-requires-clause-room g c =
-    let size = filled_length _ _ _ _ (word_long c.args.mask c.args.if_true.now c.args.if_false.now c.requires.alike) c.args.out.now.items _ (16 * c.loop-k.k) c.loop-k.out c.loop-k.invariant (omega (arith, c.loop-k-test.true)) in
-    omega (arith, size, c.loop-k.invariant.room, c.loop-k-test.true, c.requires.room, c.loop-k.out.ok, c.args.out.now.ok)
 
 pub loop-k-preserved : goal.loop-k-preserved
 loop-k-preserved g c =
@@ -22,14 +17,6 @@ loop-k-preserved g c =
     let next : at + 16 ≡ 16 * (c.loop-k.k + 1) = omega arith in
     subst (λ j. IsFilled c.args.out.now.items (chosen_to ms ts fs j) (vec_capacity c.args.out.now) c.push_16.new.out) next
     (filled_next n ms ts fs long c.args.out.now.items _ at c.loop-k.out c.loop-k.invariant 16 c.push_16.new.out _ c.push_16.ensures.items c.push_16.ensures.capacity (λ i. choose (bits_part_16 n mask at le i) (take (width i) (drop at ts)) (take (width i) (drop at fs))))
-
-pub push_bits-requires-clause-room : goal.push_bits-requires-clause-room
-push_bits-requires-clause-room g c =
-    let ts = c.args.if_true.now in
-    let n = length ts in
-    let size = filled_length _ _ _ _ (word_long c.args.mask c.args.if_true.now c.args.if_false.now c.requires.alike) c.args.out.now.items _ (16 * c.loop-k.k) c.loop-k.out c.loop-k.invariant (omega (arith, c.loop-k.auto.k-end)) in
-    let rest : length (take (n - n / 16 * 16) (drop (n / 16 * 16) ts)) ≡ n - n / 16 * 16 = length_part (n / 16 * 16) (n - n / 16 * 16) ts (omega arith) in
-    omega (arith, size, rest, c.loop-k.invariant.room, c.loop-k-test.false, c.loop-k.auto.k-end, c.requires.room, c.loop-k.out.ok, c.args.out.now.ok)
 
 pub returns-then-at-len-clause-items : goal.returns-then-at-len-clause-items
 returns-then-at-len-clause-items g c =

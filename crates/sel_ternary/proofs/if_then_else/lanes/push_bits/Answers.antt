@@ -1,16 +1,8 @@
-use Rattle.sel_ternary.proofs.Common.{◌≡◌, length, refl, sym, arith, if◌then◌else◌, bits, is_set}
+use Rattle.sel_ternary.proofs.Common.{◌≡◌, length, refl, sym, arith, if◌then◌else◌, is_set}
 use Rattle.sel_ternary.proofs.Chosen.{bit_takes_first, bit_takes_second, row_block, word_long}
-use Rattle.sel_ternary.proofs.Lanes.{filled_all, filled_length, filled_next, filled_none}
+use Rattle.sel_ternary.proofs.Lanes.{filled_all, filled_next}
 use Rattle.sel_ternary.proofs.if_then_else.lanes.push_bits.Goals as goal
 use Rattle.sel_ternary.proofs.if_then_else.lanes.push_bits.Goals.{then-mask-i-eq1, else-mask-i-eq1}
-
-pub loop-i-init : goal.loop-i-init
-loop-i-init g c = filled_none (bits (length c.args.if_true.now) c.args.mask) c.args.if_true.now c.args.if_false.now c.args.out.now
-
-pub push_reserved-requires : goal.push_reserved-requires
-push_reserved-requires g c =
-    let size = filled_length _ _ _ _ (word_long c.args.mask c.args.if_true.now c.args.if_false.now c.requires.alike) c.args.out.now.items _ c.loop-i.i c.loop-i.out c.loop-i.invariant (omega (arith, c.loop-i-test.true)) in
-    omega (arith, size, c.loop-i.invariant.room, c.loop-i-test.true, c.requires.room, c.loop-i.out.ok, c.args.out.now.ok)
 
 pub loop-i-preserved : goal.loop-i-preserved
 loop-i-preserved g c =

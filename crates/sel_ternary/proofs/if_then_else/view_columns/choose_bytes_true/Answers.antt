@@ -1,37 +1,18 @@
-use Rattle.sel_ternary.proofs.Common.{◌≡◌, ◌∙◌, ◌++◌, ◌+◌, subst, length, map, ap, arith, None, list_all, length-append, err_from_is_err_and, masked, is_placed}
-use Rattle.sel_ternary.proofs.Common.{view_value, broadcast_true, IsLimitOrMemory, ExceedsNone, chosen_validity, scalar_buffers, ExceedsViews}
-use Rattle.sel_ternary.proofs.JoinedViews.{one_placed, one_rows}
+use Rattle.sel_ternary.proofs.Common.{◌≡◌, ◌∙◌, ◌++◌, ◌+◌, subst, length, ap, None, err_from_is_err_and}
+use Rattle.sel_ternary.proofs.Common.{view_value, broadcast_true, IsLimitOrMemory, ExceedsNone, ExceedsViews}
 use Rattle.sel_ternary.proofs.Validities.{choice_covers, length-choose_one, no_validity, side_covers, side_long}
 use Rattle.sel_ternary.proofs.if_then_else.view_columns.choose_bytes_true.Goals as goal
 
-pub invariant_of-result : goal.invariant_of-result
-invariant_of-result c =
+pub invariant_of-result-clause-validity_fits : goal.invariant_of-result-clause-validity_fits
+invariant_of-result-clause-validity_fits c =
     let a = c.args.if_false.now in
     let bytes = c.args.if_true.now in
     let ms = c.args.mask.now.bits in
     let p = side_long (view_value a.buffers) ms a.views a.validity c.requires in
     let x = c.new_from_bytes-view.result in
-    let joined : c.in_ok-buffers.buffers ≡ a.buffers ++ scalar_buffers bytes = c.in_ok-buffers.ensures.buffers ∙ (λ i. c.as_slice-2.ensures i ++ (c.deref.ensures.value ∙ c.in_ok-scalar.ensures.buffers) i) in
     let out : c.in_ok-views-2.views ≡ broadcast_true ms x a.views = c.in_ok-views-2.ensures.items ∙ c.in_ok-views.ensures.items ∙ ap (λ l. broadcast_true ms x l) c.as_slice.ensures in
     let long : length c.in_ok-views-2.views ≡ length ms = ap length out ∙ length-choose_one ms x a.views p in
-    record {
-      rows_fit = omega (arith, long, p, a.rows_fit);
-      buffers_fit = omega (arith, ap length joined, length-append a.buffers (scalar_buffers bytes), c.in_ok-check_limits.ensures.buffers, c.len-before.ensures, c.count_of_scalar.ensures.count);
-      validity_fits = choice_covers ms None _ c.in_ok-validity.validity c.in_ok-views-2.views long (no_validity (length ms)) (side_covers (view_value a.buffers) ms a.views a.validity _ a.validity_fits c.requires c.as_ref.ensures.value) c.in_ok-validity.ensures.value;
-      placed = ap (λ bs. list_all (is_placed bs) c.in_ok-views-2.views) joined ∙ one_placed a.buffers a.views a.placed bytes x _ c.new_from_bytes-view.ensures.view c.len-before.ensures c.new_from_bytes-view.ensures.inline ms c.in_ok-views-2.views out;
-    }
-
-pub returns-clause-rows : goal.returns-clause-rows
-returns-clause-rows c =
-    let a = c.args.if_false.now in
-    let bytes = c.args.if_true.now in
-    let ms = c.args.mask.now.bits in
-    let x = c.new_from_bytes-view.result in
-    let joined : c.in_ok-buffers.buffers ≡ a.buffers ++ scalar_buffers bytes = c.in_ok-buffers.ensures.buffers ∙ (λ i. c.as_slice-2.ensures i ++ (c.deref.ensures.value ∙ c.in_ok-scalar.ensures.buffers) i) in
-    let out : c.in_ok-views-2.views ≡ broadcast_true ms x a.views = c.in_ok-views-2.ensures.items ∙ c.in_ok-views.ensures.items ∙ ap (λ l. broadcast_true ms x l) c.as_slice.ensures in
-    ap (λ bs. masked c.in_ok-validity.validity (map (view_value bs) c.in_ok-views-2.views)) joined
-    ∙ one_rows a.buffers a.views a.placed bytes x _ c.new_from_bytes-view.ensures.view c.len-before.ensures c.new_from_bytes-view.ensures.inline ms c.in_ok-views-2.views a.validity c.in_ok-validity.validity out c.requires a.validity_fits
-    (c.in_ok-validity.ensures.value ∙ ap (λ v. chosen_validity ms None v) c.as_ref.ensures.value)
+    choice_covers ms None _ c.in_ok-validity.validity c.in_ok-views-2.views long (no_validity (length ms)) (side_covers (view_value a.buffers) ms a.views a.validity _ a.validity_fits c.requires c.as_ref.ensures.value) c.in_ok-validity.ensures.value
 
 pub returns-clause-buffers : goal.returns-clause-buffers
 returns-clause-buffers c = c.in_ok-buffers.ensures.buffers ∙ (λ i. c.as_slice-2.ensures i ++ (c.deref.ensures.value ∙ c.in_ok-scalar.ensures.buffers) i)

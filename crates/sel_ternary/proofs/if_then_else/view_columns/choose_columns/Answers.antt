@@ -1,9 +1,9 @@
-use Rattle.sel_ternary.proofs.Common.{◌≡◌, ◌∙◌, ◌+◌, ◌≤◌, ◌++◌, length, map, ap, arith, list_all, length-append, length-map, masked, is_placed, view_value}
-use Rattle.sel_ternary.proofs.Common.{View, choose, chosen_validity, raised}
+use Rattle.sel_ternary.proofs.Common.{◌≡◌, ◌∙◌, ◌+◌, ◌≤◌, ◌++◌, length, map, ap, arith, length-append, length-map, view_value}
+use Rattle.sel_ternary.proofs.Common.{View, choose, raised}
 use Rattle.sel_bits.specs.Limits.{max_buffers}
 use Rattle.sel_ternary.specs.ViewSides.{all_rise}
 use Rattle.sel_ternary.proofs.Chosen.{length-choose}
-use Rattle.sel_ternary.proofs.JoinedViews.{both_placed, both_rows}
+use Rattle.sel_ternary.proofs.JoinedViews.{both_placed}
 use Rattle.sel_ternary.proofs.Placed.{views_rise}
 use Rattle.sel_ternary.proofs.Validities.{choice_covers, side_covers, side_long}
 use Rattle.sel_ternary.proofs.if_then_else.view_columns.choose_columns.Goals as goal
@@ -30,17 +30,5 @@ invariant_of-result c =
       buffers_fit = omega (arith, ap length joined, length-append a.buffers b.buffers, c.in_ok-check_limits.ensures.buffers, c.len-before.ensures, c.len.ensures);
       validity_fits = choice_covers ms _ _ c.in_ok-validity.validity c.in_ok-views-2.views long
           (side_covers (view_value a.buffers) ms a.views a.validity _ a.validity_fits c.requires.true_side c.as_ref.ensures.value) (side_covers (view_value b.buffers) ms b.views b.validity _ b.validity_fits c.requires.false_side c.as_ref-2.ensures.value) c.in_ok-validity.ensures.value;
-      placed = ap (λ bs. list_all (is_placed bs) c.in_ok-views-2.views) joined ∙ both_placed a.buffers b.buffers a.views b.views a.placed b.placed ms c.in_ok-views-2.views out;
+      placed = both_placed a.buffers b.buffers a.views b.views a.placed b.placed ms c.in_ok-views-2.views _ joined out;
     }
-
-pub returns-clause-rows : goal.returns-clause-rows
-returns-clause-rows c =
-    let a = c.args.if_true.now in
-    let b = c.args.if_false.now in
-    let ms = c.args.mask.now.bits in
-    let joined : c.in_ok-buffers.buffers ≡ a.buffers ++ b.buffers = c.in_ok-buffers.ensures.buffers ∙ (λ i. c.as_slice.ensures i ++ c.as_slice-2.ensures i) in
-    let out : c.in_ok-views-2.views ≡ choose ms a.views (map (λ (view : View). raised view (length a.buffers)) b.views) =
-    c.in_ok-views-2.ensures.items ∙ c.in_ok-views.ensures.items ∙ (λ i. choose ms (c.as_slice-trues.ensures i) (map (λ (view : View). raised view (c.len-before.ensures i)) (c.as_slice-falses.ensures i))) in
-    ap (λ bs. masked c.in_ok-validity.validity (map (view_value bs) c.in_ok-views-2.views)) joined
-    ∙ both_rows a.buffers b.buffers a.views b.views a.placed b.placed ms c.in_ok-views-2.views out a.validity b.validity c.in_ok-validity.validity c.requires.true_side c.requires.false_side a.validity_fits b.validity_fits
-    (c.in_ok-validity.ensures.value ∙ (λ i. chosen_validity ms (c.as_ref.ensures.value i) (c.as_ref-2.ensures.value i)))
