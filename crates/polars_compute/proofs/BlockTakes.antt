@@ -1,17 +1,23 @@
--- Blocks at indices.
-use Rattle.polars_compute.proofs.Common.{is_none, ◌≡◌, ℕ, zero, suc, ◌+◌, ◌-◌, ◌*◌, ◌≤◌, ◌<◌, pos, true, List, [], ◌∷◌, ◌++◌, length, take, drop, map, refl, ap, sym}
-use Rattle.polars_compute.proofs.Common.{subst, ◌∙◌, negsuc, arith, get_or, append_assoc, length-append, ℤ, Option, Some, None, true≢false, ◌&&◌, Box, Global}
-use Rattle.polars_compute.proofs.Common.{if◌then◌else◌, ForSome, take-append_seam, drop-append-add, leb-true, le-leb, ltb-true, length-replicate, take-append-drop}
-use Rattle.polars_compute.proofs.Common.{flat_map-append, mul-le, Bits, hidden, masked, number_rows, valid_at, Covers, blocks, block_rows, list_of, rows, row_count}
-use Rattle.polars_compute.proofs.Common.{well_formed, Value, Null, Number, Column, FixedSizeList, FixedSizeList', all_at, and_first, and_second, both, HasBlocks}
-use Rattle.polars_compute.proofs.Common.{has_blocks, length-blocks, length-rows, length-number_rows, length-part, block_items, is_block_within, blocks_within, is_bare}
-use Rattle.polars_compute.proofs.Common.{HoldsBlocks, all_within, found, is_within, pick_of, take_rows, valid_pick, flat_map, suc-mul, mul_assoc}
+-- Blocks at indices, and the rows that the child of a taken fixed-size list column needs.
+use Rattle.polars_compute.proofs.Common.{is_none, ◌≡◌, ℕ, zero, suc, ◌+◌, ◌-◌, ◌*◌, ◌≤◌, ◌<◌, pos, true, List, [], ◌∷◌, ◌++◌, length, take, drop, map, refl, ap}
+use Rattle.polars_compute.proofs.Common.{sym, subst, ◌∙◌, negsuc, arith, get_or, append_assoc, length-append, ℤ, Option, Some, None, true≢false, ◌&&◌, Box}
+use Rattle.polars_compute.proofs.Common.{Global, if◌then◌else◌, ForSome, take-append_seam, drop-append-add, leb-true, le-leb, ltb-true, length-replicate}
+use Rattle.polars_compute.proofs.Common.{take-append-drop, flat_map-append, mul-le, Bits, hidden, masked, number_rows, valid_at, Covers, blocks, block_rows}
+use Rattle.polars_compute.proofs.Common.{list_of, rows, row_count, well_formed, Value, Null, Number, Column, FixedSizeList, FixedSizeList', all_at, and_first}
+use Rattle.polars_compute.proofs.Common.{and_second, HasBlocks, has_blocks, length-blocks, length-rows, length-number_rows, length-part, block_items}
+use Rattle.polars_compute.proofs.Common.{is_block_within, blocks_within, is_bare, HoldsBlocks, all_within, found, is_within, pick_of, take_rows, valid_pick}
+use Rattle.polars_compute.proofs.Common.{flat_map, suc-mul, mul_assoc, ◌⊎◌, inl, inr, ⊎_elim, false, Bool, All, cases_lt, get_or_past, All-append, All-cons}
+use Rattle.polars_compute.proofs.Common.{All-head, All-map, All-nil, All-tail, Limit, type_of, Shape, of_fixed_size_list, items_in, joined_items, ExceedsRows}
+use Rattle.polars_compute.proofs.Common.{exceeded_limits, listed_values, exceeded_blocks}
 use Rattle.sel_arrow.specs.declared.column.Column.TheVariants.{Int8, Int16, Int32, Int64, Int128, UInt8, UInt16, UInt32, UInt64, UInt128}
+use Rattle.std.proofs.lemmas.List.{take_at}
 use Rattle.sel_arrow.proofs.NestedParts.{part-block_rows}
 use Rattle.sel_arrow.proofs.Rows.{part-mapped}
 use Rattle.polars_compute.specs.Blocks.{block_at, IsBeginning}
-use Rattle.polars_compute.proofs.FilteredBlocks.{at_block}
-use Rattle.polars_compute.proofs.Takes.{row_taken, validity_within}
+use Rattle.polars_compute.proofs.KeptColumns.{at_block}
+use Rattle.polars_compute.proofs.Takes.{row_taken, validity_within, length-pick, all_pass}
+use Rattle.std.specs.Prelude.{⊤}
+use Rattle.std.proofs.lemmas.List.Elements.{All-replicate, All-take, All-drop}
 
 -- ---- one more block
 
@@ -22,11 +28,9 @@ within_block size n indices k v within h is = ap (is_block_within size n) is ∙
 pub begun : {A : Type 0} (size : ℕ) (filler : A) (xs before ys : List A) (indices : List Value) (k : ℕ) → ys ≡ before ++ block_items size filler xs (take k indices) → IsBeginning ys (before ++ block_items size filler xs indices)
 begun size filler xs before ys indices k is =
     let f = block_at size filler xs in
-    let rest = flat_map f (drop k indices) in
-    let whole : before ++ flat_map f indices ≡ ys ++ rest =
-    ap (λ l. before ++ flat_map f l) (sym (take-append-drop k indices)) ∙ ap (λ l. before ++ l) (flat_map-append f (take k indices) (drop k indices))
-    ∙ sym (append_assoc before (flat_map f (take k indices)) rest) ∙ ap (λ l. l ++ rest) (sym is) in
-    sym (ap (take (length ys)) whole ∙ take-append_seam ys rest)
+    let whole : before ++ flat_map f indices ≡ ys ++ flat_map f (drop k indices) =
+    rw (is, append_assoc, ← flat_map-append f (take k indices) (drop k indices), take-append-drop) in
+    sym (ap (take (length ys)) whole ∙ take-append_seam ys (flat_map f (drop k indices)))
 
 -- ---- the blocks of one list
 
@@ -46,30 +50,21 @@ length-block_at size filler xs v h = length-replicate size filler
 pub length-block_items : {A : Type 0} (size : ℕ) (filler : A) (xs : List A) (indices : List Value) → blocks_within size (length xs) indices ≡ true → length (block_items size filler xs indices) ≡ length indices * size
 length-block_items size filler xs [] h = omega arith
 length-block_items size filler xs (v ∷ indices) h =
-    omega (
-      arith,
-      length-append (block_at size filler xs v) (block_items size filler xs indices),
-      length-block_at size filler xs v (and_first _ _ h),
-      length-block_items size filler xs indices (and_second _ _ h),
-      suc-mul (length indices) size,
-    )
+    let here = length-block_at size filler xs v (and_first _ (blocks_within size (length xs) indices) h) in
+    let rest = length-block_items size filler xs indices (and_second (is_block_within size (length xs) v) _ h) in
+    omega (arith, length-append (block_at size filler xs v) (block_items size filler xs indices), here, rest)
 
 block_of_items : {A : Type 0} (size : ℕ) (filler : A) (xs : List A) (indices : List Value) (k : ℕ) → blocks_within size (length xs) indices ≡ true → k < length indices →
     take size (drop (k * size) (block_items size filler xs indices)) ≡ block_at size filler xs (get_or indices k Null)
 block_of_items size filler xs [] k h lt = absurd (omega (arith, lt))
 block_of_items size filler xs (v ∷ indices) zero h lt =
-    let block = block_at size filler xs v in
-    let rest = block_items size filler xs indices in
-    let long = length-block_at size filler xs v (and_first (is_block_within size (length xs) v) (blocks_within size (length xs) indices) h) in
     let first : zero * size ≡ 0 = omega arith in
-    ap (λ p. take size (drop p (block ++ rest))) first ∙ ap (λ n. take n (block ++ rest)) (sym long) ∙ take-append_seam block rest
+    let long = length-block_at size filler xs v (and_first _ (blocks_within size (length xs) indices) h) in
+    rw first (take_at (block_at size filler xs v) (block_items size filler xs indices) size long)
 block_of_items size filler xs (v ∷ indices) (suc k) h lt =
-    let block = block_at size filler xs v in
-    let rest = block_items size filler xs indices in
-    let long = length-block_at size filler xs v (and_first _ _ h) in
-    let place : suc k * size ≡ length block + k * size = omega (arith, suc-mul k size, long) in
-    ap (λ p. take size (drop p (block ++ rest))) place ∙ ap (take size) (drop-append-add block rest (k * size))
-    ∙ block_of_items size filler xs indices k (and_second _ _ h) (omega (arith, lt))
+    let long = length-block_at size filler xs v (and_first _ (blocks_within size (length xs) indices) h) in
+    let place : suc k * size ≡ length (block_at size filler xs v) + k * size = omega (arith, long) in
+    rw (place, drop-append-add) (block_of_items size filler xs indices k (and_second _ _ h) (omega (arith, lt)))
 
 -- ---- the blocks in each level of a taken column
 
@@ -122,9 +117,7 @@ level_block size width n m (Number (negsuc i)) is h = h
 level_block size width n m v is h = refl
 
 pub level_within : (size width n m : ℕ) (indices : List Value) → m ≡ n * width → blocks_within size n indices ≡ true → blocks_within (size * width) m indices ≡ true
-level_within size width n m [] is h = refl
-level_within size width n m (v ∷ indices) is h =
-    both (is_block_within (size * width) m v) (blocks_within (size * width) m indices) (level_block size width n m v is (and_first _ _ h)) (level_within size width n m indices is (and_second _ _ h))
+level_within size width n m indices is = all_pass (is_block_within size n) (is_block_within (size * width) m) (λ v. level_block size width n m v is) indices
 
 row_block : (width n m : ℕ) (v : Value) → m ≡ n * width → is_within n v ≡ true → is_block_within width m v ≡ true
 row_block width n m (Number (pos i)) is h =
@@ -135,9 +128,7 @@ row_block width n m v is h = refl
 
 -- If indices are in bounds, so are the blocks of their rows.
 pub rows_within : (width n m : ℕ) (indices : List Value) → m ≡ n * width → all_within n indices ≡ true → blocks_within width m indices ≡ true
-rows_within width n m [] is h = refl
-rows_within width n m (v ∷ indices) is h =
-    both (is_block_within width m v) (blocks_within width m indices) (row_block width n m v is (and_first _ _ h)) (rows_within width n m indices is (and_second _ _ h))
+rows_within width n m indices is = all_pass (is_within n) (is_block_within width m) (λ v. row_block width n m v is) indices
 
 -- ---- a level of fixed-size lists
 
@@ -237,3 +228,84 @@ blocks_taken c size len values validity is formed indices within bits valid ys h
     ap (λ l. hidden l (map list_of (blocks size n ys))) valid
     ∙ held_rows list_of validity (blocks size len child) (blocks size n ys) [] indices covers (length-blocks size n ys) inside same
     ∙ ap (λ l. take_rows l indices) (sym (ap rows is))
+
+-- ---- the child of a fixed-size list column needs as many rows as the lists have entries, null or not
+
+-- A fixed-size list row has as many child rows as the list size, and so has each of them, at each
+-- depth.
+abbrev pub IsShaped : Shape → Value → Type 0
+IsShaped (of_fixed_size_list s width) v = (length (items_in width v) ≡ width) × All (IsShaped s) (items_in width v)
+IsShaped s v = ⊤
+
+null_shaped : (s : Shape) → IsShaped s Null
+null_shaped (of_fixed_size_list s width) = (length-replicate width Null, All-replicate (IsShaped s) width Null (null_shaped s))
+null_shaped s = tt
+
+list_shaped : (s : Shape) (width : ℕ) (l : List Value) → length l ≡ width → All (IsShaped s) l → IsShaped (of_fixed_size_list s width) (list_of l)
+list_shaped s width l long all = (ap length (listed_values l) ∙ long, subst (All (IsShaped s)) (sym (listed_values l)) all)
+
+-- ---- rows under a validity
+
+module _ (P : Value → Type 0) (null : P Null) where
+  hidden_all : (bits : List Bool) (vs : List Value) → All P vs → All P (hidden bits vs)
+  hidden_all [] vs all = all
+  hidden_all (b ∷ bits) [] all = All-nil P
+  hidden_all (true ∷ bits) (v ∷ vs) all = All-cons P v (hidden bits vs) (All-head P v vs all) (hidden_all bits vs (All-tail P v vs all))
+  hidden_all (false ∷ bits) (v ∷ vs) all = All-cons P Null (hidden bits vs) null (hidden_all bits vs (All-tail P v vs all))
+
+  masked_all : (validity : Option Bits) (vs : List Value) → All P vs → All P (masked validity vs)
+  masked_all None vs all = all
+  masked_all (Some b) vs all = hidden_all b.bits vs all
+
+  found_all : (vs : List Value) (index : Value) → All P vs → P (found Null (vs ∷ []) (pick_of index))
+  found_all vs (Number (pos i)) all = ⊎_elim (λ lt. all i Null lt) (λ le. subst P (sym (get_or_past vs i Null le)) null) (cases_lt i (length vs))
+  found_all vs index all = null
+
+  taken_all : (vs indices : List Value) → All P vs → All P (take_rows vs indices)
+  taken_all vs [] all = All-nil P
+  taken_all vs (index ∷ indices) all = All-cons P (found Null (vs ∷ []) (pick_of index)) (take_rows vs indices) (found_all vs index all) (taken_all vs indices all)
+
+-- ---- the rows of a column
+
+blocks_shaped : (s : Shape) (size len : ℕ) (xs : List Value) → length xs ≡ len * size → All (IsShaped s) xs → All (λ l. IsShaped (of_fixed_size_list s size) (list_of l)) (blocks size len xs)
+blocks_shaped s size len xs fills all = λ k d h.
+    let below : k < len = omega (arith, h, length-blocks size len xs) in
+    let inside : k * size + size ≤ length xs = omega (arith, fills, suc-mul k size, mul-le (suc k) size len size (omega (arith, below)) (omega arith)) in
+    let part = drop (k * size) xs in
+    subst (λ l. IsShaped (of_fixed_size_list s size) (list_of l)) (sym (at_block size len xs k d below))
+    (list_shaped s size (take size part) (length-part xs (k * size) size inside) (All-take (IsShaped s) size part (All-drop (IsShaped s) (k * size) xs all)))
+
+pub rows_shaped : (c : Column) → well_formed c ≡ true → All (IsShaped (type_of c)) (rows c)
+rows_shaped (FixedSizeList' size len p values validity) formed =
+    let has = has_blocks size len values validity formed in
+    let P = IsShaped (of_fixed_size_list (type_of values) size) in
+    masked_all P (null_shaped (of_fixed_size_list (type_of values) size)) validity (map list_of (blocks size len (rows values)))
+    (All-map P list_of (blocks size len (rows values)) (blocks_shaped (type_of values) size len (rows values) (length-rows values ∙ has.fills) (rows_shaped values has.child)))
+rows_shaped c formed = λ k d h. tt
+
+-- ---- their needs
+
+joined_shaped : (s : Shape) (width : ℕ) (vs : List Value) → All (IsShaped (of_fixed_size_list s width)) vs → (length (joined_items width vs) ≡ length vs * width) × All (IsShaped s) (joined_items width vs)
+joined_shaped s width [] all = (omega arith, All-nil (IsShaped s))
+joined_shaped s width (v ∷ vs) all =
+    let here = All-head (IsShaped (of_fixed_size_list s width)) v vs all in
+    let rest = joined_shaped s width vs (All-tail (IsShaped (of_fixed_size_list s width)) v vs all) in (
+      omega (arith, length-append (items_in width v) (joined_items width vs), here.0, rest.0, suc-mul (length vs) width),
+      All-append (IsShaped s) (items_in width v) (joined_items width vs) here.1 rest.1,
+    )
+
+pub past_of_blocks : (s : Shape) (vs : List Value) (limit : Limit) → All (IsShaped s) vs → exceeded_blocks s (length vs) limit → exceeded_limits s vs limit
+past_of_blocks (of_fixed_size_list s width) vs limit all (inl h) = inl (subst (λ n. ExceedsRows n limit) (sym (joined_shaped s width vs all).0) h)
+past_of_blocks (of_fixed_size_list s width) vs limit all (inr h) =
+    let below = joined_shaped s width vs all in
+    inr (past_of_blocks s (joined_items width vs) limit below.1 (subst (λ n. exceeded_blocks s n limit) (sym below.0) h))
+past_of_blocks s vs limit all h = absurd h
+
+-- ---- the rows that are taken from a fixed-size list column
+pub past_taken_blocks : (c : Column) (size len : ℕ) (values : Box Column Global) (validity : Option Bits) → c ≡ FixedSizeList size len values validity → well_formed c ≡ true → (indices : List Value) (limit : Limit) →
+    ExceedsRows (length indices * size) limit ⊎ exceeded_blocks (type_of values.value) (length indices * size) limit → exceeded_limits (type_of c) (take_rows (rows c) indices) limit
+past_taken_blocks c size len values validity is formed indices limit h =
+    let s = type_of c in
+    let count : length indices ≡ length (take_rows (rows c) indices) = sym (length-pick Null (rows c ∷ []) indices) in
+    let here : exceeded_blocks s (length indices) limit = subst (λ t. exceeded_blocks t (length indices) limit) (sym (ap type_of is)) h in
+    past_of_blocks s (take_rows (rows c) indices) limit (taken_all (IsShaped s) (null_shaped s) (rows c) indices (rows_shaped c formed)) (subst (λ n. exceeded_blocks s n limit) count here)

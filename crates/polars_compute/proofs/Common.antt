@@ -1,15 +1,15 @@
 -- The names that most proofs cite, passed on from one place. Declares nothing.
 pub use Rattle.polars_compute.specs.BareBlocks.{HoldsBlocks, exceeded_blocks, is_bare}
 pub use Rattle.polars_compute.specs.Blocks.{block_items, blocks_within, is_block_within}
-pub use Rattle.polars_compute.specs.Dictionary.{decode, propagated_keys, rank, valid_values}
+pub use Rattle.polars_compute.specs.Dictionary.{propagated_keys, rank, valid_values}
 pub use Rattle.polars_compute.specs.Elements.{child_pick, element_at}
 pub use Rattle.polars_compute.specs.Entries.{at_each, fixed_get, place_of}
 pub use Rattle.polars_compute.specs.Flatten.{flat_row, flatten, part_fits, parts_fit, row_part}
 pub use Rattle.polars_compute.specs.JoinedBytes.{ends_from, joined_bytes}
 pub use Rattle.polars_compute.specs.Lanes.{HasLeft, lane_of, lanes_of, rows_picks}
 pub use Rattle.polars_compute.specs.Lists.{child_place, lacks_place, list_get, oob, places_in}
-pub use Rattle.polars_compute.specs.Need.{ExceedsBytes, ExceedsNone, NoneAbove, byte_count, bytes_needed, exceeded_in_parts, exceeded_limits, need, need_of_parts}
-pub use Rattle.polars_compute.specs.Need.{so_many_bytes, so_many_rows}
+pub use Rattle.polars_compute.specs.Need.{ExceedsBytes, ExceedsNone, NoneAbove, byte_count, bytes_needed, exceeded_in_parts, exceeded_limits, need}
+pub use Rattle.polars_compute.specs.Need.{need_of_parts, so_many_bytes, so_many_rows}
 pub use Rattle.polars_compute.specs.Pick.{all_below, all_within, found, is_within, pick, pick_of, place_pick, take_rows}
 pub use Rattle.polars_compute.specs.Reverse.{last_to_first}
 pub use Rattle.polars_compute.specs.Select.{effective_mask, is_true, kept, kept_from, select}
@@ -22,7 +22,7 @@ pub use Rattle.sel_arrow.proofs.ByteRows.{get_or-pieces, length-pieces}
 pub use Rattle.sel_arrow.proofs.Lists.{all_at, and_first, and_second, both}
 pub use Rattle.sel_arrow.proofs.NestedParts.{mapped_more, tuples_type}
 pub use Rattle.sel_arrow.proofs.NestedRows.{HasBlocks, has_blocks, length-blocks, length-rows, length-tuple_rows}
-pub use Rattle.sel_arrow.proofs.Rows.{length-number_rows, length-part, length-truth_rows, masked_null, masked_valid}
+pub use Rattle.sel_arrow.proofs.Rows.{length-number_rows, length-part, length-truth_rows}
 pub use Rattle.sel_arrow.proofs.Trees.{fields_make, has_fields, rows-Struct}
 pub use Rattle.sel_arrow.proofs.Types.{type_of-Struct}
 pub use Rattle.sel_arrow.proofs.ViewRows.{length-view_rows}
@@ -38,7 +38,6 @@ pub use Rattle.sel_arrow.specs.declared.array_ref.ArrayRef.{ArrayRef}
 pub use Rattle.sel_arrow.specs.declared.column.Column.{Column, FixedSizeList, LargeList, Struct}
 pub use Rattle.sel_arrow.specs.declared.column.Column.TheVariants.{FixedSizeList'}
 pub use Rattle.sel_arrow.specs.declared.view.View.{View}
-pub use Rattle.sel_bits.proofs.BitLists.{read_bit}
 pub use Rattle.sel_bits.proofs.Packed.{word_of-few, word_of-next}
 pub use Rattle.sel_bits.specs.Bits.{Bits, bits_from, count_true, leading_zeros, zip_with}
 pub use Rattle.sel_bits.specs.Limits.{max_rows}
@@ -67,17 +66,17 @@ pub use Rattle.sel_gather.specs.Runs.{picks_of}
 pub use Rattle.sel_gather.specs.Sources.{first_type}
 pub use Rattle.sel_gather.specs.Validity.{bits_for}
 pub use Rattle.std.proofs.Common.{All, Bool, Bor, Box, Global, IfNone, IfOk, IfSome, IsTrue, List, None, Option, SFits, Some, Vec, [], add-one, ap, append-nil}
-pub use Rattle.std.proofs.Common.{append_assoc, arith, cond, count_by, drop, drop-cons, drop-drop, eq-eqb, eqb-true, ext_get_or, false, flat_map, get_or, get_or-drop}
-pub use Rattle.std.proofs.Common.{get_or-take, if◌then◌else◌, inl, inr, is_none, is_some, le-leb, leb-true, length, length-append, length-drop, length-take, lt-ltb}
-pub use Rattle.std.proofs.Common.{ltb-true, map, map-id, nat_le, nat_lt, ne_eqb, negsuc, not, of_z, option_and_then, option_copied, option_map, pos, refl, replicate}
-pub use Rattle.std.proofs.Common.{reverse, rules, slice_get, slice_index, slice_index_or, slice_range, subst, suc, sym, take, take-append-drop, take_all, to_z, true}
-pub use Rattle.std.proofs.Common.{true≢false, unwrap_or, vec_capacity, vec_len, w64, zero, zero-add, ℕ, ℤ, ⊎_elim, ◌%◌, ◌&&◌, ◌*◌, ◌++◌, ◌+◌, ◌-◌, ◌/◌, ◌<ℤ◌, ◌<◌, ◌==◌}
-pub use Rattle.std.proofs.Common.{◌^◌, ◌||◌, ◌∙◌, ◌∷◌, ◌≡◌, ◌≢◌, ◌≤ℤ◌, ◌≤◌, ◌⊎◌}
+pub use Rattle.std.proofs.Common.{append_assoc, arith, cond, count_by, drop, drop-cons, drop-drop, eq-eqb, eqb-true, ext_get_or, false, flat_map, get_or}
+pub use Rattle.std.proofs.Common.{get_or-drop, get_or-take, if◌then◌else◌, inl, inr, is_none, is_some, le-leb, leb-true, length, length-append, length-drop}
+pub use Rattle.std.proofs.Common.{length-take, lt-ltb, ltb-true, map, map-id, nat_le, nat_lt, ne_eqb, negsuc, not, of_z, option_and_then, option_copied}
+pub use Rattle.std.proofs.Common.{option_map, pos, refl, replicate, reverse, rules, slice_get, slice_index, slice_index_or, slice_range, subst, suc, sym, take}
+pub use Rattle.std.proofs.Common.{take-append-drop, take_all, to_z, true, true≢false, unwrap_or, vec_capacity, vec_len, w64, zero, zero-add, ℕ, ℤ, ⊎_elim, ◌%◌}
+pub use Rattle.std.proofs.Common.{◌&&◌, ◌*◌, ◌++◌, ◌+◌, ◌-◌, ◌/◌, ◌<ℤ◌, ◌<◌, ◌==◌, ◌^◌, ◌||◌, ◌∙◌, ◌∷◌, ◌≡◌, ◌≢◌, ◌≤ℤ◌, ◌≤◌, ◌⊎◌}
 pub use Rattle.std.proofs.Math.Nat.{mul_assoc, suc-mul}
 pub use Rattle.std.proofs.Math.Seq.{drop-append-add, take-append_seam}
 pub use Rattle.std.proofs.lemmas.Bool.{cases_lt}
 pub use Rattle.std.proofs.lemmas.Int.{ints, to_z-of_z}
-pub use Rattle.std.proofs.lemmas.List.{drop-map, drop_all, get_or-map, get_or_default, get_or_past, length-map, length-replicate, map-append, map_more, take-map}
+pub use Rattle.std.proofs.lemmas.List.{drop-map, drop_all, get_or-map, get_or_default, get_or_past, length-map, length-replicate, map-append, take-map}
 pub use Rattle.std.proofs.lemmas.List.{take_more}
 pub use Rattle.std.proofs.lemmas.List.Concat.{flat_map-append}
 pub use Rattle.std.proofs.lemmas.List.Elements.{All-append, All-cons, All-get_or, All-head, All-map, All-nil, All-push, All-tail}

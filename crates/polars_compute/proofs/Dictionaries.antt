@@ -1,11 +1,14 @@
 -- Keys and values of a dictionary without its null values.
-use Rattle.polars_compute.proofs.Common.{◌≡◌, ℕ, zero, suc, ◌+◌, ◌≤◌, ◌<◌, pos, Bool, true, false, List, [], ◌∷◌, length, map, take, get_or, Option, Some, None, refl, ap}
-use Rattle.polars_compute.proofs.Common.{sym, ◌∙◌, arith, cond, zero-add, add-one, if◌then◌else◌, count_by, not, IfNone, range_with_len, ltb-true, length-map, get_or-map}
-use Rattle.polars_compute.proofs.Common.{get_or-map-range_with_len, length-map-range_with_len, sum_by-cons, Bits, count_true, hidden, masked, number_rows, Covers}
-use Rattle.polars_compute.proofs.Common.{valid_at, Value, Null, Number, is_valid, is_null, validities, and_first, and_second, masked_null, masked_valid, decode, rank}
-use Rattle.polars_compute.proofs.Common.{valid_values, propagated_keys, found, pick_of, take_rows, is_within, all_within, select}
+use Rattle.polars_compute.proofs.Common.{◌≡◌, ℕ, zero, suc, ◌+◌, ◌≤◌, ◌<◌, pos, Bool, true, false, List, [], ◌∷◌, length, map, take, get_or, Option, Some, None}
+use Rattle.polars_compute.proofs.Common.{refl, ap, sym, ◌∙◌, arith, cond, zero-add, if◌then◌else◌, count_by, not, IfNone, range_with_len, ltb-true, length-map}
+use Rattle.polars_compute.proofs.Common.{get_or-map, get_or-map-range_with_len, length-map-range_with_len, sum_by-cons, Bits, count_true, hidden, masked}
+use Rattle.polars_compute.proofs.Common.{number_rows, Covers, Value, Null, Number, is_valid, is_null, validities, and_first, and_second, rank, valid_values}
+use Rattle.polars_compute.proofs.Common.{propagated_keys, found, pick_of, take_rows, is_within, all_within, select, map-range_with_len_more, take_more}
 use Rattle.polars_compute.specs.Dictionary.{key_of_valid}
+use Rattle.polars_compute.specs.Laws.{PropagationDecodes}
+use Rattle.sel_filter.proofs.Selects.{count_true-append}
 use Rattle.sel_gather.proofs.Rebuilt.{only_null}
+use Rattle.polars_compute.proofs.Takes.{row_under}
 
 -- ---- the number of null rows
 
@@ -78,18 +81,12 @@ all_valid f valid (x ∷ xs) =
 
 -- ---- ranks
 
-one_more : (bs : List Bool) (i : ℕ) → i < length bs → count_true (take (suc i) bs) ≡ count_true (take i bs) + (if get_or bs i false then 1 else 0)
-one_more [] i inside = absurd (omega (arith, inside))
-one_more (true ∷ bs) zero inside = refl
-one_more (false ∷ bs) zero inside = refl
-one_more (b ∷ bs) (suc i) inside =
-    let rest = one_more bs i (omega (arith, inside)) in
-    let longer = sum_by-cons tally b (take (suc i) bs) in
-    let shorter = sum_by-cons tally b (take i bs) in
-    omega (arith, rest, longer, shorter)
-
 pub count_step : (bs : List Bool) (i : ℕ) → i < length bs → count_true (take (i + 1) bs) ≡ count_true (take i bs) + (if get_or bs i false then 1 else 0)
-count_step bs i inside = rw add-one (one_more bs i inside)
+count_step bs i inside = rw (take_more bs i false inside, count_true-append (take i bs)) (by (get_or bs i false))
+  where
+    by : (b : Bool) → count_true (take i bs) + count_true (b ∷ []) ≡ count_true (take i bs) + (if b then 1 else 0)
+    by true = refl
+    by false = refl
 
 pub counts_long : (ranks : List ℕ) (bits : List Bool) → ranks ≡ map (λ i. count_true (take i bits)) (range_with_len 0 (length bits)) → length ranks ≡ length bits
 counts_long ranks bits counts = ap length counts ∙ length-map-range_with_len (λ i. count_true (take i bits)) 0 (length bits)
@@ -108,35 +105,23 @@ module _ (vs : List Value) (ranks : List ℕ) (validity : Bits) (bits : validity
   long : length ranks ≡ length vs
   long = counts_long ranks validity.bits counts ∙ ap length bits ∙ length-map vs is_valid
 
-  covered : Covers (Some validity) (length (map (λ x. Number (pos x)) ranks))
-  covered = λ v there. let same : validity ≡ v = cc in ap (λ (b : Bits). length b.bits) (sym same) ∙ ap length bits ∙ length-map vs is_valid ∙ sym long ∙ sym (length-map ranks (λ x. Number (pos x)))
-
   rank_at : (i : ℕ) → i < length vs → get_or ranks i 0 ≡ rank vs i
   rank_at i inside =
       let within : i < length validity.bits = let e = ap length bits ∙ length-map vs is_valid in omega (arith, e, inside) in
       ap (λ l. get_or l i 0) counts ∙ get_or-map-range_with_len (λ k. count_true (take k validity.bits)) 0 (length validity.bits) i i 0 within (zero-add i)
       ∙ ap (λ l. count_true (take i l)) bits ∙ counted_before vs i
 
-  one_key : (b : Bool) (i : ℕ) → i < length vs → is_valid (get_or vs i Null) ≡ b →
-      get_or (number_rows pos ranks (Some validity)) i Null ≡ (if b then Number (pos (rank vs i)) else Null)
-  one_key true i inside e =
-      let there : i < length ranks = let l = long in omega (arith, l, inside) in
-      let bit : valid_at (Some validity) i ≡ true = ap (λ l. get_or l i false) bits ∙ get_or-map is_valid vs i Null false inside ∙ e in
-      masked_valid (Some validity) (map (λ x. Number (pos x)) ranks) i bit (rw length-map there) covered
-      ∙ get_or-map (λ x. Number (pos x)) ranks i 0 Null there ∙ ap (λ n. Number (pos n)) (rank_at i inside)
-  one_key false i inside e =
-      let there : i < length ranks = let l = long in omega (arith, l, inside) in
-      let bit : valid_at (Some validity) i ≡ false = ap (λ l. get_or l i false) bits ∙ get_or-map is_valid vs i Null false inside ∙ e in
-      masked_null (Some validity) (map (λ x. Number (pos x)) ranks) i bit (rw length-map there) covered
-
-  each_key : (key : Value) → is_within (length vs) key ≡ true → found Null (number_rows pos ranks (Some validity) ∷ []) (pick_of key) ≡ key_of_valid vs key
-  each_key (Number (pos i)) within = one_key (is_valid (get_or vs i Null)) i (ltb-true i (length vs) within) refl
-  each_key key within = refl
+  key_at : (i : ℕ) → i < length vs → get_or (number_rows pos ranks (Some validity)) i Null ≡ key_of_valid vs (Number (pos i))
+  key_at i inside =
+      let bit = ap (λ l. get_or l i false) bits ∙ get_or-map is_valid vs i Null false inside in
+      row_under (λ x. Number (pos x)) (Some validity) ranks 0 i (let l = long in omega (arith, l, inside))
+      (λ v there. let same : validity ≡ v = cc in ap (λ (b : Bits). length b.bits) (sym same) ∙ sym (counts_long ranks validity.bits counts))
+      ∙ (λ j. if bit j then Number (pos (rank_at i inside j)) else Null)
 
   pub keys_taken : (keys : List Value) → all_within (length vs) keys ≡ true → take_rows (number_rows pos ranks (Some validity)) keys ≡ propagated_keys keys vs
   keys_taken [] within = refl
-  keys_taken (key ∷ keys) within =
-      (λ i. each_key key (and_first _ _ within) i ∷ keys_taken keys (and_second _ _ within) i)
+  keys_taken (Number (pos i) ∷ keys) within = (λ j. key_at i (ltb-true i (length vs) (and_first _ _ within)) j ∷ keys_taken keys (and_second _ _ within) j)
+  keys_taken (key ∷ keys) within = ap (λ l. Null ∷ l) (keys_taken keys (and_second (is_within (length vs) key) (all_within (length vs) keys) within))
 
 -- ---- if no value is null, the keys are unchanged
 
@@ -204,11 +189,11 @@ same_value : (b : Bool) (vs : List Value) (k : ℕ) → k < length vs → is_val
 same_value true vs k inside valid = rank_found vs k inside valid
 same_value false vs k inside valid = sym (only_null (get_or vs k Null) valid)
 
-one_decoded : (vs : List Value) (key : Value) → is_within (length vs) key ≡ true → found Null (valid_values vs ∷ []) (pick_of (key_of_valid vs key)) ≡ found Null (vs ∷ []) (pick_of key)
-one_decoded vs (Number (pos k)) within = same_value (is_valid (get_or vs k Null)) vs k (ltb-true k (length vs) within) refl
-one_decoded vs key within = refl
-
-pub propagation_decodes : (keys vs : List Value) → all_within (length vs) keys ≡ true → decode (propagated_keys keys vs) (valid_values vs) ≡ decode keys vs
+pub propagation_decodes : PropagationDecodes
 propagation_decodes [] vs within = refl
-propagation_decodes (key ∷ keys) vs within =
-    (λ i. one_decoded vs key (and_first _ _ within) i ∷ propagation_decodes keys vs (and_second _ _ within) i)
+propagation_decodes (Number (pos k) ∷ keys) vs within =
+    let here = same_value (is_valid (get_or vs k Null)) vs k (ltb-true k (length vs) (and_first _ (all_within (length vs) keys) within)) refl in
+    (λ i. here i ∷ propagation_decodes keys vs (and_second _ _ within) i)
+propagation_decodes (key ∷ keys) vs within = ap (λ l. Null ∷ l) (propagation_decodes keys vs (and_second (is_within (length vs) key) (all_within (length vs) keys) within))
+
+pub ruleset counting = (count_step, map-range_with_len_more)

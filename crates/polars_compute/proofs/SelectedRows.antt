@@ -1,8 +1,9 @@
 -- Rows of several columns, column by column.
-use Rattle.polars_compute.proofs.Common.{map-map, ◌≡◌, ℕ, ◌+◌, ◌<◌, true, false, cond, List, [], ◌∷◌, ◌++◌, length, get_or, map, take, arith, refl, ap, sym, ◌∙◌, ◌==◌}
-use Rattle.polars_compute.proofs.Common.{◌&&◌, count_by, list_all, ne_eqb, get_or-map, length-map, map-append, take_more, list_all-map, sum_by-cons, PolarsError}
-use Rattle.polars_compute.proofs.Common.{ComputeError, rows, type_of, Value, ArrayRef, all_at, and_first, rows_pass, IsLimitOrMemory, ExceedsNone, exceeded_limits}
-use Rattle.polars_compute.proofs.Common.{take_rows, all_within, select, effective_mask, is_true, length-select}
+use Rattle.polars_compute.proofs.Common.{map-map, ◌≡◌, ℕ, ◌+◌, ◌<◌, true, false, cond, List, [], ◌∷◌, ◌++◌, length, get_or, map, take, arith, refl, ap, sym}
+use Rattle.polars_compute.proofs.Common.{◌∙◌, ◌==◌, ◌&&◌, count_by, list_all, ne_eqb, get_or-map, length-map, map-append, take_more, list_all-map, sum_by-cons}
+use Rattle.polars_compute.proofs.Common.{PolarsError, ComputeError, rows, type_of, Value, ArrayRef, all_at, and_first, rows_pass, IsLimitOrMemory, ExceedsNone}
+use Rattle.polars_compute.proofs.Common.{exceeded_limits, take_rows, all_within, select, effective_mask, is_true, length-select, All, All-push, Column, IsField}
+use Rattle.polars_compute.proofs.Common.{length-rows, mapped_more, subst, well_formed}
 use Rattle.std.proofs.lemmas.Bool.Decides.{Decides-eqb}
 use Rattle.std.proofs.lemmas.List.Folds.{list_all_at}
 use Rattle.sel_bits.specs.declared.faults.PolarsError.TheVariants.{OutOfMemory, SizeLimit}
@@ -45,8 +46,7 @@ all_long columns mask indices each =
 pub mapped_step : {A B : Type 0} (f g : A → B) (xs sel new : List A) (i : ℕ) (x taken : A) → i < length xs → x ≡ get_or xs i x → new ≡ sel ++ taken ∷ [] → f taken ≡ g x →
     map f sel ≡ map g (take i xs) → map f new ≡ map g (take (i + 1) xs)
 mapped_step f g xs sel new i x taken h at made same so_far =
-    ap (map f) made ∙ map-append f sel (taken ∷ []) ∙ ap (λ l. l ++ f taken ∷ []) so_far ∙ ap (λ b. map g (take i xs) ++ b ∷ []) (same ∙ ap g at)
-    ∙ sym (ap (map g) (take_more xs i x h) ∙ map-append g (take i xs) (get_or xs i x ∷ []))
+    rw (made, map-append f sel, so_far, same, take_more xs i x h, map-append g (take i xs)) (ap (λ y. map g (take i xs) ++ g y ∷ []) at)
 
 pub rows_mapped : (mask indices : List Value) (columns : List ArrayRef) →
     map (λ c. take_rows (select (rows c.column) (effective_mask mask)) indices) columns ≡ select_rows_of (rows_of_arrays columns) mask indices
@@ -74,3 +74,19 @@ none_past columns selected mask indices same types limit exceeded_limits =
     let is_rows : rows s.column ≡ taken x = sym (get_or-map shown selected i x [] there) ∙ ap (λ l. get_or l i []) same ∙ get_or-map taken columns i x [] exceeded_limits.2 ∙ ap taken exceeded_limits.3 in
     let is_type : type_of s.column ≡ type_of x.column = sym (get_or-map type selected i x of_int64 there) ∙ ap (λ l. get_or l i of_int64) types ∙ get_or-map type columns i x of_int64 exceeded_limits.2 ∙ ap type exceeded_limits.3 in
     rows_pass s.column (type_of x.column) (taken x) s.formed is_type is_rows limit exceeded_limits.4
+
+-- ---- the fields of a struct
+
+-- The first i columns, of which each has the rows that a function gives of it, as fields of n rows.
+pub record AreFields (of : Column → List Value) (n : ℕ) (columns made : List Column) (i : ℕ) : Type 0 where
+  pub items : map rows made ≡ map of (take i columns)
+  pub dtypes : map type_of made ≡ map type_of (take i columns)
+  pub fields : All (IsField n) made
+
+pub fields_more : (of : Column → List Value) (n : ℕ) (columns old new : List Column) (i : ℕ) (column part : Column) → i < length columns → column ≡ get_or columns i column → new ≡ old ++ part ∷ [] →
+    rows part ≡ of column → type_of part ≡ type_of column → length (of column) ≡ n → well_formed part ≡ true → AreFields of n columns old i → AreFields of n columns new (i + 1)
+fields_more of n columns old new i column part h is pushed same kind long formed so_far = record {
+  items = mapped_more rows of columns old new i column part h is pushed same so_far.items;
+  dtypes = mapped_more type_of type_of columns old new i column part h is pushed kind so_far.dtypes;
+  fields = subst (All (IsField n)) (sym pushed) (All-push (IsField n) old part so_far.fields (sym (length-rows part) ∙ ap length same ∙ long, formed));
+}

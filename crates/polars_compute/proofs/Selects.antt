@@ -1,20 +1,24 @@
--- The rows that a mask selects.
-use Rattle.polars_compute.proofs.Common.{◌≡◌, ℕ, zero, suc, ◌+◌, ◌≤◌, ◌<◌, ℤ, Bool, true, false, List, [], ◌∷◌, length, map, drop, get_or, replicate, Option, Some, None}
-use Rattle.polars_compute.proofs.Common.{refl, ap, sym, subst, ◌∙◌, ◌++◌, arith, ◌-◌, take, ⊎_elim, add-one, cond, ◌&&◌, if◌then◌else◌, count_by, reverse, cases_lt}
-use Rattle.polars_compute.proofs.Common.{list_all, length-map, length-replicate, append-nil, get_or_past, length-drop, length-take, take_all, take-append-drop}
-use Rattle.polars_compute.proofs.Common.{sum_by-cons, max_rows, Bits, zip_with, leading_zeros, Value, Null, Truth, Number, hidden, masked, number_rows, Covers}
-use Rattle.polars_compute.proofs.Common.{view_value, View, and_first, and_second, both, length-number_rows, length-truth_rows, length-view_rows, few_kept, length-select}
-use Rattle.polars_compute.proofs.Common.{select, effective_mask, is_true, IsRun, map-map, option_map, map-id}
+-- The rows that a mask selects, and their positions.
+use Rattle.polars_compute.proofs.Common.{◌≡◌, ℕ, zero, suc, ◌+◌, ◌≤◌, ◌<◌, ℤ, Bool, true, false, List, [], ◌∷◌, length, map, drop, get_or, replicate, Option}
+use Rattle.polars_compute.proofs.Common.{Some, None, refl, ap, sym, subst, ◌∙◌, ◌++◌, arith, ◌-◌, take, ⊎_elim, add-one, cond, ◌&&◌, if◌then◌else◌, count_by}
+use Rattle.polars_compute.proofs.Common.{reverse, cases_lt, list_all, length-map, length-replicate, append-nil, get_or_past, length-drop, length-take, take_all}
+use Rattle.polars_compute.proofs.Common.{take-append-drop, sum_by-cons, max_rows, Bits, zip_with, leading_zeros, Value, Null, Truth, Number, hidden, masked}
+use Rattle.polars_compute.proofs.Common.{number_rows, Covers, view_value, View, and_first, and_second, both, length-number_rows, length-truth_rows}
+use Rattle.polars_compute.proofs.Common.{length-view_rows, few_kept, length-select, select, effective_mask, is_true, IsRun, map-map, option_map, map-id}
+use Rattle.polars_compute.proofs.Common.{range_with_len, drop-drop, get_or-drop, map-append, picks_of, place_pick, kept, kept_from, All, pos, negsuc, IsTrue}
+use Rattle.polars_compute.proofs.Common.{ltb-true, count_true, pick, PickFits, IsPicked, IsNear, pick_of, is_within, all_within, found, All-map, all_at}
+use Rattle.polars_compute.proofs.Common.{unwrap_or, get_or-map}
+use Rattle.std.proofs.Math.Bool.{and-true, and-false}
 use Rattle.std.proofs.lemmas.List.{get_or-reverse}
 use Rattle.std.proofs.lemmas.List.Sums.{count_by-le-length}
-use Rattle.sel_bits.specs.Bits.{trailing_zeros}
+use Rattle.sel_bits.specs.Bits.{trailing_zeros, leading_ones}
 use Rattle.sel_bits.proofs.Zeros.{leading_le}
 use Rattle.sel_arrow.specs.Masked.{bool_rows}
-use Rattle.sel_arrow.specs.Columns.{null_rows}
 use Rattle.sel_arrow.specs.Views.{view_rows}
-use Rattle.sel_arrow.specs.declared.null.NullArray.{NullArray}
 use Rattle.sel_filter.proofs.Selects.{all_kept, none_kept as nothing_kept, as_many_kept, count_true-append, select_split}
+use Rattle.sel_arrow.proofs.ByteRows.{length-byte_rows}
 use Rattle.polars_compute.specs.Trim.{KeepsAll}
+use Rattle.std.proofs.lemmas.List.Elements.{All-from_get_or}
 
 -- ---- rows under a validity
 
@@ -116,55 +120,33 @@ false_end ms i le =
 pub end_dropped : {A : Type 0} → (xs : List A) (ms : List Bool) → select (take (length ms - trailing_zeros ms) xs) (take (length ms - trailing_zeros ms) ms) ≡ select xs ms
 end_dropped xs ms = front_kept xs ms (length ms - trailing_zeros ms) (false_end ms)
 
--- A mask without the false bits at its ends, and the rows under it.
-pub record IsTrimmed (ms first rest : List Bool) (leading trailing count : ℕ) : Type 0 where
-  pub leads : leading ≡ leading_zeros ms
-  pub first-is : first ≡ drop leading ms
-  pub trails : trailing ≡ trailing_zeros first
-  pub rest-is : rest ≡ take (length first - trailing) first
-  pub counts : count ≡ length rest
+-- A mask without the false bits at its ends.
+abbrev pub trim : List Bool → List Bool
+trim ms = take (length (drop (leading_zeros ms) ms) - trailing_zeros (drop (leading_zeros ms) ms)) (drop (leading_zeros ms) ms)
 
-pub trimmed_within : (ms first rest : List Bool) (leading trailing count : ℕ) → IsTrimmed ms first rest leading trailing count → leading + count ≤ length ms
-trimmed_within ms first rest leading trailing count t =
-    let front = leading_le ms in
-    let parts = ap (λ (l : List Bool). length l) t.first-is in
-    let ends = ap (λ (l : List Bool). length l) t.rest-is in
-    omega (arith, front, parts, ends, t.leads, t.counts, length-drop leading ms, length-take (length first - trailing) first)
+length-trim : (ms : List Bool) → length (trim ms) ≡ length (drop (leading_zeros ms) ms) - trailing_zeros (drop (leading_zeros ms) ms)
+length-trim ms = omega (arith, length-take (length (drop (leading_zeros ms) ms) - trailing_zeros (drop (leading_zeros ms) ms)) (drop (leading_zeros ms) ms))
 
-pub trimmed_kept : {A : Type 0} → (xs : List A) (ms first rest : List Bool) (leading trailing count : ℕ) → length xs ≡ length ms → IsTrimmed ms first rest leading trailing count
-    → select (take count (drop leading xs)) rest ≡ select xs ms
-trimmed_kept {A} xs ms first rest leading trailing count long t =
-    let ends = ap (λ (l : List Bool). length l) t.rest-is in
-    let trails = t.trails in
-    let count-is : count ≡ length first - trailing_zeros first = omega (arith, ends, t.counts, trails, length-take (length first - trailing) first) in
-    let rest-is : rest ≡ take (length first - trailing_zeros first) first = t.rest-is ∙ ap (λ n. take (length first - n) first) trails in
-    (λ i. select (take (count-is i) (drop leading xs)) (rest-is i))
-    ∙ end_dropped (drop leading xs) first
-    ∙ ap (select (drop leading xs)) (t.first-is ∙ ap (λ n. drop n ms) t.leads)
-    ∙ ap (λ n. select (drop n xs) (drop (leading_zeros ms) ms)) t.leads
-    ∙ front_dropped xs ms long
+pub trimmed_within : (ms : List Bool) → leading_zeros ms + length (trim ms) ≤ length ms
+trimmed_within ms = omega (arith, leading_le ms, length-drop (leading_zeros ms) ms, length-trim ms)
+
+pub trimmed_kept : {A : Type 0} → (xs : List A) (ms : List Bool) → length xs ≡ length ms → select (take (length (trim ms)) (drop (leading_zeros ms) xs)) (trim ms) ≡ select xs ms
+trimmed_kept xs ms long =
+    ap (λ n. select (take n (drop (leading_zeros ms) xs)) (trim ms)) (length-trim ms) ∙ end_dropped (drop (leading_zeros ms) xs) (drop (leading_zeros ms) ms) ∙ front_dropped xs ms long
 
 -- A trimmed mask is a part of the mask.
-pub trimmed_part : (ms first rest : List Bool) (leading trailing count : ℕ) → IsTrimmed ms first rest leading trailing count → rest ≡ take (length rest) (drop leading ms)
-trimmed_part ms first rest leading trailing count t =
-    let size : length rest ≡ length first - trailing = omega (arith, ap length t.rest-is, length-take (length first - trailing) first) in
-    t.rest-is ∙ ap (take (length first - trailing)) t.first-is ∙ ap (λ n. take n (drop leading ms)) (sym size)
+pub trimmed_part : (ms : List Bool) → trim ms ≡ take (length (trim ms)) (drop (leading_zeros ms) ms)
+trimmed_part ms = ap (λ n. take n (drop (leading_zeros ms) ms)) (sym (length-trim ms))
 
 -- ---- nulls
 
-replicate_kept : (n : ℕ) (ms : List Bool) → n ≡ length ms → replicate (count_by (λ b. b) ms) Null ≡ select (replicate n Null) ms
-replicate_kept zero [] h = refl
-replicate_kept (suc n) (true ∷ ms) h =
-    let more : count_by (λ b. b) (true ∷ ms) ≡ suc (count_by (λ b. b) ms) = omega (arith, sum_by-cons (λ b. cond b 1 0) true ms) in
-    ap (λ k. replicate k Null) more ∙ ap (λ l. Null ∷ l) (replicate_kept n ms (omega arith))
-replicate_kept (suc n) (false ∷ ms) h =
-    let more : count_by (λ b. b) (false ∷ ms) ≡ count_by (λ b. b) ms = omega (arith, sum_by-cons (λ b. cond b 1 0) false ms) in
-    ap (λ k. replicate k Null) more ∙ replicate_kept n ms (omega arith)
-replicate_kept n ms h = absurd (omega (arith, h))
+nulls_kept : (n : ℕ) (ms : List Bool) → replicate (length (select (replicate n Null) ms)) Null ≡ select (replicate n Null) ms
+nulls_kept (suc n) (true ∷ ms) = ap (λ l. Null ∷ l) (nulls_kept n ms)
+nulls_kept (suc n) (false ∷ ms) = nulls_kept n ms
+nulls_kept n ms = refl
 
-pub kept_null_rows : (column : NullArray) (n : ℕ) (ms : List Bool) → length (null_rows column) ≡ length ms → n ≡ count_by (λ b. b) ms → replicate n Null ≡ select (null_rows column) ms
-kept_null_rows column n ms long count =
-    ap (λ k. replicate k Null) count ∙ replicate_kept column.length ms (sym (length-replicate column.length Null) ∙ long)
+pub kept_null_rows : (n : ℕ) (ms : List Bool) → length (replicate n Null) ≡ length ms → select (replicate n Null) ms ≡ replicate (count_by (λ b. b) ms) Null
+kept_null_rows n ms long = sym (ap (λ k. replicate k Null) (sym (length-select (replicate n Null) ms long)) ∙ nulls_kept n ms)
 
 pub few_nulls : (n : ℕ) (ms : List Bool) → n ≤ max_rows → length (replicate n Null) ≡ length ms → count_by (λ b. b) ms ≤ max_rows
 few_nulls n ms few long = omega (arith, count_by-le-length (λ (b : Bool). b) ms, length-replicate n Null, long)
@@ -173,24 +155,14 @@ pub ruleset kept_nulls = (kept_null_rows, few_nulls, length-replicate)
 
 pub ruleset kept_views = (kept_view_rows, kept_covers, few_kept, passed_kept, length-view_rows)
 
-pub ruleset kept_texts = (passed_kept)
-
 pub ruleset kept_columns = (kept_numbers, kept_truths, kept_covers, few_kept, length-number_rows, length-truth_rows)
 
 -- ---- a mask of rows
 
-effective_mask-valid : (bits : List Bool) → effective_mask (bool_rows bits None) ≡ bits
-effective_mask-valid bits = map-map is_true Truth bits ∙ map-id bits
-
 effective_mask-hidden : (bs bits : List Bool) → length bs ≡ length bits → map is_true (hidden bs (map Truth bits)) ≡ zip_with (λ x y. x && y) bits bs
 effective_mask-hidden [] [] h = refl
-effective_mask-hidden (b ∷ bs) (x ∷ bits) h = (λ i. first b x i ∷ effective_mask-hidden bs bits (omega arith) i)
-  where
-    first : (b x : Bool) → is_true (if b then Truth x else Null) ≡ (x && b)
-    first true true = refl
-    first true false = refl
-    first false true = refl
-    first false false = refl
+effective_mask-hidden (true ∷ bs) (x ∷ bits) h = cc (and-true x, effective_mask-hidden bs bits (omega arith))
+effective_mask-hidden (false ∷ bs) (x ∷ bits) h = cc (and-false x, effective_mask-hidden bs bits (omega arith))
 effective_mask-hidden bs bits h = absurd (omega (arith, h))
 
 -- The effective mask of a boolean column.
@@ -199,7 +171,7 @@ effective_mask-bools bits validity v is covers = ap (λ o. effective_mask (bool_
 
 -- Without a validity it is the values of the column.
 pub in_force-all : (bits : List Bool) (validity : Option Bits) → validity ≡ None → effective_mask (bool_rows bits validity) ≡ bits
-in_force-all bits validity is = ap (λ o. effective_mask (bool_rows bits o)) is ∙ effective_mask-valid bits
+in_force-all bits validity is = ap (λ o. effective_mask (bool_rows bits o)) is ∙ map-map is_true Truth bits ∙ map-id bits
 
 pub length-in_force : (rows : List Value) → length (effective_mask rows) ≡ length rows
 length-in_force rows = length-map rows is_true
@@ -217,9 +189,9 @@ count_all zero = refl
 count_all (suc n) = omega (arith, count_all n, sum_by-cons (λ b. cond b 1 0) true (replicate n true))
 
 -- A trimmed mask of true entries is a run of the mask, and has all of its true entries.
-pub run_kept : (mask : List Bool) (leading : ℕ) (rest : List Bool) → KeepsAll mask leading rest → leading + length rest ≤ length mask → rest ≡ take (length rest) (drop leading mask)
+pub run_of_trimmed : (mask : List Bool) (leading : ℕ) (rest : List Bool) → KeepsAll mask leading rest → leading + length rest ≤ length mask → rest ≡ take (length rest) (drop leading mask)
     → count_by (λ b. b) rest ≡ length rest → IsRun mask leading (count_by (λ b. b) mask)
-run_kept mask leading rest keeps within part all =
+run_of_trimmed mask leading rest keeps within part all =
     let nulls = replicate (length mask) Null in
     let long = length-replicate (length mask) Null in
     let under : take (length rest) (drop leading nulls) ≡ select nulls mask =
@@ -251,3 +223,119 @@ run_selected {A} xs mask first long run =
     let behind = nothing_kept (drop n ys) (drop n ms) (omega (arith, equal, length-drop n ys, length-drop n ms)) (omega (arith, parted, inner, ones)) in
     let middle = all_kept (take n ys) (take n ms) (omega (arith, equal, length-take n ys, length-take n ms)) (ones ∙ sym size) in
     sym (append-nil (take n ys)) ∙ ap (λ l. l ++ []) (sym middle) ∙ ap (λ l. select (take n ys) (take n ms) ++ l) behind ∙ select_split ys ms n equal ∙ ap (λ l. l ++ select ys ms) before ∙ select_split xs mask first long
+
+pub ruleset row_lengths = (length-number_rows, length-truth_rows, length-view_rows, length-byte_rows)
+
+pub ruleset effective_masks = (in_force-all, effective_mask-bools, length-in_force)
+
+-- ---- several equal bits at once
+
+zeros_step : (l : List Bool) (at : ℕ) → kept_from at l ≡ kept_from (at + leading_zeros l) (drop (leading_zeros l) l)
+zeros_step [] at = refl
+zeros_step (true ∷ l) at = let none : at + 0 ≡ at = omega arith in rw none refl
+zeros_step (false ∷ l) at =
+    let next : at + (leading_zeros l + 1) ≡ at + 1 + leading_zeros l = omega arith in
+    rw (next, add-one (leading_zeros l)) (zeros_step l (at + 1))
+
+ones_step : (l : List Bool) (at : ℕ) → kept_from at l ≡ range_with_len at (leading_ones l) ++ kept_from (at + leading_ones l) (drop (leading_ones l) l)
+ones_step [] at = refl
+ones_step (false ∷ l) at = let none : at + 0 ≡ at = omega arith in rw none refl
+ones_step (true ∷ l) at =
+    let next : at + (leading_ones l + 1) ≡ at + 1 + leading_ones l = omega arith in
+    rw (next, add-one (leading_ones l)) (ap (λ k. at ∷ k) (ones_step l (at + 1)))
+
+some_ones : (l : List Bool) (at : ℕ) → 0 < length (kept_from at l) → 0 < leading_ones (drop (leading_zeros l) l)
+some_ones [] at h = absurd (omega (arith, h))
+some_ones (true ∷ l) at h = omega arith
+some_ones (false ∷ l) at h = subst (λ k. 0 < leading_ones (drop k (false ∷ l))) (sym (add-one (leading_zeros l))) (some_ones l (at + 1) h)
+
+-- The positions that are left after one more run, which is not empty if there is a position.
+module _ (bits : List Bool) (at z n : ℕ) (zeros : z ≡ leading_zeros (drop at bits)) (ones : n ≡ leading_ones (drop (at + z) bits)) where
+  pub run_kept : map place_pick (kept_from at (drop at bits)) ≡ picks_of 0 (at + z) n ++ map place_pick (kept_from (at + z + n) (drop (at + z + n) bits))
+  run_kept =
+      let skipped = zeros_step (drop at bits) at in
+      let passed = ones_step (drop (at + z) bits) (at + z) in
+      ap (map place_pick) (rw (← zeros, drop-drop) at skipped ∙ rw (← ones, drop-drop) at passed)
+      ∙ map-append place_pick (range_with_len (at + z) n) (kept_from (at + z + n) (drop (at + z + n) bits))
+
+  pub run_some : 0 < length (map place_pick (kept_from at (drop at bits))) → 0 < n
+  run_some left =
+      let ones_left = ap leading_ones (sym (drop-drop z at bits) ∙ ap (λ k. drop k (drop at bits)) zeros) in
+      omega (arith, ones, ones_left, some_ones (drop at bits) at (omega (arith, left, length-map (kept_from at (drop at bits)) place_pick)))
+
+-- ---- each position is in bounds
+
+kept_from_below : (n : ℕ) (ms : List Bool) (k : ℕ) → k < length (kept_from n ms) → get_or (kept_from n ms) k 0 < n + length ms
+kept_from_below n [] k h = absurd (omega arith)
+kept_from_below n (true ∷ ms) zero h = omega arith
+kept_from_below n (true ∷ ms) (suc k) h = omega (arith, kept_from_below (n + 1) ms k (omega arith))
+kept_from_below n (false ∷ ms) k h = omega (arith, kept_from_below (n + 1) ms k h)
+
+pub kept_below : (ms : List Bool) (k : ℕ) → k < length (kept ms) → get_or (kept ms) k 0 < length ms
+kept_below ms k h = omega (arith, kept_from_below 0 ms k h)
+
+-- ---- the filtered rows are those at the positions
+
+pub first_dropped : {A : Type 0} → (all : List A) (x : A) (xs : List A) (n : ℕ) (d : A) → drop n all ≡ x ∷ xs → get_or all n d ≡ x
+first_dropped all x xs n d is =
+    let there : n ≡ n + 0 = omega arith in
+    ap (λ k. get_or all k d) there ∙ sym (get_or-drop n all 0 d) ∙ ap (λ l. get_or l 0 d) is
+
+pub rest_dropped : {A : Type 0} → (all : List A) (x : A) (xs : List A) (n : ℕ) → drop n all ≡ x ∷ xs → drop (n + 1) all ≡ xs
+rest_dropped all x xs n is = sym (drop-drop 1 n all) ∙ ap (drop 1) is
+
+selected_from : {A : Type 0} → (all xs : List A) (ms : List Bool) (n : ℕ) (d : A) → drop n all ≡ xs → length xs ≡ length ms → select xs ms ≡ map (λ i. get_or all i d) (kept_from n ms)
+selected_from all [] [] n d is h = refl
+selected_from all (x ∷ xs) (true ∷ ms) n d is h =
+    let first : get_or all n d ≡ x = first_dropped all x xs n d is in
+    cc (first, selected_from all xs ms (n + 1) d (rest_dropped all x xs n is) (omega arith))
+selected_from all (x ∷ xs) (false ∷ ms) n d is h = selected_from all xs ms (n + 1) d (rest_dropped all x xs n is) (omega arith)
+selected_from all xs ms n d is h = absurd (omega (arith, h))
+
+pub selected : {A : Type 0} → (xs : List A) (ms : List Bool) (d : A) → length xs ≡ length ms → select xs ms ≡ map (λ i. get_or xs i d) (kept ms)
+selected xs ms d h = selected_from xs xs ms 0 d refl h
+
+-- ---- row references to the positions
+
+-- Gathering the positions that a mask selects equals filtering by the mask.
+pub picked_kept : (d : Value) (xs : List Value) (ms : List Bool) → length xs ≡ length ms → pick d (xs ∷ []) (map place_pick (kept ms)) ≡ select xs ms
+picked_kept d xs ms long = map-map (found d (xs ∷ [])) place_pick (kept ms) ∙ sym (selected xs ms d long)
+
+-- These positions are in bounds.
+pub kept_fit : (xs : List Value) (ms : List Bool) → length xs ≡ length ms → All (PickFits (xs ∷ [])) (map place_pick (kept ms))
+kept_fit xs ms long =
+    All-map (PickFits (xs ∷ [])) place_pick (kept ms) (All-from_get_or (λ place. place < length xs) (kept ms) 0 (λ k h. omega (arith, kept_below ms k h, long)))
+
+-- None of their row references is null, and each is small.
+pub kept_picked : (places : List ℕ) → All IsPicked (map place_pick places)
+kept_picked places = All-map IsPicked place_pick places (λ k d h. tt)
+
+pub kept_near : (ms : List Bool) → length ms ≤ max_rows → All IsNear (map place_pick (kept ms))
+kept_near ms few =
+    All-map IsNear place_pick (kept ms) (All-from_get_or (λ place. IsNear (place_pick place)) (kept ms) 0
+    (λ k h p is. let place : get_or (kept ms) k 0 ≡ p.1 = ap (λ o. (unwrap_or {T = ℕ × ℕ} o (0, 0)).1) is in omega (arith, kept_below ms k h, place, few)))
+
+-- The row references of indices in bounds are in bounds.
+pub within_fit : (xs indices : List Value) → IsTrue (all_within (length xs) indices) → All (PickFits (xs ∷ [])) (map pick_of indices)
+within_fit xs indices h = All-map (PickFits (xs ∷ [])) pick_of indices (λ k d below. one (get_or indices k d) (all_at (is_within (length xs)) indices k d h below))
+  where
+    one : (v : Value) → is_within (length xs) v ≡ true → PickFits (xs ∷ []) (pick_of v)
+    one (Number (pos i)) e = ltb-true i (length xs) e
+    one (Number (negsuc i)) e = absurd (cc e)
+    one _ e = tt
+
+-- Indices without a null have no null row reference.
+pub all_picked : (indices : List ℕ) → All IsPicked (map pick_of (number_rows pos indices None))
+all_picked indices =
+    All-map IsPicked pick_of (number_rows pos indices None) (All-map (λ v. IsPicked (pick_of v)) (λ x. Number (pos x)) indices (λ k d h. tt))
+
+-- There are as many positions as true bits.
+pub count_kept : (ms : List Bool) → length (kept ms) ≡ count_true ms
+count_kept ms = from 0 ms
+  where
+    from : (n : ℕ) (ms : List Bool) → length (kept_from n ms) ≡ count_true ms
+    from n [] = refl
+    from n (true ∷ ms) = omega (arith, from (n + 1) ms, sum_by-cons (λ b. cond b 1 0) true ms)
+    from n (false ∷ ms) = omega (arith, from (n + 1) ms, sum_by-cons (λ b. cond b 1 0) false ms)
+
+pub ruleset taken_places = (length-map, get_or-map, all_picked)

@@ -1,9 +1,11 @@
 -- Binary rows at indices: where they begin in the bytes of their source, and where they end in the result.
-use Rattle.polars_compute.proofs.Common.{◌≡◌, ℕ, zero, suc, ◌+◌, ◌-◌, ◌≤◌, ◌<◌, ℤ, pos, Bool, true, false, List, [], ◌∷◌, ◌++◌, length, map, take, drop, get_or, negsuc, ◌≤ℤ◌}
-use Rattle.polars_compute.proofs.Common.{Option, Some, None, refl, ap, sym, ◌∙◌, subst, arith, if◌then◌else◌, length-map, length-replicate, get_or-map, take_more, ltb-true, map-append, append-nil, zero-add, flat_map-append, option_map, ints}
-use Rattle.polars_compute.proofs.Common.{Bits, hidden, masked, number_rows, Covers, valid_at, length-number_rows, length-part, IsRising, last_offset, pieces, rows_between, get_or-pieces, length-pieces}
-use Rattle.polars_compute.proofs.Common.{Value, Null, Number, is_valid, validities, bits_for, finished, ends_from, joined_bytes, byte_count, bytes_needed, all_at, and_first, and_second, nat_lt, magnitudes, offsets_of, same_numbers}
-use Rattle.polars_compute.proofs.Common.{found, pick_of, take_rows, is_within, all_within, live_index, valid_pick, bit_or_true}
+use Rattle.polars_compute.proofs.Common.{◌≡◌, ℕ, zero, suc, ◌+◌, ◌-◌, ◌≤◌, ◌<◌, ℤ, pos, Bool, true, false, List, [], ◌∷◌, ◌++◌, length, map, take, drop, get_or}
+use Rattle.polars_compute.proofs.Common.{negsuc, ◌≤ℤ◌, Option, Some, None, refl, ap, sym, ◌∙◌, subst, arith, if◌then◌else◌, length-map, length-replicate}
+use Rattle.polars_compute.proofs.Common.{get_or-map, take_more, ltb-true, map-append, append-nil, zero-add, flat_map-append, option_map, ints, Bits, hidden}
+use Rattle.polars_compute.proofs.Common.{masked, number_rows, Covers, valid_at, length-number_rows, length-part, IsRising, last_offset, pieces, rows_between}
+use Rattle.polars_compute.proofs.Common.{get_or-pieces, length-pieces, Value, Null, Number, is_valid, validities, bits_for, finished, ends_from, joined_bytes}
+use Rattle.polars_compute.proofs.Common.{byte_count, bytes_needed, all_at, and_first, and_second, nat_lt, magnitudes, offsets_of, same_numbers, found, pick_of}
+use Rattle.polars_compute.proofs.Common.{take_rows, is_within, all_within, live_index, bit_or_true}
 use Rattle.std.specs.List.{AllZip}
 use Rattle.std.proofs.lemmas.Slice.Zip.{all_zipped_more}
 use Rattle.sel_arrow.specs.Pieces.{byte_rows}
@@ -14,26 +16,24 @@ use Rattle.sel_bits.proofs.OffsetLemmas.{shown_at}
 use Rattle.sel_gather.proofs.JoinedRows.{built_rows, column_bytes, ends-append, needed-append, needed_part, picked_bytes, rebuilt}
 use Rattle.polars_compute.specs.JoinedBytes.{bytes_of}
 use Rattle.polars_compute.specs.Spans.{AreStarts, BeginsAt}
-use Rattle.polars_compute.proofs.Takes.{by_validity, length-pick, within_as}
+use Rattle.polars_compute.proofs.Takes.{length-pick, row_under, within_as}
 
 -- ---- the indices of valid rows
 
-one_live : (validity : Option Bits) (rows : List Value) (index : Value) → Covers validity (length rows) → is_within (length rows) index ≡ true →
-    found Null (rows ∷ []) (pick_of (live_index validity index)) ≡ found Null (masked validity rows ∷ []) (pick_of index)
-one_live validity rows (Number (pos i)) covers within =
-    by (valid_at validity i) ∙ by_validity (valid_at validity i) validity rows i (get_or rows i Null) refl (ltb-true i (length rows) within) covers refl
-  where
-    by : (b : Bool) → found Null (rows ∷ []) (pick_of (if b then Number (pos i) else Null)) ≡ (if b then get_or rows i Null else Null)
-    by true = refl
-    by false = refl
-one_live validity rows index covers within = refl
-
 -- The rows at these indices, without the validity, are those at the indices.
-pub live_taken : (validity : Option Bits) (rows indices : List Value) → Covers validity (length rows) → all_within (length rows) indices ≡ true →
-    take_rows rows (map (live_index validity) indices) ≡ take_rows (masked validity rows) indices
-live_taken validity rows [] covers within = refl
-live_taken validity rows (index ∷ indices) covers within =
-    (λ i. one_live validity rows index covers (and_first _ _ within) i ∷ live_taken validity rows indices covers (and_second _ _ within) i)
+pub live_taken : {A : Type 0} (f : A → Value) → (validity : Option Bits) (xs : List A) (d : A) (indices : List Value) → Covers validity (length xs) → all_within (length xs) indices ≡ true
+    → take_rows (map f xs) (map (live_index validity) indices) ≡ take_rows (masked validity (map f xs)) indices
+live_taken f validity xs d [] covers within = refl
+live_taken f validity xs d (Number (pos i) ∷ indices) covers within =
+    let inside = ltb-true i (length xs) (and_first _ (all_within (length xs) indices) within) in
+    let here = by (valid_at validity i) (get_or-map f xs i d Null inside) ∙ sym (row_under f validity xs d i inside covers) in
+    (λ j. here j ∷ live_taken f validity xs d indices covers (and_second _ _ within) j)
+  where
+    by : (b : Bool) → get_or (map f xs) i Null ≡ f (get_or xs i d) → found Null (map f xs ∷ []) (pick_of (if b then Number (pos i) else Null)) ≡ (if b then f (get_or xs i d) else Null)
+    by true e = e
+    by false e = refl
+live_taken f validity xs d (index ∷ indices) covers within =
+    ap (λ l. Null ∷ l) (live_taken f validity xs d indices covers (and_second (is_within (length xs) index) (all_within (length xs) indices) within))
 
 -- ---- the index and the row at a position
 
@@ -47,10 +47,7 @@ module _ (places : List ℕ) (validity : Option Bits) (k : ℕ) (inside : k < le
   indices = number_rows pos places validity
 
   index_at : get_or indices k Null ≡ (if valid_at validity k then Number (pos (get_or places k 0)) else Null)
-  index_at =
-      let number = λ (x : ℕ). Number (pos x) in
-      sym
-      (by_validity (valid_at validity k) validity (map number places) k (number (get_or places k 0)) refl (rw length-map inside) (λ v there. rw length-map (covers v there)) (sym (get_or-map number places k 0 Null inside)))
+  index_at = row_under (λ x. Number (pos x)) validity places 0 k inside covers
 
   below : k < length indices
   below = omega (arith, length-number_rows pos places validity, inside)
@@ -160,16 +157,18 @@ module _ {T : Type 0} (number : T → ℤ) (slice : List T) (offsets bytes : Lis
       let below = place_within places validity k here covers (rows_between offsets) valid within (is ∙ bit_valid validity k) set in
       omega (arith, below, ap (λ l. get_or l k 0) named_is, simp length-map at (ap length shown))
 
-  pub spanned : (valid : Bool) (len : ℕ) → valid ≡ bit_or_true (option_map (λ v. v.bits) validity) k →
+  pub spanned : (valid : Bool) (start len : ℕ) → valid ≡ bit_or_true (option_map (λ v. v.bits) validity) k →
+      start ≡ get_or (magnitudes number slice) (if valid then get_or named k 0 else 0) 0 →
       get_or (magnitudes number slice) (if valid then get_or named k 0 else 0) 0 + len ≡ get_or (magnitudes number slice) (if valid then get_or named k 0 + 1 else 0) 0 →
-      IsSpan bytes (get_or (take_rows (byte_rows offsets bytes None) (number_rows pos places validity)) k Null) (get_or (magnitudes number slice) (if valid then get_or named k 0 else 0) 0) len
-  spanned valid len is to =
+      BeginsAt bytes (get_or (take_rows (byte_rows offsets bytes None) (number_rows pos places validity)) k Null) (pos start)
+      × (byte_count (get_or (take_rows (byte_rows offsets bytes None) (number_rows pos places validity)) k Null) ≡ len)
+  spanned valid start len is from to =
       let ms = magnitudes_are number slice offsets shown rises in
       let known = is ∙ bit_valid validity k in
-      let start = get_or (magnitudes number slice) (if valid then get_or named k 0 else 0) 0 in
-      let span = span_of offsets bytes rises room valid (get_or places k 0) start len (place_within places validity k here covers (rows_between offsets) valid within known)
+      let at = get_or (magnitudes number slice) (if valid then get_or named k 0 else 0) 0 in
+      let span = span_of offsets bytes rises room valid (get_or places k 0) at len (place_within places validity k here covers (rows_between offsets) valid within known)
       (λ i. get_or (ms i) (if valid then get_or (named_is i) k 0 else 0) 0) (to ∙ (λ i. get_or (ms i) (if valid then get_or (named_is i) k 0 + 1 else 0) 0)) in
-      subst (λ v. IsSpan bytes v start len) (sym (row_at places validity k here covers (byte_rows offsets bytes None) valid known)) span
+      rw (from, row_at places validity k here covers (byte_rows offsets bytes None) valid known) (span.begins, span.count)
 
 -- ---- one more row
 
@@ -200,28 +199,22 @@ module _ (rows : List Value) (k : ℕ) (inside : k < length rows) where
   needed_below = omega (arith, needed_more, needed_part rows (k + 1))
 
   ends_more : ends_from 0 (take (k + 1) rows) ≡ ends_from 0 (take k rows) ++ (bytes_needed (take k rows) + byte_count (get_or rows k Null)) ∷ []
-  ends_more =
-      ap (ends_from 0) (take_more rows k Null inside) ∙ ends-append 0 (take k rows) (get_or rows k Null ∷ [])
-      ∙ ap (λ n. ends_from 0 (take k rows) ++ (n + byte_count (get_or rows k Null)) ∷ []) (zero-add (bytes_needed (take k rows)))
+  ends_more = rw (take_more rows k Null inside, ends-append 0 (take k rows), zero-add (bytes_needed (take k rows)))
 
   pub ended_more : {T : Type 0} (number : T → ℤ) → (old new : List T) (last : T) (end : ℕ) → map number old ≡ map pos (0 ∷ ends_from 0 (take k rows)) → new ≡ old ++ last ∷ [] → number last ≡ pos end →
       end ≡ bytes_needed (take k rows) + byte_count (get_or rows k Null) → map number new ≡ map pos (0 ∷ ends_from 0 (take (k + 1) rows))
   ended_more number old new last end so_far pushed is end_is =
-      let ends = ends_from 0 (take k rows) in
-      ap (map number) pushed ∙ map-append number old (last ∷ []) ∙ (λ i. so_far i ++ is i ∷ [])
-      ∙ sym (map-append pos (0 ∷ ends) (end ∷ [])) ∙ ap (λ n. map pos ((0 ∷ ends) ++ n ∷ [])) end_is ∙ ap (λ l. map pos (0 ∷ l)) (sym ends_more)
+      rw (pushed, map-append number old, so_far, is, end_is, ends_more, map-append pos (ends_from 0 (take k rows)))
 
-  pub started_more : {T : Type 0} (number : T → ℤ) → (bytes : List ℕ) (old new : List T) (start : T) (s : ℕ) → AreStarts number bytes (take k rows) old → new ≡ old ++ start ∷ [] → number start ≡ pos s →
-      BeginsAt bytes (get_or rows k Null) (pos s) → AreStarts number bytes (take (k + 1) rows) new
-  started_more {T} number bytes old new start s so_far pushed is begins =
-      let begins_at : Value → T → Type 0 = λ v x. BeginsAt bytes v (number x) in
-      let more = all_zipped_more begins_at (take k rows) old (get_or rows k Null) start so_far (subst (BeginsAt bytes (get_or rows k Null)) (sym is) begins) in
+  pub started_more : {T : Type 0} (number : T → ℤ) → (bytes : List ℕ) (old new : List T) (x : T) (start : ℕ) → AreStarts number bytes (take k rows) old → new ≡ old ++ x ∷ [] → number x ≡ pos start →
+      BeginsAt bytes (get_or rows k Null) (pos start) → AreStarts number bytes (take (k + 1) rows) new
+  started_more {T} number bytes old new x start so_far pushed is begins =
+      let begins_at : Value → T → Type 0 = λ v y. BeginsAt bytes v (number y) in
+      let more = all_zipped_more begins_at (take k rows) old (get_or rows k Null) x so_far (subst (BeginsAt bytes (get_or rows k Null)) (sym is) begins) in
       subst (λ l. AllZip begins_at l new) (sym (take_more rows k Null inside)) (subst (AllZip begins_at (take k rows ++ get_or rows k Null ∷ [])) (sym pushed) more)
 
   pub joined_more : joined_bytes (take (k + 1) rows) ≡ joined_bytes (take k rows) ++ bytes_of (get_or rows k Null)
-  joined_more =
-      ap joined_bytes (take_more rows k Null inside) ∙ flat_map-append bytes_of (take k rows) (get_or rows k Null ∷ [])
-      ∙ ap (λ l. joined_bytes (take k rows) ++ l) (append-nil (bytes_of (get_or rows k Null)))
+  joined_more = rw (take_more rows k Null inside, flat_map-append bytes_of (take k rows), append-nil (bytes_of (get_or rows k Null)))
 
   -- The end and the start of row k.
   pub end_at : {T : Type 0} (number : T → ℤ) → (ends : List T) (end : T) → map number ends ≡ map pos (0 ∷ ends_from 0 rows) → end ≡ get_or ends (k + 1) end →

@@ -1,11 +1,11 @@
 -- Struct rows at indices, field by field.
-use Rattle.polars_compute.proofs.Common.{◌≡◌, All, ℕ, zero, suc, ◌+◌, ◌≤◌, ◌<◌, pos, Bool, true, false, List, [], ◌∷◌, length, map, get_or, Option, Some, None, Vec}
-use Rattle.polars_compute.proofs.Common.{Global, inl, inr, refl, ap, sym, ◌∙◌, subst, arith, if◌then◌else◌, range_with_len, ltb-true, length-map, get_or-map, ext_get_or}
-use Rattle.polars_compute.proofs.Common.{length-map-range_with_len, get_or-map-range_with_len, max_rows, Bits, Limit, hidden, masked, number_rows, Covers, valid_at}
-use Rattle.polars_compute.proofs.Common.{struct_at, rows, type_of, well_formed, IsField, Shapes, of_struct, shapes_of, Value, Null, Number, is_valid, validities, Column}
-use Rattle.polars_compute.proofs.Common.{Struct, and_first, and_second, both, length-rows, length-tuple_rows, masked_null, masked_valid, rows-Struct, has_fields}
-use Rattle.polars_compute.proofs.Common.{fields_make, type_of-Struct, part_at, bits_for, finished, exceeded_limits, exceeded_in_parts, found, pick_of, take_rows}
-use Rattle.polars_compute.proofs.Common.{is_within, all_within, exceeded_in_taken, live_index, valid_pick}
+use Rattle.polars_compute.proofs.Common.{◌≡◌, All, ℕ, zero, suc, ◌+◌, ◌≤◌, ◌<◌, pos, Bool, true, false, List, [], ◌∷◌, length, map, get_or, Option, Some, None}
+use Rattle.polars_compute.proofs.Common.{Vec, Global, inl, inr, refl, ap, sym, ◌∙◌, subst, arith, if◌then◌else◌, range_with_len, ltb-true, length-map}
+use Rattle.polars_compute.proofs.Common.{get_or-map, max_rows, Bits, Limit, hidden, number_rows, valid_at, struct_at, rows, type_of, well_formed, IsField}
+use Rattle.polars_compute.proofs.Common.{Shapes, of_struct, shapes_of, Value, Null, Number, is_valid, validities, Column, Struct, and_first, and_second}
+use Rattle.polars_compute.proofs.Common.{length-tuple_rows, rows-Struct, has_fields, fields_make, type_of-Struct, part_at, bits_for, finished, exceeded_limits}
+use Rattle.polars_compute.proofs.Common.{exceeded_in_parts, found, pick_of, take_rows, is_within, all_within, exceeded_in_taken, live_index, valid_pick}
+use Rattle.polars_compute.proofs.Common.{length-range_with_len, zero-add, fill_by_all, get_or-range_with_len, list_all-map}
 use Rattle.sel_arrow.specs.Shape.{shape_list}
 use Rattle.sel_gather.specs.Children.{field}
 use Rattle.sel_gather.specs.Steps.{parts_of}
@@ -14,17 +14,16 @@ use Rattle.sel_gather.proofs.FieldsOf.{any_default, field_found}
 use Rattle.sel_gather.proofs.Layouts.{rows_tuples}
 use Rattle.sel_gather.proofs.Rebuilt.{IsTuple, picked_all, tuples_rebuilt}
 use Rattle.sel_gather.proofs.TupleRows.{field_row}
-use Rattle.polars_compute.proofs.Takes.{covers_for, length-pick}
+use Rattle.polars_compute.proofs.Takes.{covers_for, length-pick, row_under, all_pass}
 
 -- ---- indices with a null for each null row
 
 shown_hidden : (validity : Option Bits) (bits : List Bool) (places : List ℕ) →
     hidden (map (valid_pick validity) (map pick_of (hidden bits (map (λ x. Number (pos x)) places)))) (map (λ x. Number (pos x)) places) ≡ map (live_index validity) (hidden bits (map (λ x. Number (pos x)) places))
-shown_hidden validity [] [] = refl
 shown_hidden validity [] (place ∷ places) = ap (λ l. live_index validity (Number (pos place)) ∷ l) (shown_hidden validity [] places)
-shown_hidden validity (b ∷ bits) [] = refl
 shown_hidden validity (true ∷ bits) (place ∷ places) = ap (λ l. live_index validity (Number (pos place)) ∷ l) (shown_hidden validity bits places)
 shown_hidden validity (false ∷ bits) (place ∷ places) = ap (λ l. Null ∷ l) (shown_hidden validity bits places)
+shown_hidden validity bits places = refl
 
 -- Under the validity of the rows at the indices, the places are the indices of valid rows.
 pub live_rows : (validity named live : Option Bits) (places : List ℕ) →
@@ -43,9 +42,7 @@ one_within n validity index within = by (valid_pick validity (pick_of index))
     by false = refl
 
 pub live_within : (n : ℕ) (validity : Option Bits) (indices : List Value) → all_within n indices ≡ true → all_within n (map (live_index validity) indices) ≡ true
-live_within n validity [] within = refl
-live_within n validity (index ∷ indices) within =
-    both (is_within n (live_index validity index)) (all_within n (map (live_index validity) indices)) (one_within n validity index (and_first _ _ within)) (live_within n validity indices (and_second _ _ within))
+live_within n validity indices within = list_all-map (is_within n) (live_index validity) indices ∙ all_pass (is_within n) _ (one_within n validity) indices within
 
 -- ---- the rows of the fields
 
@@ -56,37 +53,24 @@ module _ (n : ℕ) (fields : Vec Column Global) (validity : Option Bits) (formed
   abbrev types : Shapes
   types = shapes_of (map type_of fields.items)
 
-  abbrev plain : List Value
-  plain = map (struct_at (map rows fields.items)) (range_with_len 0 n)
-
   pub length-whole : length (rows whole) ≡ n
   length-whole = ap length (rows-Struct n fields validity) ∙ length-tuple_rows n (map rows fields.items) validity
 
-  covered : Covers validity (length plain)
-  covered = λ v there. (has_fields n fields validity formed).covered v there ∙ sym (length-map-range_with_len (struct_at (map rows fields.items)) 0 n)
-
-  -- The row at an index is valid by the validity.
-  valid_here : (i : ℕ) → i < n → is_valid (get_or (rows whole) i Null) ≡ valid_at validity i
-  valid_here i inside = by (valid_at validity i) refl
-    where
-      fs : List (List Value)
-      fs = map rows fields.items
-
-      below : i < length plain
-      below = omega (arith, inside, length-map-range_with_len (struct_at fs) 0 n)
-
-      row : get_or (rows whole) i Null ≡ get_or (masked validity plain) i Null
-      row = ap (λ l. get_or l i Null) (rows-Struct n fields validity)
-
-      by : (b : Bool) → valid_at validity i ≡ b → is_valid (get_or (rows whole) i Null) ≡ valid_at validity i
-      by true e =
-          ap is_valid (row ∙ masked_valid validity plain i e below covered ∙ get_or-map-range_with_len (struct_at fs) 0 n i i Null inside (omega arith)) ∙ sym e
-      by false e = ap is_valid (row ∙ masked_null validity plain i e below covered) ∙ sym e
-
-  null_here : (i : ℕ) → i < n → valid_at validity i ≡ false → get_or (rows whole) i Null ≡ Null
-  null_here i inside e =
+  -- The row at an index by the validity.
+  row_here : (i : ℕ) → i < n → get_or (rows whole) i Null ≡ (if valid_at validity i then struct_at (map rows fields.items) i else Null)
+  row_here i inside =
+      let long = length-range_with_len 0 n in
       ap (λ l. get_or l i Null) (rows-Struct n fields validity)
-      ∙ masked_null validity plain i e (omega (arith, inside, length-map-range_with_len (struct_at (map rows fields.items)) 0 n)) covered
+      ∙ row_under (struct_at (map rows fields.items)) validity (range_with_len 0 n) 0 i (omega (arith, inside, long))
+      (λ v there. (has_fields n fields validity formed).covered v there ∙ sym long)
+      ∙ ap (λ j. if valid_at validity i then struct_at (map rows fields.items) j else Null) (get_or-range_with_len 0 n i 0 inside ∙ zero-add i)
+
+  valid_here : (i : ℕ) → i < n → is_valid (get_or (rows whole) i Null) ≡ valid_at validity i
+  valid_here i inside = ap is_valid (row_here i inside) ∙ by (valid_at validity i)
+    where
+      by : (b : Bool) → is_valid (if b then struct_at (map rows fields.items) i else Null) ≡ b
+      by true = refl
+      by false = refl
 
   kind : type_of whole ≡ of_struct types
   kind = type_of-Struct n fields validity
@@ -103,7 +87,7 @@ module _ (n : ℕ) (fields : Vec Column Global) (validity : Option Bits) (formed
 
       by : (b : Bool) → valid_at validity i ≡ b → found Null (rows (field k whole) ∷ []) (pick_of (if b then Number (pos i) else Null)) ≡ part_at k (get_or (rows whole) i Null)
       by true e = field_row whole types k i kind (omega (arith, h, many)) (valid_here i inside ∙ e)
-      by false e = sym (ap (part_at k) (null_here i inside e))
+      by false e = sym (ap (part_at k) (row_here i inside ∙ ap (λ b. if b then struct_at (map rows fields.items) i else Null) e))
   field_one k h index within = refl
 
   -- The rows of a field at the indices of valid rows are the values of the struct rows.
@@ -113,36 +97,23 @@ module _ (n : ℕ) (fields : Vec Column Global) (validity : Option Bits) (formed
   field_taken k h (index ∷ indices) within =
       (λ i. field_one k h index (and_first _ _ within) i ∷ field_taken k h indices (and_second _ _ within) i)
 
-  valid_one : (index : Value) → is_within n index ≡ true → is_valid (found Null (rows whole ∷ []) (pick_of index)) ≡ valid_pick validity (pick_of index)
-  valid_one (Number (pos i)) within = valid_here i (ltb-true i n within)
-  valid_one index within = refl
-
   taken_valid : (indices : List Value) → all_within n indices ≡ true → validities (take_rows (rows whole) indices) ≡ map (valid_pick validity) (map pick_of indices)
   taken_valid [] within = refl
-  taken_valid (index ∷ indices) within =
-      (λ i. valid_one index (and_first _ _ within) i ∷ taken_valid indices (and_second _ _ within) i)
+  taken_valid (Number (pos i) ∷ indices) within = (λ j. valid_here i (ltb-true i n (and_first _ _ within)) j ∷ taken_valid indices (and_second _ _ within) j)
+  taken_valid (index ∷ indices) within = ap (λ l. false ∷ l) (taken_valid indices (and_second (is_within n index) (all_within n indices) within))
+
+  field_at : (k : ℕ) → k < length fields.items → get_or fields.items k whole ≡ field k whole
+  field_at k below =
+      let here = get_or fields.items k whole in
+      field_found whole k n fields validity here refl below (any_default fields.items k whole here below)
 
   -- The rows of each field at the indices of valid rows, by position.
   fields_taken : (taken : List (List Value)) (indices : List Value) → all_within n indices ≡ true →
       taken ≡ map (λ c. take_rows (rows c) (map (live_index validity) indices)) fields.items → taken ≡ parts_of (length fields.items) (take_rows (rows whole) indices)
   fields_taken taken indices within is =
-      let live = map (live_index validity) indices in
-      let of = λ (c : Column). take_rows (rows c) live in
-      let vs = take_rows (rows whole) indices in
-      let part = λ (j : ℕ). map (part_at j) vs in
-      let count = length fields.items in
-      let size = length-map-range_with_len part 0 count in
-      is
-      ∙ ext_get_or [] (map of fields.items) (parts_of count vs) (length-map fields.items of ∙ sym size)
-      (λ k h.
-      let below : k < count = omega (arith, h, length-map fields.items of) in
-      get_or-map of fields.items k whole [] below
-      ∙ ap of (field_found whole k n fields validity (get_or fields.items k whole) refl below (any k below))
-      ∙ field_taken k below indices within
-      ∙ sym (get_or-map-range_with_len part 0 count k k [] below (omega arith)))
-    where
-      any : (k : ℕ) → k < length fields.items → get_or fields.items k whole ≡ get_or fields.items k (get_or fields.items k whole)
-      any k below = any_default fields.items k whole (get_or fields.items k whole) below
+      let of = λ (c : Column). take_rows (rows c) (map (live_index validity) indices) in
+      fill_by_all (λ j. map (part_at j) (take_rows (rows whole) indices)) taken (length fields.items) [] (ap length is ∙ length-map fields.items of)
+      (λ k below. ap (λ l. get_or l k []) is ∙ get_or-map of fields.items k whole [] below ∙ ap of (field_at k below) ∙ field_taken k below indices within)
 
   pub struct_taken : (count : ℕ) (parts : Vec Column Global) (seen : Option Bits) (indices : List Value) → all_within n indices ≡ true → count ≡ length indices →
       map rows parts.items ≡ map (λ c. take_rows (rows c) (map (live_index validity) indices)) fields.items →
@@ -185,9 +156,7 @@ module _ (n : ℕ) (fields : Vec Column Global) (validity : Option Bits) (formed
       at : (k : ℕ) → k < length fields.items → take_rows (rows (get_or fields.items k whole)) live ≡ map (part_at (0 + k)) vs
       at k below =
           let place : k ≡ 0 + k = omega arith in
-          ap (λ c. take_rows (rows c) live) (field_found whole k n fields validity (get_or fields.items k whole) refl below (any_default fields.items k whole (get_or fields.items k whole) below))
-          ∙ field_taken k below indices within
-          ∙ ap (λ m. map (part_at m) vs) place
+          ap (λ c. take_rows (rows c) live) (field_at k below) ∙ field_taken k below indices within ∙ ap (λ m. map (part_at m) vs) place
 
       from : (cs : List Column) (j : ℕ) → ((k : ℕ) → k < length cs → take_rows (rows (get_or cs k whole)) live ≡ map (part_at (j + k)) vs) → exceeded_in_taken cs live limit → exceeded_in_parts (shapes_of (map type_of cs)) j vs limit
       from [] j is h = h
@@ -207,7 +176,3 @@ pub past_field : (cs : List Column) (indices : List Value) (i : ℕ) (c : Column
 past_field [] indices i c limit lt is h = absurd (omega (arith, lt))
 past_field (x ∷ cs) indices zero c limit lt is h = inl (subst (λ y. exceeded_limits (type_of y) (take_rows (rows y) indices) limit) is h)
 past_field (x ∷ cs) indices (suc i) c limit lt is h = inr (past_field cs indices i c limit (omega arith) is h)
-
--- A taken field is a field.
-pub taken_is_field : (column part : Column) (indices : List Value) → rows part ≡ take_rows (rows column) indices → well_formed part ≡ true → IsField (length indices) part
-taken_is_field column part indices is formed = (sym (length-rows part) ∙ ap length is ∙ length-pick Null (rows column ∷ []) indices, formed)

@@ -34,6 +34,7 @@ const LONG_PART: usize = 32;
 /// `OutOfMemory` if an allocation fails; `SizeLimit` if the result exceeds a limit: more than
 /// 4,294,967,295 rows at some depth, or the limits on bytes and data buffers of its type. With an
 /// `output_height` of 0 only `OutOfMemory`.
+#[tactic(auto, using(crate::proofs::Flattening::flat_length))]
 pub fn horizontal_flatten_unchecked(
     alloc: Global,
     arrays: &[ArrayRef],
@@ -128,6 +129,7 @@ fn flat_rows(widths: &[usize], height: usize) -> Option<usize>
 }
 
 // Returns the sum of the widths.
+#[tactic(auto, using(crate::proofs::Flattening::width_more))]
 fn width_of_row(widths: &[usize]) -> u128
     ensures { result ≡ row_width widths.now }
 {
@@ -166,6 +168,7 @@ fn collect_flat(
 }
 
 // Returns references to the columns, or `OutOfMemory`.
+#[tactic(auto, using(crate::proofs::Flattening::columns_found))]
 fn columns_of<'a>(alloc: Global, arrays: &'a [ArrayRef]) -> PolarsResult<Vec<&'a Column>>
     ensures columns { IfOk result (λ found. map (λ c. c.now) found.items ≡
         array_columns arrays.now) }
@@ -179,6 +182,7 @@ fn columns_of<'a>(alloc: Global, arrays: &'a [ArrayRef]) -> PolarsResult<Vec<&'a
 }
 
 // Returns the lane of each array, or `OutOfMemory`.
+#[tactic(auto, using(crate::proofs::Flattening::lanes_made))]
 fn lanes_of_parts(alloc: Global, arrays: &[ArrayRef], widths: &[usize]) -> PolarsResult<Vec<Lane>>
     requires paired { length arrays.now ≡ length widths.now }
     requires few { row_width widths.now ≤ max_rows }

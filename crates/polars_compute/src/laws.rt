@@ -32,6 +32,7 @@ pub fn law_select_rows()
 /// mask, and filtered by the complement of the mask equals its false values filtered likewise.
 ///
 /// Evaluators of when-then-otherwise depend on it.
+#[tactic(auto, using(crate::proofs::LawProofs::keeps_then, crate::proofs::LawProofs::keeps_otherwise))]
 pub fn law_choice_filtered()
     ensures chosen { KeepsThen Value }
     ensures otherwise { KeepsOtherwise Value }
@@ -41,6 +42,7 @@ pub fn law_choice_filtered()
 /// if-then-else with the value repeated to the length of the mask.
 ///
 /// Evaluators of when-then-otherwise depend on it.
+#[tactic(auto, using(sel_ternary::proofs::Chosen::repeated_then, sel_ternary::proofs::Chosen::repeated_otherwise, sel_ternary::proofs::Chosen::repeated_both))]
 pub fn law_broadcast_is_repeat()
     ensures chosen { RepeatsThen Value }
     ensures otherwise { RepeatsOtherwise Value }
@@ -51,6 +53,7 @@ pub fn law_broadcast_is_repeat()
 /// null value.
 ///
 /// Dictionary encoders depend on it.
+#[tactic(auto, using(crate::proofs::Dictionaries::none_null))]
 pub fn law_propagate()
     ensures decodes { PropagationDecodes }
     ensures valid { PropagationLeavesNoNull }
@@ -62,6 +65,7 @@ pub fn law_propagate()
 /// every kernel definition, whatever their layout. The rows that a mask keeps require no more than
 /// all rows. The rows of a well-formed column exceed no limit. Rows exceed a limit exactly if what
 /// they require is above it. Batch executors depend on it.
+#[tactic(auto, using(crate::proofs::LawProofs::kept_needs, crate::proofs::LawProofs::needs_decide, crate::proofs::LawProofs::needs_fit))]
 pub fn law_equal_meaning()
     ensures alike { EqualMeaning }
     ensures kept { KeptNeedsNoMore }

@@ -34,6 +34,7 @@ use std::alloc::Global;
 ///
 /// # Errors
 /// `OutOfMemory` if an allocation fails.
+#[tactic(auto, using(crate::proofs::Dictionaries::values_stay))]
 pub fn propagate_dictionary_value_nulls(
     alloc: Global,
     keys: &PrimitiveArray<u32>,
@@ -84,6 +85,7 @@ fn validity_of_nulls(values: &Utf8ViewArray) -> Option<&Bitmap>
 }
 
 // Returns the same strings without a validity bitmap; no row may be null.
+#[tactic(auto, using(crate::proofs::Dictionaries::bare_rows))]
 fn without_validity(values: Utf8ViewArray) -> Utf8ViewArray
     requires { count_by is_null (utf8view_rows values) ≡ 0 }
     ensures rows { utf8view_rows result ≡ utf8view_rows values }
@@ -104,6 +106,7 @@ fn without_validity(values: Utf8ViewArray) -> Utf8ViewArray
 }
 
 // Returns the number of true bits before each bit, null where the bit is false.
+#[tactic(auto, using(crate::proofs::Dictionaries::counts_long))]
 fn ranks_of(alloc: Global, validity: &Bitmap) -> PolarsResult<PrimitiveArray<u32>>
     requires { length validity.now.bits ≤ max_rows }
     ensures values { IfOk result (λ ranks. ranks.values ≡ map (λ i. count_true
@@ -121,6 +124,7 @@ fn ranks_of(alloc: Global, validity: &Bitmap) -> PolarsResult<PrimitiveArray<u32
 }
 
 // Returns the number of true bits before each bit.
+#[tactic(auto, using(crate::proofs::Dictionaries::counting))]
 fn counts_before(alloc: Global, bits: &Bitmap) -> PolarsResult<Vec<u32>>
     requires { length bits.now.bits ≤ max_rows }
     ensures counts { IfOk result (λ counts. counts.items ≡

@@ -20,6 +20,7 @@ use std::alloc::Global;
 ///
 /// # Errors
 /// `OutOfMemory` if an allocation fails.
+#[tactic(auto, using(crate::proofs::LawProofs::all_inside, crate::proofs::LawProofs::reversed_take))]
 pub fn reverse(alloc: Global, column: &ArrayRef) -> PolarsResult<ArrayRef>
     ensures rows { IfOk result (λ reversed. rows reversed.column ≡
         reverse (rows column.now.column)) }

@@ -30,7 +30,7 @@ impl Runs for MaskRuns<'_> {
     ghost picks = { λ runs. map place_pick (kept_from runs.at (drop runs.at runs.mask.now.bits)) };
 
     #[inline(always)]
-    #[tactic(auto, using(crate::proofs::Places::run_kept, crate::proofs::Places::run_some))]
+    #[tactic(auto, using(crate::proofs::Selects::run_kept, crate::proofs::Selects::run_some))]
     fn next_run(&mut self) -> Run {
         let start = self.at + self.mask.zeros_from(self.at);
         let len = self.mask.ones_from(start);
@@ -51,7 +51,7 @@ impl Runs for MaskRuns<'_> {
     }
 
     #[inline(always)]
-    #[tactic(auto, using(crate::proofs::KeptRuns::kept_picked))]
+    #[tactic(auto, using(crate::proofs::Selects::kept_picked))]
     fn has_nulls(&self) -> bool {
         false
     }
@@ -94,11 +94,13 @@ impl Places for Taken<'_> {
     ghost picks = { λ taken. map pick_of (primitive_rows taken.indices.now) };
 
     #[inline(always)]
+    #[tactic(auto, using(crate::proofs::Selects::taken_places))]
     fn len(&self) -> usize {
         self.indices.len()
     }
 
     #[inline(always)]
+    #[tactic(auto, using(crate::proofs::Selects::taken_places))]
     fn get(&self, k: usize) -> Option<(u32, u32)> {
         pick_at(self.indices, k)
     }

@@ -58,6 +58,7 @@ pub fn select_rows(
 }
 
 // Returns the rows of one column at `indices` among the rows that `mask` keeps.
+#[tactic(auto, using(crate::proofs::SelectedRows::kept_count))]
 fn select_column(
     alloc: Global,
     column: &ArrayRef,

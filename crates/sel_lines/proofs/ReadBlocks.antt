@@ -8,7 +8,7 @@ use Rattle.sel_gather.proofs.ItemRuns.{joined-append, listed_values}
 use Rattle.sel_gather.proofs.Rebuilt.{IsBlock, blocks_length, blocks_rebuilt}
 use Rattle.sel_lines.specs.declared.blocks.Blocks.{Blocks}
 use Rattle.polars_compute.specs.Entries.{fixed_get, at_each, is_get_error}
-use Rattle.polars_compute.proofs.Blocks.{long_rows}
+use Rattle.polars_compute.proofs.Elements.{long_rows}
 use Rattle.sel_lines.specs.declared.rows.Rows.{Rows}
 use Rattle.sel_lines.specs.Words.{if_both}
 use Rattle.sel_lines.proofs.ReadLists.{hidden-append, length-hidden}

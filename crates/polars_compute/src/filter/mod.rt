@@ -54,6 +54,7 @@ const LONG_RUN: usize = 8;
 ///
 /// # Errors
 /// `OutOfMemory` if an allocation fails.
+#[tactic(auto, using(crate::proofs::Selects::effective_masks))]
 pub fn filter(alloc: Global, array: &ArrayRef, mask: &BooleanArray) -> PolarsResult<ArrayRef>
     requires { length (rows array.now.column) ≡ length (boolean_rows mask.now) }
     ensures rows { IfOk result (λ kept. rows kept.column ≡
@@ -79,6 +80,7 @@ pub fn filter(alloc: Global, array: &ArrayRef, mask: &BooleanArray) -> PolarsRes
 ///
 /// # Errors
 /// `OutOfMemory` if an allocation fails.
+#[tactic(auto, using(crate::proofs::Selects::run_selected))]
 pub fn filter_with_bitmap(alloc: Global, array: &ArrayRef, mask: &Bitmap) -> PolarsResult<ArrayRef>
     requires { length (rows array.now.column) ≡ length mask.now.bits }
     ensures rows { IfOk result (λ kept. rows kept.column ≡
@@ -102,6 +104,7 @@ pub fn filter_with_bitmap(alloc: Global, array: &ArrayRef, mask: &Bitmap) -> Pol
 ///
 /// # Errors
 /// `OutOfMemory` if an allocation fails.
+#[tactic(auto, using(crate::proofs::Selects::run_selected))]
 pub fn filter_selected(
     alloc: Global,
     array: &ArrayRef,
@@ -125,6 +128,7 @@ pub fn filter_selected(
 /// field, fixed-size lists of primitive values list by list, and binary and other list columns by
 /// runs of set bits.
 #[cycle(filtering)]
+#[tactic(auto, using(crate::proofs::KeptColumns::row_counts))]
 fn filter_column(
     alloc: Global,
     column: &Column,
@@ -242,6 +246,7 @@ fn filter_numbers<T: ArrowPrimitive>(
 }
 
 /// Returns the fixed-size lists whose bit is set; `column` has these parts.
+#[tactic(auto, using(crate::proofs::KeptColumns::row_counts))]
 fn filter_lists(
     alloc: Global,
     column: &Column,
@@ -406,7 +411,7 @@ fn filter_views(
 }
 
 /// Returns the strings whose bit is set; only their views are copied.
-#[tactic(auto, using(crate::proofs::Selects::kept_texts))]
+#[tactic(auto, using(crate::proofs::Selects::passed_kept))]
 pub(crate) fn filter_texts(
     alloc: Global,
     array: &Utf8ViewArray,

@@ -33,6 +33,7 @@ impl Selection {
     ///
     /// # Errors
     /// `OutOfMemory` if an allocation fails.
+    #[tactic(auto, using(crate::proofs::Selects::effective_masks))]
     pub fn new(alloc: Global, mask: &BooleanArray) -> PolarsResult<Selection>
         ensures mask { IfOk result (λ selection. selection.mask.bits ≡
             effective_mask (boolean_rows mask.now)) }

@@ -88,6 +88,7 @@ fn narrow_index<I: Index>(index: I) -> u32
 ///
 /// # Errors
 /// Those of [`take_unchecked`].
+#[tactic(auto, using(crate::proofs::Selects::row_lengths))]
 pub(crate) fn take_binary<O: Offset>(
     alloc: Global,
     values: &BinaryArray<O>,

@@ -24,6 +24,7 @@ const NO_BYTES: View = View {
 };
 
 /// Returns the views at `indices`; the data buffers are shared.
+#[tactic(auto, using(crate::proofs::Selects::row_lengths))]
 pub(crate) fn take_views(
     alloc: Global,
     values: &BinaryViewArray,

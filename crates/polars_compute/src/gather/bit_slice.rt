@@ -54,6 +54,7 @@ impl BitSlice<'_> {
     /// # Requires
     /// `i` is less than the number of bits, and at most 2^32 - 1.
     #[inline(always)]
+    #[tactic(auto, using(sel_bits::proofs::BitLists::read_bit, sel_bits::proofs::BitLists::length_bits_from))]
     pub(crate) fn get(&self, i: usize) -> bool
         requires inside { i < length self.now }
         requires few { i ≤ max_rows }

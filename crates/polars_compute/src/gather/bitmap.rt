@@ -22,6 +22,7 @@ use std::alloc::Global;
 ///
 /// # Errors
 /// `OutOfMemory` if an allocation fails.
+#[tactic(auto, using(crate::proofs::Takes::unchanged))]
 pub fn take_bitmap_unchecked(
     alloc: Global,
     values: &Bitmap,
@@ -63,6 +64,7 @@ fn take_bits_at<R: PlaceRule>(
 
 /// Packs the bits at the positions of `indices` into a word; bit 0 is bit `shift` of the first byte.
 #[inline]
+#[tactic(auto, using(crate::proofs::Takes::word_ends))]
 fn word_of_places<R: PlaceRule>(bytes: &[u8], shift: usize, len: usize, indices: &[u32]) -> u64
     requires few { length indices.now ≤ 64 }
     requires shift { shift < 8 }
@@ -139,6 +141,7 @@ pub(crate) fn take_bits_or(
 /// others.
 ///
 /// Takes the bits at all indices, then sets those of null indices a word at a time.
+#[tactic(auto, using(crate::proofs::Takes::near_below))]
 fn take_valid_bits(
     alloc: Global,
     values: &Bitmap,

@@ -21,6 +21,7 @@ use std::alloc::Global;
 ///
 /// # Errors
 /// `OutOfMemory` if an allocation fails.
+#[tactic(auto, using(crate::proofs::Selects::row_lengths))]
 pub fn take_unchecked(
     alloc: Global,
     values: &BooleanArray,

@@ -44,7 +44,7 @@ pub(crate) fn collect_spans<O: Offset>(
     ensures refusal { IfErr result (IsLimitOrMemory (ExceedsBytes (O.number O.GREATEST)
         (take_rows (plain_rows values.now) (primitive_rows indices)))) }
 {
-    let (ends, bytes) = collect_joined(alloc, values, &indices)?;
+    let (ends, bytes) = collect_narrow(alloc, values, &indices)?;
     let offsets = OffsetsBuffer::of_rising(ends)?;
     let values = Buffer::from_vec(bytes)?;
     let PrimitiveArray { validity, .. } = indices;
@@ -55,11 +55,12 @@ pub(crate) fn collect_spans<O: Offset>(
     })
 }
 
-/// Returns the offsets of the rows of `values` at `indices`, and their bytes, concatenated.
+/// Returns the offsets of the rows of `values` at `indices`, and their bytes, concatenated. Keeps
+/// the offsets at which the rows begin in `values` as narrow as the number of its bytes allows.
 ///
 /// # Errors
 /// Those of [`collect_spans`].
-fn collect_joined<O: Offset>(
+fn collect_narrow<O: Offset>(
     alloc: Global,
     values: &BinaryArray<O>,
     indices: &IdxArr,
@@ -75,7 +76,36 @@ fn collect_joined<O: Offset>(
     ensures refusal { IfErr result (IsLimitOrMemory (ExceedsBytes (O.number O.GREATEST)
         (take_rows (plain_rows values.now) (primitive_rows indices.now)))) }
 {
-    let (ends, starts, count) = spans_at(alloc, values, indices)?;
+    if values.values.len() <= i32::MAX as usize {
+        return collect_joined::<O, i32>(alloc, values, indices);
+    }
+    collect_joined::<O, i64>(alloc, values, indices)
+}
+
+/// Returns the offsets of the rows of `values` at `indices`, and their bytes, concatenated. The
+/// offsets at which the rows begin in `values` have the type `S` meanwhile.
+///
+/// # Errors
+/// Those of [`collect_spans`].
+fn collect_joined<O: Offset, S: Offset>(
+    alloc: Global,
+    values: &BinaryArray<O>,
+    indices: &IdxArr,
+) -> PolarsResult<(Vec<O>, Vec<u8>)>
+    requires inside { IsTrue
+        (all_within (rows_between values.now.offsets) (primitive_rows indices.now)) }
+    requires narrow { pos (length values.now.values) ≤ℤ S.number S.GREATEST }
+    ensures ends { IfOk result (λ joined. map O.number joined.0.items ≡ map pos
+        (0 ∷ ends_from 0 (take_rows (plain_rows values.now) (primitive_rows indices.now)))) }
+    ensures bytes { IfOk result (λ joined. joined.1.items ≡
+        joined_bytes (take_rows (plain_rows values.now) (primitive_rows indices.now))) }
+    ensures few { IfOk result (λ joined. length joined.1.items ≤ 9223372036854775807) }
+    ensures fits { IfOk result (λ _. pos (bytes_needed
+        (take_rows (plain_rows values.now) (primitive_rows indices.now))) ≤ℤ O.number O.GREATEST) }
+    ensures refusal { IfErr result (IsLimitOrMemory (ExceedsBytes (O.number O.GREATEST)
+        (take_rows (plain_rows values.now) (primitive_rows indices.now)))) }
+{
+    let (ends, starts, count) = spans_at::<O, S>(alloc, values, indices)?;
     let bytes = values.values.as_slice();
     // (includes room for the bytes that are cut off after the last row)
     let mut joined = Vec::with_capacity(alloc, count.saturating_add(SHORT_ROW))?;
@@ -93,15 +123,17 @@ fn collect_joined<O: Offset>(
 ///
 /// # Errors
 /// Those of [`collect_spans`].
-fn spans_at<O: Offset>(
+fn spans_at<O: Offset, S: Offset>(
     alloc: Global,
     values: &BinaryArray<O>,
     indices: &IdxArr,
-) -> PolarsResult<(Vec<O>, Vec<O>, usize)>
-    requires { IsTrue (all_within (rows_between values.now.offsets) (primitive_rows indices.now)) }
+) -> PolarsResult<(Vec<O>, Vec<S>, usize)>
+    requires inside { IsTrue
+        (all_within (rows_between values.now.offsets) (primitive_rows indices.now)) }
+    requires narrow { pos (length values.now.values) ≤ℤ S.number S.GREATEST }
     ensures ends { IfOk result (λ spans. map O.number spans.0.items ≡ map pos
         (0 ∷ ends_from 0 (take_rows (plain_rows values.now) (primitive_rows indices.now)))) }
-    ensures starts { IfOk result (λ spans. AreStarts O.number values.now.values
+    ensures starts { IfOk result (λ spans. AreStarts S.number values.now.values
         (take_rows (plain_rows values.now) (primitive_rows indices.now)) spans.1.items) }
     ensures count { IfOk result (λ spans. spans.2 ≡
         bytes_needed (take_rows (plain_rows values.now) (primitive_rows indices.now))) }
@@ -124,7 +156,7 @@ fn spans_at<O: Offset>(
             return Err(PolarsError::SizeLimit(Limit::Bytes));
         }
         end += len;
-        starts.push_reserved(start);
+        starts.push_reserved(offset_of(start));
         ends.push_reserved(offset_of(end));
     }
     Ok((ends, starts, end))
@@ -153,19 +185,19 @@ fn offset_of<O: Offset>(n: usize) -> O
 ///
 /// Reads the first offset twice where `valid` is false, so that no branch depends on it.
 #[inline(always)]
-fn span_if<O: Offset>(offsets: &[O], place: u32, valid: bool) -> (O, usize)
+fn span_if<O: Offset>(offsets: &[O], place: u32, valid: bool) -> (usize, usize)
     requires rising { IsOffsets O.number offsets.now }
     requires inside { IsTrue valid → place + 1 < length offsets.now }
-    ensures start { O.number result.0 ≡
-        pos (slice_index (magnitudes O.number offsets.now) (if valid then place else 0)) }
+    ensures start { result.0 ≡
+        slice_index (magnitudes O.number offsets.now) (if valid then place else 0) }
     ensures len { slice_index (magnitudes O.number offsets.now) (if valid then place else 0)
         + result.1 ≡
         slice_index (magnitudes O.number offsets.now) (if valid then place + 1 else 0) }
 {
     let first = zero_unless(valid, place as usize);
     let next = zero_unless(valid, place as usize + 1);
-    let start = offsets[first];
-    (start, offsets[next].to_position() - start.to_position())
+    let start = offsets[first].to_position();
+    (start, offsets[next].to_position() - start)
 }
 
 /// Returns `n` if `valid` is true, otherwise 0.

@@ -219,6 +219,7 @@ fn take_nulls(values: &NullArray, indices: &IdxArr) -> NullArray
 }
 
 /// Returns whether every non-null index is less than `len`.
+#[tactic(auto, using(crate::proofs::Takes::below_rows))]
 pub fn indices_in_bounds(indices: &IdxArr, len: usize) -> bool
     ensures { result ≡ all_within len (primitive_rows indices.now) }
 {
@@ -241,6 +242,7 @@ pub fn indices_in_bounds_of<I: Index>(indices: &PrimitiveArray<I>, len: usize) -
 }
 
 /// Returns whether every index is less than `len`.
+#[tactic(auto, using(crate::proofs::Takes::few_below))]
 pub fn idx_slice_in_bounds(indices: &[u32], len: usize) -> bool
     ensures { result ≡ all_below len indices.now }
 {
@@ -280,6 +282,7 @@ fn row_count<T: NativeType>(column: &PrimitiveArray<T>) -> usize
 /// Returns whether the index in row `k` is null or less than `len`.
 ///
 /// The validity is read only if the stored value is out of bounds.
+#[tactic(auto, using(crate::proofs::Selects::row_lengths))]
 fn is_row_in_bounds<I: NativeType>(indices: &PrimitiveArray<I>, k: usize, len: usize) -> bool
     requires { k < length (primitive_rows indices.now) }
     ensures { result ≡ is_within len (slice_index_or (primitive_rows indices.now) k Null) }

@@ -24,6 +24,7 @@ use std::alloc::Global;
 ///
 /// # Errors
 /// `OutOfMemory` if an allocation fails.
+#[tactic(auto, using(crate::proofs::Selects::row_lengths))]
 pub fn take_primitive_unchecked<T: NativeType>(
     alloc: Global,
     arr: &PrimitiveArray<T>,
@@ -63,6 +64,7 @@ pub(crate) fn take_values<T: Copy>(
 }
 
 /// Returns the value at each index.
+#[tactic(auto, using(std::proofs::lemmas::List::take_all))]
 fn take_places<T: Copy>(
     alloc: Global,
     values: &[T],
@@ -83,6 +85,7 @@ fn take_places<T: Copy>(
 
 /// Returns the value at each index that is in bounds, and the first value for the others; `filler`
 /// if there are no values.
+#[tactic(auto, using(std::proofs::lemmas::List::take_all))]
 fn take_near_places<T: Copy>(
     alloc: Global,
     values: &[T],

@@ -1,11 +1,9 @@
-use Rattle.polars_compute.proofs.Common.{◌∙◌, All, ap, sym, subst, map, length, arith, All-get_or, All-push, count_true, rows, type_of, well_formed, IsField, shapes_of}
-use Rattle.polars_compute.proofs.Common.{mapped_more, tuples_type, length-rows, length-tuple_rows, rows-Struct, has_fields, type_of-Struct, size_of, sizes_of, one_size}
-use Rattle.polars_compute.proofs.Common.{few_rows}
-use Rattle.polars_compute.proofs.KeptTuples.{kept_of, kept_struct_rows, kept_struct_formed, kept_is_field}
+use Rattle.polars_compute.proofs.Common.{◌∙◌, All, ap, sym, subst, map, length, arith, All-get_or, count_true, rows, type_of, well_formed, IsField, shapes_of}
+use Rattle.polars_compute.proofs.Common.{tuples_type, length-rows, length-tuple_rows, rows-Struct, has_fields, type_of-Struct, size_of, sizes_of, one_size}
+use Rattle.polars_compute.proofs.Common.{length-select}
+use Rattle.polars_compute.proofs.KeptColumns.{kept_of, kept_struct_formed, kept_struct_rows}
+use Rattle.polars_compute.proofs.SelectedRows.{fields_more}
 use Rattle.polars_compute.proofs.filter.+filtering.Goals as goal
-
-pub filter_column-filter_runs-requires-clause-few : goal.filter_column-filter_runs-requires-clause-few
-filter_column-filter_runs-requires-clause-few t c = omega (arith, few_rows c.args.column.now c.requires.formed, length-rows c.args.column.now, c.requires.long)
 
 pub filter_column-filter_struct-requires : goal.filter_column-filter_struct-requires
 filter_column-filter_struct-requires t c =
@@ -47,17 +45,10 @@ filter_fields-filter_column-requires t c =
 pub filter_fields-loop-column-preserved : goal.filter_fields-loop-column-preserved
 filter_fields-loop-column-preserved t c =
     let ms = c.args.mask.now.bits in
-    let lt = c.loop-column-test.true in
-    let is = c.column-item.is in
-    let i = c.loop-column.column-index in
-    let column = c.column-item.result in
-    let old = c.loop-column.kept.items in
-    let part = c.in_ok-column.field-0.column in
-    let pushed = c.in_ok-push.ensures.items in
     let fits = IsField (length ms) in
-    let field = subst fits (sym is) (All-get_or fits c.args.columns.now i column lt c.requires.fields) in
-    record {
-      rows = mapped_more rows (kept_of ms) c.args.columns.now old c.push.new.self.items i column part lt is pushed c.in_ok-column.ensures.rows c.loop-column.invariant.rows;
-      dtypes = mapped_more type_of type_of c.args.columns.now old c.push.new.self.items i column part lt is pushed c.in_ok-column.ensures.dtype c.loop-column.invariant.dtypes;
-      fields = subst (All (IsField (count_true ms))) (sym pushed) (All-push (IsField (count_true ms)) old part c.loop-column.invariant.fields (kept_is_field column part ms c.in_ok-column.ensures.rows field c.in_ok-column.field-0.formed));
-    }
+    let column = c.column-item.result in
+    let part = c.in_ok-column.field-0 in
+    let field = subst fits (sym c.column-item.is) (All-get_or fits c.args.columns.now c.loop-column.column-index column c.loop-column-test.true c.requires.fields) in
+    fields_more (kept_of ms) (count_true ms) c.args.columns.now c.loop-column.kept.items c.push.new.self.items c.loop-column.column-index column part.column
+    c.loop-column-test.true c.column-item.is c.in_ok-push.ensures.items c.in_ok-column.ensures.rows c.in_ok-column.ensures.dtype
+    (length-select (rows column) ms (length-rows column ∙ field.0)) part.formed c.loop-column.invariant

@@ -1,5 +1,5 @@
 use Rattle.polars_compute.proofs.Common.{◌∙◌, ◌*◌, ap, sym, arith, count_true, blocks, rows, row_count, type_of, well_formed, length-rows, few_rows}
-use Rattle.polars_compute.proofs.FilteredBlocks.{list_facts, list_formed_kept, list_rows_kept, list_type}
+use Rattle.polars_compute.proofs.KeptColumns.{list_facts, list_formed_kept, list_rows_kept, list_type}
 use Rattle.polars_compute.proofs.filter.filter_lists.Goals as goal
 
 pub filter_child-requires-clause-fills : goal.filter_child-requires-clause-fills
@@ -11,9 +11,6 @@ pub filter_child-requires-clause-few : goal.filter_child-requires-clause-few
 filter_child-requires-clause-few c =
     let has = list_facts c.args.column.now c.args.size c.args.values.now c.args.validity.now c.requires.parts c.requires.formed in
     omega (arith, length-rows c.args.values.now, few_rows c.args.values.now has.child)
-
-pub filter_runs-requires-clause-few : goal.filter_runs-requires-clause-few
-filter_runs-requires-clause-few c = omega (arith, few_rows c.args.column.now c.requires.formed, length-rows c.args.column.now, c.requires.long)
 
 pub filter_validity-requires-clause-validity : goal.filter_validity-requires-clause-validity
 filter_validity-requires-clause-validity c =

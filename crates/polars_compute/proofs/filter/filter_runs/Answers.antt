@@ -1,9 +1,9 @@
-use Rattle.polars_compute.proofs.Common.{◌∷◌, [], ◌∙◌, arith, sym, subst, length-map, map, err_from_is_err_and, rows, type_of, Null, pick}
-use Rattle.polars_compute.proofs.Common.{memory_alone, exceeded_limits, exceeded_taken, place_pick, kept}
+use Rattle.polars_compute.proofs.Common.{◌∷◌, [], ◌∙◌, arith, sym, subst, length-map, map, err_from_is_err_and, rows, type_of, Null, pick, memory_alone}
+use Rattle.polars_compute.proofs.Common.{exceeded_limits, exceeded_taken, place_pick, kept}
 use Rattle.std.proofs.lemmas.List.Sums.{count_by-le-length}
 use Rattle.sel_gather.proofs.OneSource.{one_source}
-use Rattle.polars_compute.proofs.KeptRuns.{picked_kept, kept_fit, kept_near, count_kept}
-use Rattle.polars_compute.proofs.Needs.{kept_fits}
+use Rattle.polars_compute.proofs.Selects.{count_kept, kept_fit, kept_near, picked_kept}
+use Rattle.polars_compute.proofs.LawProofs.{kept_fits}
 use Rattle.polars_compute.proofs.filter.filter_runs.Goals as goal
 
 pub invariant_of-plan-2 : goal.invariant_of-plan-2
@@ -26,8 +26,8 @@ returns-in_err-column-clause-refusal c =
     let picked = pick Null (rows column ∷ []) (map place_pick (kept mask)) in
     rw (p.1, p.2)
     (memory_alone (exceeded_taken (type_of column) (column ∷ []) picked) c.in_err-column.field-0.0
-    (λ limit h. kept_fits column c.requires.formed mask limit (subst (λ l. exceeded_limits (type_of column) l limit) (picked_kept (rows column) mask c.requires.long) (one_source column c.requires.formed picked limit h)))
+    (λ limit h. kept_fits column c.requires.formed mask limit (subst (λ l. exceeded_limits (type_of column) l limit) (picked_kept Null (rows column) mask c.requires.long) (one_source column c.requires.formed picked limit h)))
     c.in_err-column.ensures.refusal)
 
 pub returns-clause-rows : goal.returns-clause-rows
-returns-clause-rows c = c.in_ok-column.ensures.rows ∙ picked_kept (rows c.args.column.now) c.args.mask.now.bits c.requires.long
+returns-clause-rows c = c.in_ok-column.ensures.rows ∙ picked_kept Null (rows c.args.column.now) c.args.mask.now.bits c.requires.long

@@ -1,8 +1,10 @@
-use Rattle.polars_compute.proofs.Common.{◌≡◌, ◌≤◌, ◌∙◌, All, pos, ap, sym, subst, map, length, arith, length-map, All-get_or, All-push, err_from_is_err_and, max_rows}
-use Rattle.polars_compute.proofs.Common.{primitive_rows, rows, type_of, well_formed, IsField, shapes_of, mapped_more, tuples_type, length-rows, length-number_rows}
-use Rattle.polars_compute.proofs.Common.{has_fields, type_of-Struct, refused_more, size_of, sizes_of, one_size, all_within, exceeded_in_taken, live_index}
-use Rattle.polars_compute.proofs.Takes.{validity_within, within_as}
-use Rattle.polars_compute.proofs.TakenStructs.{taken_of, taken_is_field, length-whole, live_within, past_field, struct_exceeded, struct_fits, struct_taken}
+use Rattle.polars_compute.proofs.Common.{◌≡◌, ◌≤◌, ◌∙◌, All, pos, ap, sym, subst, map, length, arith, length-map, All-get_or, err_from_is_err_and, max_rows}
+use Rattle.polars_compute.proofs.Common.{primitive_rows, rows, type_of, well_formed, IsField, shapes_of, tuples_type, length-rows, length-number_rows}
+use Rattle.polars_compute.proofs.Common.{has_fields, type_of-Struct, refused_more, size_of, sizes_of, one_size, all_within, exceeded_in_taken, live_index, Null}
+use Rattle.polars_compute.proofs.Common.{[], ◌∷◌}
+use Rattle.polars_compute.proofs.Takes.{validity_within, within_as, length-pick}
+use Rattle.polars_compute.proofs.TakenStructs.{taken_of, length-whole, live_within, past_field, struct_exceeded, struct_fits, struct_taken}
+use Rattle.polars_compute.proofs.SelectedRows.{fields_more}
 use Rattle.polars_compute.proofs.gather.+taking.Goals as goal
 
 -- Only a binary column has a limit that its rows can exceed.
@@ -83,16 +85,8 @@ take_fields-take_any-requires t c =
 pub take_fields-loop-column-preserved : goal.take_fields-loop-column-preserved
 take_fields-loop-column-preserved t c =
     let indices = primitive_rows c.args.indices.now in
-    let lt = c.loop-column-test.true in
-    let is = c.column-item.is in
-    let i = c.loop-column.column-index in
     let column = c.column-item.result in
-    let old = c.loop-column.taken.items in
-    let part = c.in_ok-column.field-0.column in
-    let pushed = c.in_ok-push.ensures.items in
-    let fits = IsField (length indices) in
-    record {
-      rows = mapped_more rows (taken_of indices) c.args.columns.now old c.push.new.self.items i column part lt is pushed c.in_ok-column.ensures.rows c.loop-column.invariant.rows;
-      dtypes = mapped_more type_of type_of c.args.columns.now old c.push.new.self.items i column part lt is pushed c.in_ok-column.ensures.dtype c.loop-column.invariant.dtypes;
-      fields = subst (All fits) (sym pushed) (All-push fits old part c.loop-column.invariant.fields (taken_is_field column part indices c.in_ok-column.ensures.rows c.in_ok-column.field-0.formed));
-    }
+    let part = c.in_ok-column.field-0 in
+    fields_more (taken_of indices) (length indices) c.args.columns.now c.loop-column.taken.items c.push.new.self.items c.loop-column.column-index column part.column
+    c.loop-column-test.true c.column-item.is c.in_ok-push.ensures.items c.in_ok-column.ensures.rows c.in_ok-column.ensures.dtype (length-pick Null (rows column ∷ []) indices)
+    part.formed c.loop-column.invariant

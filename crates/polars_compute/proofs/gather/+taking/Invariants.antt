@@ -1,6 +1,7 @@
 -- Termination: each recursive call is on a field or at a smaller measure.
-use Rattle.polars_compute.proofs.Common.{◌≡◌, ◌+◌, ◌*◌, All, length, map, take, primitive_rows, rows, type_of, IsField, shapes_of, size_of, sizes_of}
+use Rattle.polars_compute.proofs.Common.{◌+◌, ◌*◌, length, map, primitive_rows, type_of, shapes_of, size_of, sizes_of}
 use Rattle.polars_compute.proofs.TakenStructs.{taken_of}
+use Rattle.polars_compute.proofs.SelectedRows.{AreFields}
 use Rattle.polars_compute.proofs.gather.+taking.Given as goal
 
 abbrev pub decreases-take_any : goal.decreases-take_any
@@ -13,8 +14,4 @@ abbrev pub decreases-take_fields : goal.decreases-take_fields
 decreases-take_fields l = 3 * sizes_of (shapes_of (map type_of l.columns.now)) + 2
 
 abbrev pub invariant-take_fields-loop-column : goal.invariant-take_fields-loop-column
-invariant-take_fields-loop-column l = record {
-  rows : map rows l.taken.items ≡ map (taken_of (primitive_rows l.indices)) (take l.column-index l.columns);
-  dtypes : map type_of l.taken.items ≡ map type_of (take l.column-index l.columns);
-  fields : All (IsField (length (primitive_rows l.indices))) l.taken.items;
-}
+invariant-take_fields-loop-column l = AreFields (taken_of (primitive_rows l.indices)) (length (primitive_rows l.indices)) l.columns l.taken.items l.column-index

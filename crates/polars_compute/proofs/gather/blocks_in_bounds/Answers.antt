@@ -1,5 +1,5 @@
 use Rattle.polars_compute.proofs.Common.{◌∙◌, ◌<◌, sym, ap, arith, primitive_rows, blocks_within}
-use Rattle.polars_compute.proofs.BlockTests.{blocks_test, empty_blocks}
+use Rattle.polars_compute.proofs.Takes.{blocks_test, empty_blocks}
 use Rattle.polars_compute.proofs.gather.blocks_in_bounds.Goals as goal
 
 pub returns-then-size-eq0 : goal.returns-then-size-eq0

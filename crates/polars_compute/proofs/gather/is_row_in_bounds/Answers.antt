@@ -1,16 +1,6 @@
 use Rattle.polars_compute.proofs.Common.{◌<◌, ◌∙◌, length, ap, sym, arith, Number, length-number_rows, is_within}
-use Rattle.polars_compute.proofs.IndexTests.{row_within}
+use Rattle.polars_compute.proofs.Takes.{row_within}
 use Rattle.polars_compute.proofs.gather.is_row_in_bounds.Goals as goal
-
-pub offset_bounds-as_slice-k : goal.offset_bounds-as_slice-k
-offset_bounds-as_slice-k g c =
-    let indices = c.args.indices.now in
-    rw c.as_slice.ensures (omega (arith, c.requires, length-number_rows g.I.NativeType.number indices.values indices.validity))
-
-pub bounds-as_slice-k : goal.bounds-as_slice-k
-bounds-as_slice-k g c =
-    let indices = c.args.indices.now in
-    rw c.as_slice.ensures (omega (arith, c.requires, length-number_rows g.I.NativeType.number indices.values indices.validity))
 
 pub returns-then-is_in_bounds : goal.returns-then-is_in_bounds
 returns-then-is_in_bounds g c =

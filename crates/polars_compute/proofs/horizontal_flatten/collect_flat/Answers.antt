@@ -2,8 +2,7 @@ use Rattle.polars_compute.proofs.Common.{rules, ◌≡◌, ◌∙◌, All, Bor, 
 use Rattle.polars_compute.proofs.Common.{ExceedsRows, exceeded_taken, first_type, refused_more, few_rows_pass, flatten, lanes_of, rows_picks, pick, HasLeft}
 use Rattle.sel_gather.proofs.Within.{passes_neither}
 use Rattle.polars_compute.specs.FlattenPicks.{woven_picks}
-use Rattle.polars_compute.proofs.Flattening.{AsSources, as_sources, flat_length}
-use Rattle.polars_compute.proofs.Weaving.{first_left, paired, rows_woven, sizes, woven_fit}
+use Rattle.polars_compute.proofs.Flattening.{AsSources, as_sources, first_left, flat_length, paired, rows_woven, sizes, woven_fit}
 use Rattle.polars_compute.proofs.horizontal_flatten.collect_flat.Goals.{After-deref}
 use Rattle.polars_compute.proofs.horizontal_flatten.collect_flat.Goals as goal
 

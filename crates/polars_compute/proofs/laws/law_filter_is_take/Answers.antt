@@ -1,6 +1,6 @@
-use Rattle.polars_compute.proofs.Common.{Value}
-use Rattle.polars_compute.proofs.LawProofs.{filter_is_take}
+use Rattle.polars_compute.proofs.Common.{sym}
+use Rattle.polars_compute.proofs.Selects.{picked_kept}
 use Rattle.polars_compute.proofs.laws.law_filter_is_take.Goals as goal
 
 pub returns : goal.returns
-returns c = filter_is_take Value
+returns c = λ d xs ms long. sym (picked_kept d xs ms long)

@@ -1,4 +1,4 @@
-use Rattle.polars_compute.proofs.Common.{◌≡◌, ℕ, ◌<◌, ◌∙◌, ◌++◌, ◌∷◌, [], ◌+◌, ap, sym, arith, map, take, length, zero-add, if◌then◌else◌, range_with_len}
+use Rattle.polars_compute.proofs.Common.{ℕ, ◌<◌, ◌∙◌, ◌++◌, ◌∷◌, [], ◌+◌, ap, sym, arith, map, take, length, zero-add, if◌then◌else◌, range_with_len}
 use Rattle.polars_compute.proofs.Common.{map-range_with_len_more, count_true}
 use Rattle.polars_compute.proofs.Dictionaries.{count_step}
 use Rattle.polars_compute.proofs.propagate_dictionary.counts_before.Goals as goal
@@ -13,10 +13,3 @@ loop-i-preserved c =
           ∙ sym (map-range_with_len_more count 0 i i (zero-add i)),
       c.counted-count.ensures ∙ ap (λ n. n + (if c.get_bit.result then 1 else 0)) c.loop-i.invariant.1 ∙ ap (λ b. count i + (if b then 1 else 0)) c.get_bit.ensures ∙ sym (count_step bits i inside),
     )
-
-pub returns-clause-counts : goal.returns-clause-counts
-returns-clause-counts c =
-    let bits = c.args.bits.now.bits in
-    let count : ℕ → ℕ = λ k. count_true (take k bits) in
-    let done : c.loop-i.i ≡ length bits = omega (arith, c.loop-i-test.false, c.loop-i.auto.i-end, c.len-i-end.ensures) in
-    c.loop-i.invariant.0 ∙ ap (λ n. map count (range_with_len 0 n)) done

@@ -1,7 +1,7 @@
-use Rattle.polars_compute.proofs.Common.{◌∙◌, pos, refl, ap, sym, length, map, arith, count_by, length-map, primitive_rows, utf8view_rows, number_rows, is_valid, is_null}
-use Rattle.polars_compute.proofs.Common.{view_value, length-number_rows, take_rows, select}
+use Rattle.polars_compute.proofs.Common.{◌∙◌, pos, refl, ap, sym, length, map, arith, length-map, primitive_rows, utf8view_rows, number_rows, is_valid}
+use Rattle.polars_compute.proofs.Common.{view_value, length-number_rows, take_rows, select, count_by, is_null}
 use Rattle.sel_arrow.proofs.Rows.{length-masked}
-use Rattle.polars_compute.proofs.Dictionaries.{keys_taken, keys_stay, values_stay, none_null, told_validity, counts_long}
+use Rattle.polars_compute.proofs.Dictionaries.{keys_taken, keys_stay, told_validity, counts_long, none_null}
 use Rattle.polars_compute.proofs.propagate_dictionary.propagate_dictionary_value_nulls.Goals as goal
 
 pub ranks_of-requires : goal.ranks_of-requires
@@ -17,18 +17,10 @@ take_primitive_unchecked-requires c =
 pub filter_texts-requires-clause-long : goal.filter_texts-requires-clause-long
 filter_texts-requires-clause-long c = sym (ap length (told_validity (view_value c.args.values.now.bytes.buffers) (λ x. refl) c.args.values.now.bytes.validity c.in-Some.validity.now c.args.values.now.bytes.views c.in-Some.ensures.some c.args.values.now.bytes.validity_fits) ∙ length-map (utf8view_rows c.args.values.now) is_valid)
 
-pub without_validity-requires-in-Some : goal.without_validity-requires-in-Some
-without_validity-requires-in-Some c =
-    ap (count_by is_null) (c.in_ok-values-in-Some.ensures.rows ∙ ap (select (utf8view_rows c.args.values.now)) (told_validity (view_value c.args.values.now.bytes.buffers) (λ x. refl) c.args.values.now.bytes.validity c.in-Some.validity.now c.args.values.now.bytes.views c.in-Some.ensures.some c.args.values.now.bytes.validity_fits)) ∙ none_null (utf8view_rows c.args.values.now)
-
 pub returns-in_ok-values-in-None-clause-keys : goal.returns-in_ok-values-in-None-clause-keys
 returns-in_ok-values-in-None-clause-keys c =
     let keys = c.args.keys.now in
     c.in_ok-keys-in-None.ensures.rows ∙ keys_stay (utf8view_rows c.args.values.now) keys.values keys.validity c.in-None.ensures.none c.requires
-
-pub returns-in_ok-values-in-None-clause-values : goal.returns-in_ok-values-in-None-clause-values
-returns-in_ok-values-in-None-clause-values c =
-    c.without_validity.ensures.rows ∙ c.in_ok-values-in-None.ensures.rows ∙ values_stay (utf8view_rows c.args.values.now) c.in-None.ensures.none
 
 pub returns-in_ok-values-in-Some-clause-keys : goal.returns-in_ok-values-in-Some-clause-keys
 returns-in_ok-values-in-Some-clause-keys c =
@@ -47,3 +39,7 @@ returns-in_ok-values-in-Some-clause-same c none =
     ∙ ap (λ v. take_rows (number_rows pos c.in_ok-ranks-in-Some.ranks.values v) (primitive_rows c.args.keys.now)) c.in_ok-ranks-in-Some.ensures.validity
     ∙ keys_taken (utf8view_rows c.args.values.now) c.in_ok-ranks-in-Some.ranks.values c.in-Some.validity.now (told_validity (view_value c.args.values.now.bytes.buffers) (λ x. refl) c.args.values.now.bytes.validity c.in-Some.validity.now c.args.values.now.bytes.views c.in-Some.ensures.some c.args.values.now.bytes.validity_fits) c.in_ok-ranks-in-Some.ensures.values (primitive_rows c.args.keys.now) c.requires
     ∙ sym (keys_stay (utf8view_rows c.args.values.now) keys.values keys.validity none c.requires)
+
+pub without_validity-requires-in-Some : goal.without_validity-requires-in-Some
+without_validity-requires-in-Some c =
+    ap (count_by is_null) (c.in_ok-values-in-Some.ensures.rows ∙ ap (select (utf8view_rows c.args.values.now)) (told_validity (view_value c.args.values.now.bytes.buffers) (λ x. refl) c.args.values.now.bytes.validity c.in-Some.validity.now c.args.values.now.bytes.views c.in-Some.ensures.some c.args.values.now.bytes.validity_fits)) ∙ none_null (utf8view_rows c.args.values.now)

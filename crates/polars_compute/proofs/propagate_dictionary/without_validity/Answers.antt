@@ -7,8 +7,3 @@ pub invariant_of-result : goal.invariant_of-result
 invariant_of-result c =
     let array = c.args.values.bytes in
     record { texts = subst (λ l. IsTrue (all_text l)) (sym (bare_rows (view_value array.buffers) array.validity array.views c.requires)) c.args.values.texts }
-
-pub returns-clause-rows : goal.returns-clause-rows
-returns-clause-rows c =
-    let array = c.args.values.bytes in
-    bare_rows (view_value array.buffers) array.validity array.views c.requires

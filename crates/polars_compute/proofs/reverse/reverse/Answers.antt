@@ -1,17 +1,6 @@
-use Rattle.polars_compute.proofs.Common.{ap, subst, ◌∙◌, length, arith, err_from_is_err_and, primitive_rows, rows, type_of, memory_alone, exceeded_limits, all_within}
-use Rattle.polars_compute.proofs.Common.{take_rows}
-use Rattle.polars_compute.proofs.Reversed.{all_inside, reversed_fits, reversed_take}
+use Rattle.polars_compute.proofs.Common.{ap, subst, ◌∙◌, err_from_is_err_and, primitive_rows, rows, type_of, memory_alone, exceeded_limits, take_rows}
+use Rattle.polars_compute.proofs.LawProofs.{reversed_fits, reversed_take}
 use Rattle.polars_compute.proofs.reverse.reverse.Goals as goal
-
-pub take_unchecked-requires : goal.take_unchecked-requires
-take_unchecked-requires c =
-    let count = length (rows c.args.column.now.column) in
-    ap (all_within count) c.in_ok-indices.ensures.rows ∙ all_inside count c.len.result (omega (arith, c.len.ensures.len))
-
-pub returns-clause-rows : goal.returns-clause-rows
-returns-clause-rows c =
-    let vs = rows c.args.column.now.column in
-    c.in_ok-reversed.ensures.rows ∙ ap (take_rows vs) c.in_ok-indices.ensures.rows ∙ reversed_take vs c.len.result c.len.ensures.len
 
 pub returns-in_err-reversed-clause-refusal : goal.returns-in_err-reversed-clause-refusal
 returns-in_err-reversed-clause-refusal c =

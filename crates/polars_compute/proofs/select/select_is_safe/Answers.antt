@@ -1,5 +1,5 @@
-use Rattle.polars_compute.proofs.Common.{◌≤◌, ◌∙◌, arith, ap, sym, length, ◌==◌, list_all, take_all, boolean_rows, primitive_rows, rows, ArrayRef, all_within}
-use Rattle.polars_compute.proofs.SelectedRows.{all_long, unfit_at}
+use Rattle.polars_compute.proofs.Common.{arith, boolean_rows, primitive_rows, ◌≤◌, ◌∙◌, ap, sym, length, ◌==◌, list_all, take_all, rows, ArrayRef, all_within}
+use Rattle.polars_compute.proofs.SelectedRows.{unfit_at, all_long}
 use Rattle.polars_compute.proofs.select.select_is_safe.Goals as goal
 
 pub returns-then-len : goal.returns-then-len

@@ -1,5 +1,5 @@
-use Rattle.polars_compute.proofs.Common.{◌≤◌, ◌∙◌, arith, ap, length, map, take_all, boolean_rows, primitive_rows, rows, type_of, ArrayRef, take_rows, select}
-use Rattle.polars_compute.proofs.Common.{effective_mask}
+use Rattle.polars_compute.proofs.Common.{◌∙◌, arith, ap, length, map, take_all, boolean_rows, primitive_rows, rows, type_of, ArrayRef, take_rows, select}
+use Rattle.polars_compute.proofs.Common.{effective_mask, rules}
 use Rattle.polars_compute.proofs.SelectedRows.{long_at, mapped_step, none_past, refused_some, rows_mapped}
 use Rattle.polars_compute.proofs.select.select_rows.Goals as goal
 
@@ -29,21 +29,17 @@ loop-column-preserved c =
       room = omega (arith, c.push_reserved.ensures.capacity, c.loop-column.invariant.room);
     }
 
-pub returns-clause-rows : goal.returns-clause-rows
-returns-clause-rows c =
+pub returns : goal.returns
+returns c =
     let columns = c.args.columns.now in
     let mask = boolean_rows c.args.mask.now in
     let indices = primitive_rows c.args.indices.now in
-    let all : length columns ≤ c.loop-column.column-index = omega (arith, c.loop-column-test.false) in
-    c.loop-column.invariant.taken ∙ ap (map (λ (a : ArrayRef). take_rows (select (rows a.column) (effective_mask mask)) indices)) (take_all c.loop-column.column-index columns all) ∙ rows_mapped mask indices columns
-
-pub returns-clause-within : goal.returns-clause-within
-returns-clause-within c =
-    let columns = c.args.columns.now in
-    let mask = boolean_rows c.args.mask.now in
-    let indices = primitive_rows c.args.indices.now in
-    let all : length columns ≤ c.loop-column.column-index = omega (arith, c.loop-column-test.false) in
-    let whole = take_all c.loop-column.column-index columns all in
-    none_past columns c.loop-column.selected.items mask indices
-    (c.loop-column.invariant.taken ∙ ap (map (λ (a : ArrayRef). take_rows (select (rows a.column) (effective_mask mask)) indices)) whole)
-    (c.loop-column.invariant.types ∙ ap (map (λ (a : ArrayRef). type_of a.column)) whole)
+    let whole = take_all c.loop-column.column-index columns c.loop-column-test.false in
+    let taken = c.loop-column.invariant.taken ∙ ap (map (λ (a : ArrayRef). take_rows (select (rows a.column) (effective_mask mask)) indices)) whole in
+    let types = c.loop-column.invariant.types ∙ ap (map (λ (a : ArrayRef). type_of a.column)) whole in
+    record {
+      rows = taken ∙ rows_mapped mask indices columns;
+      types = types;
+      within = none_past columns c.loop-column.selected.items mask indices taken types;
+      refusal = search rules;
+    }

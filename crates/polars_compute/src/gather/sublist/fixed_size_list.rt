@@ -128,6 +128,7 @@ fn is_literal_error(arr: &FixedSizeListArray, index: i64, null_on_oob: bool) -> 
 }
 
 // Returns whether some index is an error.
+#[tactic(auto, using(crate::proofs::Elements::long_rows))]
 fn is_error(arr: &FixedSizeListArray, index: &PrimitiveArray<i64>, null_on_oob: bool) -> bool
     requires { length (primitive_rows index.now) ≡ length (rows (block_column arr.now)) }
     ensures { result ≡ is_get_error null_on_oob arr.now (primitive_rows index.now) }
@@ -195,12 +196,13 @@ impl Places for LiteralPlaces<'_> {
         (entry_places places.blocks.arr.now (at_each places.blocks.arr.now places.index)) };
 
     #[inline(always)]
-    #[tactic(auto, using(crate::proofs::Blocks::entries_long, crate::proofs::Blocks::lists_few))]
+    #[tactic(auto, using(crate::proofs::Elements::entries_long, crate::proofs::Elements::lists_few))]
     fn len(&self) -> usize {
         self.blocks.arr.len
     }
 
     #[inline(always)]
+    #[tactic(auto, using(crate::proofs::Elements::entries_long))]
     fn get(&self, k: usize) -> Option<(u32, u32)> {
         pick_of_place(self.blocks.entry_at(k, self.place))
     }
@@ -234,12 +236,13 @@ impl Places for EntryPlaces<'_, '_> {
         (entry_places places.blocks.arr.now (primitive_rows places.index.now)) };
 
     #[inline(always)]
-    #[tactic(auto, using(crate::proofs::Blocks::entries_long, crate::proofs::Blocks::lists_few))]
+    #[tactic(auto, using(crate::proofs::Elements::entries_long, crate::proofs::Elements::lists_few))]
     fn len(&self) -> usize {
         self.blocks.arr.len
     }
 
     #[inline(always)]
+    #[tactic(auto, using(crate::proofs::Elements::entries_long, crate::proofs::Elements::long_rows))]
     fn get(&self, k: usize) -> Option<(u32, u32)> {
         let place = place_among(self.index.get(k), self.blocks.size);
         pick_of_place(self.blocks.entry_at(k, place))

@@ -57,6 +57,7 @@ pub fn sublist_get(alloc: Global, arr: &ListArray<i64>, index: i64) -> PolarsRes
 ///
 /// # Errors
 /// `OutOfMemory` if an allocation fails.
+#[tactic(auto, using(crate::proofs::Elements::mapped_count))]
 pub fn sublist_get_indexes(alloc: Global, arr: &ListArray<i64>, index: i64) -> PolarsResult<IdxArr>
     ensures rows { IfOk result (λ indices. primitive_rows indices ≡
         map (number_value pos) (places_in arr.now.offsets arr.now.validity index)) }
@@ -141,7 +142,7 @@ pub fn array_to_unit_list(
 }
 
 // Returns the lists of one element with these offsets, or the array and `OutOfMemory`.
-#[tactic(auto, using(crate::proofs::Units::units_formed, crate::proofs::Units::units_rows))]
+#[tactic(auto, using(crate::proofs::Elements::units_formed, crate::proofs::Elements::units_rows))]
 fn unit_column(
     alloc: Global,
     offsets: OffsetsBuffer<i64>,
@@ -172,6 +173,7 @@ fn unit_column(
 }
 
 // Returns the offsets `0, 1, .., len`, or `OutOfMemory`.
+#[tactic(auto, using(crate::proofs::Elements::counted_numbers))]
 fn unit_offsets(alloc: Global, len: usize) -> PolarsResult<OffsetsBuffer<i64>>
     requires { len ≤ max_rows }
     ensures value { IfOk result (λ offsets. offsets ≡ range_with_len 0 (len + 1)) }
@@ -196,11 +198,13 @@ impl Places for ListPlaces<'_> {
         (places_in places.arr.now.offsets places.arr.now.validity places.index) };
 
     #[inline(always)]
+    #[tactic(auto, using(crate::proofs::Elements::places_long))]
     fn len(&self) -> usize {
         self.arr.offsets.len_proxy()
     }
 
     #[inline(always)]
+    #[tactic(auto, using(crate::proofs::Elements::places_long))]
     fn get(&self, k: usize) -> Option<(u32, u32)> {
         pick_of_place(place_in_child(self.arr, self.index, k))
     }

@@ -1,6 +1,6 @@
 use Rattle.std.proofs.Common.{◌≤◌, ◌∙◌, arith, ap, sym, ◌++◌, length, map, lit<, string_bytes, take_all}
 use Rattle.sel_lines.proofs.Common.{join_with_byte, rows, ArrayRef, column_text}
-use Rattle.polars_compute.proofs.Offsets.{map_map}
+use Rattle.std.proofs.lemmas.Simd.{map-map}
 use Rattle.sel_lines.proofs.RowLemmas.{join_step, join_first_step}
 use Rattle.sel_lines.proofs.table.print_columns.Goals as goal
 use Rattle.sel_lines.proofs.table.print_columns.Goals.{then-place-gt0+in_ok-push, else-place-gt0}
@@ -24,4 +24,4 @@ returns c =
     let text = λ (a : ArrayRef). column_text (rows a.column) in
     let columns = c.args.columns.now in
     let all : length columns ≤ c.loop-place.place = omega (arith, c.loop-place-test.false) in
-    c.loop-place.invariant ∙ ap (λ l. join_with_byte 32 (map text l)) (take_all c.loop-place.place columns all) ∙ ap (join_with_byte 32) (sym (map_map column_text (λ (a : ArrayRef). rows a.column) columns))
+    c.loop-place.invariant ∙ ap (λ l. join_with_byte 32 (map text l)) (take_all c.loop-place.place columns all) ∙ ap (join_with_byte 32) (sym (map-map column_text (λ (a : ArrayRef). rows a.column) columns))

@@ -2,7 +2,7 @@ use Rattle.polars_compute.proofs.Common.{◌≡◌, ℕ, List, Bool, ◌∙◌, 
 use Rattle.polars_compute.proofs.Common.{row_count, Value, Number, length-rows, select}
 use Rattle.std.specs.Mem.{type_size}
 use Rattle.std.proofs.Math.Nat.{mul-div_cancel}
-use Rattle.polars_compute.proofs.FilteredBlocks.{joined, few_kept_values, kept_blocks, length-kept}
+use Rattle.polars_compute.proofs.KeptColumns.{few_kept_values, joined, kept_blocks, length-kept}
 use Rattle.polars_compute.proofs.filter.fixed_size_list.filter_sized.Goals as goal
 
 pub as_chunks-requires : goal.as_chunks-requires

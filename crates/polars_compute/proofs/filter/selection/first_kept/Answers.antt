@@ -1,5 +1,5 @@
 use Rattle.polars_compute.proofs.Common.{◌≡◌, ◌∙◌, sym, subst, IsRun}
-use Rattle.polars_compute.proofs.Selects.{run_of_none, run_of_all, run_kept}
+use Rattle.polars_compute.proofs.Selects.{run_of_none, run_of_all, run_of_trimmed}
 use Rattle.polars_compute.proofs.filter.selection.first_kept.Goals as goal
 
 pub returns-then-count-eq0-clause-first : goal.returns-then-count-eq0-clause-first
@@ -17,4 +17,4 @@ returns-then-is_all_true-clause-first c at there =
     let bits = c.args.mask.now.bits in
     let trimmed = c.in_ok-leading.ensures in
     let same : c.in_ok-leading.leading ≡ at = cc there in
-    rw (← same) (subst (IsRun bits c.in_ok-leading.leading) (sym c.requires) (run_kept bits c.in_ok-leading.leading c.in_ok-leading.rest.bits trimmed.kept trimmed.within trimmed.part (c.is_all_true.ensures.0 c.if-is_all_true.true)))
+    rw (← same) (subst (IsRun bits c.in_ok-leading.leading) (sym c.requires) (run_of_trimmed bits c.in_ok-leading.leading c.in_ok-leading.rest.bits trimmed.kept trimmed.within trimmed.part (c.is_all_true.ensures.0 c.if-is_all_true.true)))

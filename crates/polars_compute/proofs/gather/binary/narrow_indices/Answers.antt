@@ -1,5 +1,5 @@
 use Rattle.polars_compute.proofs.Common.{◌∙◌, map, pos, ap, arith, take_all, number_rows, narrowed}
-use Rattle.polars_compute.proofs.NarrowRows.{narrow_rows}
+use Rattle.polars_compute.proofs.Takes.{narrow_rows}
 use Rattle.polars_compute.proofs.gather.binary.narrow_indices.Goals as goal
 
 pub returns-clause-rows : goal.returns-clause-rows

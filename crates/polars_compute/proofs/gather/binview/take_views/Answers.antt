@@ -1,22 +1,10 @@
-use Rattle.polars_compute.proofs.Common.{◌≡◌, ◌∙◌, length, pos, refl, ap, sym, arith, primitive_rows, view_value, is_placed, View, length-map, length-number_rows}
-use Rattle.polars_compute.proofs.Common.{length-view_rows, list_all, near_value}
-use Rattle.polars_compute.proofs.NearRows.{near_rows, passed_near}
-use Rattle.polars_compute.proofs.Takes.{within_as, validity_within, covers_for}
+use Rattle.polars_compute.proofs.Common.{◌≡◌, ◌∙◌, length, pos, refl, ap, sym, arith, primitive_rows, view_value, is_placed, View, length-map}
+use Rattle.polars_compute.proofs.Common.{length-number_rows, length-view_rows, list_all, near_value}
+use Rattle.polars_compute.proofs.Takes.{covers_for, near_rows, passed_near, within_as}
 use Rattle.polars_compute.proofs.gather.binview.take_views.Goals as goal
 
 abbrev no_bytes : View
 no_bytes = record { length = 0; prefix = 0; buffer_idx = 0; offset = 0 }
-
-pub take_values-requires : goal.take_values-requires
-take_values-requires c =
-    let values = c.args.values.now in
-    rw c.as_slice.ensures (within_as _ (length values.views) (primitive_rows c.args.indices.now) (length-view_rows values.views values.buffers values.validity) c.requires)
-
-pub take_validity-requires : goal.take_validity-requires
-take_validity-requires c =
-    let values = c.args.values.now in
-    validity_within values.validity (length values.views) (primitive_rows c.args.indices.now) values.validity_fits
-    (within_as _ (length values.views) (primitive_rows c.args.indices.now) (length-view_rows values.views values.buffers values.validity) c.requires)
 
 pub invariant_of-result : goal.invariant_of-result
 invariant_of-result c =
@@ -39,5 +27,5 @@ returns-clause-rows c =
     let indices = c.args.indices.now in
     let items = rw c.as_slice.ensures at (c.in_ok-views-2.ensures.items ∙ c.in_ok-views.ensures.items) in
     rw c.in_ok-buffers.ensures.items (near_rows (view_value values.buffers) values.validity c.in_ok-validity.validity indices.validity values.views c.in_ok-views-2.views no_bytes indices.values
-    values.validity_fits indices.validity_fits
+    values.validity_fits
     (within_as _ (length values.views) (primitive_rows indices) (length-view_rows values.views values.buffers values.validity) c.requires) items c.in_ok-validity.ensures.bits)

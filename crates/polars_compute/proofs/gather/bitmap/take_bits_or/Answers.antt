@@ -1,6 +1,5 @@
 use Rattle.polars_compute.proofs.Common.{◌∙◌, [], ◌∷◌, length, pos, map, ap, sym, IfOk-weaker, masked, Number, all_within, pick, pick_of}
-use Rattle.polars_compute.proofs.IndexTests.{below_rows}
-use Rattle.polars_compute.proofs.TakenBits.{bits_at, named_at}
+use Rattle.polars_compute.proofs.Takes.{below_rows, bits_at, named_at}
 use Rattle.polars_compute.proofs.gather.bitmap.take_bits_or.Goals as goal
 
 pub take_bitmap_unchecked-requires : goal.take_bitmap_unchecked-requires

@@ -1,21 +1,7 @@
-use Rattle.polars_compute.proofs.Common.{◌≡◌, ◌≢◌, ◌∙◌, ◌&&◌, ◌||◌, not, true, false, Bool, List, Some, [], ◌∷◌, length, pos, map, replicate, ap, sym, IfOk-weaker, Bits, zip_with}
-use Rattle.polars_compute.proofs.Common.{number_rows, length-number_rows, pick, pick_of}
-use Rattle.polars_compute.proofs.NearRows.{falses_near, near_below, no_bits, trues_near}
+use Rattle.polars_compute.proofs.Common.{◌∙◌, ◌&&◌, ◌||◌, not, Some, [], ◌∷◌, pos, map, ap, sym, IfOk-weaker, Bits, zip_with, number_rows, pick, pick_of}
+use Rattle.polars_compute.proofs.Common.{replicate, length-number_rows}
+use Rattle.polars_compute.proofs.Takes.{falses_near, trues_near, no_bits}
 use Rattle.polars_compute.proofs.gather.bitmap.take_valid_bits.Goals as goal
-
-pub returns-then-is_empty-clause-bits : goal.returns-then-is_empty-clause-bits
-returns-then-is_empty-clause-bits c =
-    let places = c.args.places.now in
-    let rows = number_rows pos places (Some c.args.valid.now) in
-    let none = c.is_empty.ensures.0 c.if-is_empty.true in
-    IfOk-weaker c.new_with_value.result _ _
-    (λ taken is. ap (λ (b : Bits). b.bits) is ∙ ap (λ n. replicate n c.args.filler) (sym (length-number_rows pos places (Some c.args.valid.now))) ∙ sym (no_bits c.args.filler c.args.values.now.bits rows none))
-    c.new_with_value.ensures.value
-
-pub take_bits_at-requires : goal.take_bits_at-requires
-take_bits_at-requires c =
-    let some : length c.args.values.now.bits ≢ 0 = λ none. let t = c.is_empty.ensures.1 none in let f = c.if-is_empty.false in cc in
-    near_below (length c.args.values.now.bits) c.args.places.now some
 
 pub returns-then-filler-clause-bits : goal.returns-then-filler-clause-bits
 returns-then-filler-clause-bits c =
@@ -38,3 +24,12 @@ returns-clause-bits c =
     (λ taken is. ap (λ (b : Bits). b.bits) is ∙ ap (λ l. zip_with (λ x y. x && y) l valid.bits) near ∙ falses_near bits valid.bits places c.requires.long c.requires.within
     ∙ ap (λ filler. pick filler (bits ∷ []) (map pick_of (number_rows pos places (Some valid)))) (sym c.if-filler.false))
     c.and.ensures.value
+
+pub returns-then-is_empty-clause-bits : goal.returns-then-is_empty-clause-bits
+returns-then-is_empty-clause-bits c =
+    let places = c.args.places.now in
+    let rows = number_rows pos places (Some c.args.valid.now) in
+    let none = c.is_empty.ensures.0 c.if-is_empty.true in
+    IfOk-weaker c.new_with_value.result _ _
+    (λ taken is. ap (λ (b : Bits). b.bits) is ∙ ap (λ n. replicate n c.args.filler) (sym (length-number_rows pos places (Some c.args.valid.now))) ∙ sym (no_bits c.args.filler c.args.values.now.bits rows none))
+    c.new_with_value.ensures.value

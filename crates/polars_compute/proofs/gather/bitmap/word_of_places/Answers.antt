@@ -1,6 +1,6 @@
-use Rattle.polars_compute.proofs.Common.{◌≡◌, ◌<◌, ◌+◌, ◌*◌, ◌%◌, ◌^◌, ◌∙◌, map, take, length, length-map, get_or, get_or-map, all_at, nat_lt}
-use Rattle.polars_compute.proofs.Common.{ap, sym, arith, false, ltb-true, take_all, from_bool, bits_from, word_of}
-use Rattle.polars_compute.proofs.TakenBits.{bits_at, length-bits_at, word_at_few, word_at_next}
+use Rattle.polars_compute.proofs.Common.{◌≡◌, ◌+◌, ◌*◌, ◌%◌, ◌^◌, ◌∙◌, map, take, length-map, get_or, get_or-map, all_at, nat_lt, ap, sym, arith, false}
+use Rattle.polars_compute.proofs.Common.{ltb-true, from_bool, bits_from, word_of}
+use Rattle.polars_compute.proofs.Takes.{bits_at, word_at_few, word_at_next}
 use Rattle.polars_compute.proofs.gather.bitmap.word_of_places.Given.{Over}
 use Rattle.polars_compute.proofs.gather.bitmap.word_of_places.Goals as goal
 
@@ -31,10 +31,3 @@ overflow_add-word g c =
 
 pub loop-k-preserved : goal.loop-k-preserved
 loop-k-preserved g c = next g c
-
-pub returns : goal.returns
-returns g c =
-    let f = g.R.PlaceRule.position c.args.len in
-    let bs = bits_from c.args.bytes.now c.args.shift c.args.len in
-    let places = map f c.args.indices.now in
-    c.loop-k.invariant ∙ ap word_of (take_all c.loop-k.k (bits_at bs places) (omega (arith, length-bits_at bs places, length-map c.args.indices.now f, c.loop-k-test.false)))

@@ -1,17 +1,7 @@
 use Rattle.polars_compute.proofs.Common.{◌≡◌, ◌∙◌, [], ◌∷◌, List, Bool, length, ap, false, pos, arith, slice_index_or, primitive_rows, Truth, length-truth_rows}
 use Rattle.polars_compute.proofs.Common.{length-number_rows, map, hidden, pick_of, valid_pick}
-use Rattle.polars_compute.proofs.Takes.{within_as, validity_within, covers_for, taken_rows, length-pick}
+use Rattle.polars_compute.proofs.Takes.{within_as, covers_for, taken_rows, length-pick}
 use Rattle.polars_compute.proofs.gather.boolean.take_unchecked.Goals as goal
-
-pub take_bitmap_nulls_unchecked-requires : goal.take_bitmap_nulls_unchecked-requires
-take_bitmap_nulls_unchecked-requires c =
-    within_as _ _ (primitive_rows c.args.indices.now) (length-truth_rows c.args.values.now.values.bits c.args.values.now.validity) c.requires
-
-pub take_validity-requires : goal.take_validity-requires
-take_validity-requires c =
-    let values = c.args.values.now in
-    validity_within values.validity (length values.values.bits) (primitive_rows c.args.indices.now) values.validity_fits
-    (within_as _ _ (primitive_rows c.args.indices.now) (length-truth_rows values.values.bits values.validity) c.requires)
 
 pub invariant_of-result : goal.invariant_of-result
 invariant_of-result c =

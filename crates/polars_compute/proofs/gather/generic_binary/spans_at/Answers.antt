@@ -1,7 +1,9 @@
-use Rattle.polars_compute.proofs.Common.{◌∙◌, ◌<◌, ◌≤ℤ◌, ◌<ℤ◌, ◌∷◌, List, ℕ, pos, length, map, ap, subst, arith, ints, take_all, primitive_rows, offsets_of, ends_from, bytes_needed}
-use Rattle.polars_compute.proofs.Common.{take_rows, bit_or_true}
-use Rattle.polars_compute.specs.Spans.{AreStarts, plain_rows}
+use Rattle.polars_compute.proofs.Common.{◌∙◌, ◌<◌, ◌≤ℤ◌, ◌<ℤ◌, ◌∷◌, List, ℕ, pos, length, map, ap, subst, arith, ints, take_all, primitive_rows, offsets_of}
+use Rattle.polars_compute.proofs.Common.{ends_from, bytes_needed, take_rows, bit_or_true, Null, Value, byte_count, get_or, rules, ◌≡◌}
+use Rattle.polars_compute.specs.Spans.{AreStarts, BeginsAt, plain_rows}
 use Rattle.polars_compute.proofs.TakenSpans.{count, ended_more, needed_below, needed_more, placed, spanned, started_more}
+use Rattle.polars_compute.proofs.gather.generic_binary.spans_at.Given.{Over}
+use Rattle.polars_compute.proofs.gather.generic_binary.spans_at.Goals.{After-span_if-start}
 use Rattle.polars_compute.proofs.gather.generic_binary.spans_at.Goals as goal
 
 pub span_if-start-requires-clause-rising : goal.span_if-start-requires-clause-rising
@@ -13,41 +15,54 @@ span_if-start-requires-clause-inside g c =
     let indices = c.args.indices.now in
     let k = c.loop-k.k in
     placed g.O.NativeType.number c.as_slice-offsets.result.now values.offsets values.values c.as_slice-offsets.ensures.numbers values.rising values.values_fit
-    c.as_slice-places.result.now indices.values c.as_slice-places.ensures indices.validity indices.validity_fits c.requires k (omega arith) c.bit_or_true.result
+    c.as_slice-places.result.now indices.values c.as_slice-places.ensures indices.validity indices.validity_fits c.requires.inside k (omega arith) c.bit_or_true.result
     (c.bit_or_true.ensures ∙ ap (λ bits. bit_or_true bits k) c.of_validity-valid.ensures)
+
+abbrev taken : (g : Over) → After-span_if-start g → List Value
+taken g c = take_rows (plain_rows c.args.values.now) (primitive_rows c.args.indices.now)
+
+below : (g : Over) (c : After-span_if-start g) → c.loop-k.k < length (taken g c)
+below g c =
+    let values = c.args.values.now in
+    let indices = c.args.indices.now in
+    let long = count values.offsets values.values indices.values indices.validity indices.validity_fits c.requires.inside in
+    omega (arith, c.loop-k-test.true, ap (λ (l : List ℕ). length l) c.as_slice-places.ensures, long)
+
+-- Row k begins where its span starts, and is as long.
+span : (g : Over) (c : After-span_if-start g) → BeginsAt c.args.values.now.values (get_or (taken g c) c.loop-k.k Null) (pos c.span_if-start.result.0)
+    × (byte_count (get_or (taken g c) c.loop-k.k Null) ≡ c.span_if-start.result.1)
+span g c =
+    let values = c.args.values.now in
+    let indices = c.args.indices.now in
+    let valid = c.bit_or_true.ensures ∙ ap (λ bits. bit_or_true bits c.loop-k.k) c.of_validity-valid.ensures in
+    spanned g.O.NativeType.number c.as_slice-offsets.result.now values.offsets values.values c.as_slice-offsets.ensures.numbers values.rising values.values_fit
+    c.as_slice-places.result.now indices.values c.as_slice-places.ensures indices.validity indices.validity_fits c.requires.inside c.loop-k.k c.loop-k-test.true
+    c.bit_or_true.result c.span_if-start.result.0 c.span_if-start.result.1 valid c.span_if-start.ensures.start c.span_if-start.ensures.len
+
+pub offset_of-requires-in-loop-k : goal.offset_of-requires-in-loop-k
+offset_of-requires-in-loop-k g c = omega (arith, ints, (span g (goal.at.offset_of-requires-in-loop-k g c).After-span_if-start).0.0, c.requires.narrow)
 
 pub returns-then-len-most-clause-refusal : goal.returns-then-len-most-clause-refusal
 returns-then-len-most-clause-refusal g c =
-    let values = c.args.values.now in
-    let indices = c.args.indices.now in
-    let k = c.loop-k.k in
-    let rows = take_rows (plain_rows values) (primitive_rows indices) in
-    let inside : k < length c.as_slice-places.result.now = omega arith in
-    let span = spanned g.O.NativeType.number c.as_slice-offsets.result.now values.offsets values.values c.as_slice-offsets.ensures.numbers values.rising values.values_fit
-    c.as_slice-places.result.now indices.values c.as_slice-places.ensures indices.validity indices.validity_fits c.requires k inside c.bit_or_true.result c.span_if-start.result.1
-    (c.bit_or_true.ensures ∙ ap (λ bits. bit_or_true bits k) c.of_validity-valid.ensures) c.span_if-start.ensures.len in
-    let below : k < length rows = omega (arith, inside, ap (λ (l : List ℕ). length l) c.as_slice-places.ensures, count values.offsets values.values indices.values indices.validity indices.validity_fits c.requires) in
-    let more = needed_below rows k below in
-    subst (λ z. z <ℤ pos (bytes_needed rows)) c.most_bytes-most.ensures (omega (arith, ints, more, span.count, c.loop-k.invariant.count, c.if-len-most.true))
+    let at = (goal.at.returns-then-len-most-clause-refusal g c).After-span_if-start in
+    let more = needed_below (taken g at) c.loop-k.k (below g at) in
+    subst (λ z. z <ℤ pos (bytes_needed (taken g at))) c.most_bytes-most.ensures (omega (arith, ints, more, (span g at).1, c.loop-k.invariant.count, c.if-len-most.true))
 
 pub loop-k-preserved : goal.loop-k-preserved
 loop-k-preserved g c =
+    let at = (goal.at.loop-k-preserved g c).After-span_if-start in
+    let rows = taken g at in
     let number = g.O.NativeType.number in
-    let values = c.args.values.now in
-    let indices = c.args.indices.now in
     let k = c.loop-k.k in
-    let rows = take_rows (plain_rows values) (primitive_rows indices) in
-    let inside : k < length c.as_slice-places.result.now = omega arith in
-    let span = spanned number c.as_slice-offsets.result.now values.offsets values.values c.as_slice-offsets.ensures.numbers values.rising values.values_fit
-    c.as_slice-places.result.now indices.values c.as_slice-places.ensures indices.validity indices.validity_fits c.requires k inside c.bit_or_true.result c.span_if-start.result.1
-    (c.bit_or_true.ensures ∙ ap (λ bits. bit_or_true bits k) c.of_validity-valid.ensures) c.span_if-start.ensures.len in
-    let below : k < length rows = omega (arith, inside, ap (λ (l : List ℕ). length l) c.as_slice-places.ensures, count values.offsets values.values indices.values indices.validity indices.validity_fits c.requires) in
+    let long = (span g at).1 in
     let ends = c.push_reserved-in-loop-k-2 in
     let starts = c.push_reserved-in-loop-k in
     record {
-      ends = ended_more rows k below number c.loop-k.ends.items ends.new.self.items c.offset_of-in-loop-k.result _ c.loop-k.invariant.ends ends.ensures.items c.offset_of-in-loop-k.ensures (omega (arith, c.loop-k.invariant.count, span.count));
-      starts = started_more rows k below number values.values c.loop-k.starts.items starts.new.self.items c.span_if-start.result.0 _ c.loop-k.invariant.starts starts.ensures.items c.span_if-start.ensures.start span.begins;
-      count = omega (arith, needed_more rows k below, c.loop-k.invariant.count, span.count);
+      ends = ended_more rows k (below g at) number c.loop-k.ends.items ends.new.self.items c.offset_of-in-loop-k-2.result _ c.loop-k.invariant.ends ends.ensures.items
+          c.offset_of-in-loop-k-2.ensures (omega (arith, c.loop-k.invariant.count, long));
+      starts = started_more rows k (below g at) g.S.NativeType.number c.args.values.now.values c.loop-k.starts.items starts.new.self.items _ c.span_if-start.result.0 c.loop-k.invariant.starts
+          starts.ensures.items c.offset_of-in-loop-k.ensures (span g at).0;
+      count = omega (arith, needed_more rows k (below g at), c.loop-k.invariant.count, long);
       most = omega arith;
       ends_count = omega (arith, ends.ensures.len, c.loop-k.invariant.ends_count);
       ends_room = omega (arith, ends.ensures.capacity, c.loop-k.invariant.ends_room);
@@ -55,30 +70,20 @@ loop-k-preserved g c =
       starts_room = omega (arith, starts.ensures.capacity, c.loop-k.invariant.starts_room);
     }
 
-pub returns-clause-ends : goal.returns-clause-ends
-returns-clause-ends g c =
+pub returns : goal.returns
+returns g c =
     let values = c.args.values.now in
     let indices = c.args.indices.now in
-    let all = take_all c.loop-k.k (take_rows (plain_rows values) (primitive_rows indices)) (omega (arith, ap (λ (l : List ℕ). length l) c.as_slice-places.ensures, count values.offsets values.values indices.values indices.validity indices.validity_fits c.requires)) in
-    c.loop-k.invariant.ends ∙ ap (λ rows. map pos (0 ∷ ends_from 0 rows)) all
-
-pub returns-clause-starts : goal.returns-clause-starts
-returns-clause-starts g c =
-    let values = c.args.values.now in
-    let indices = c.args.indices.now in
-    let all = take_all c.loop-k.k (take_rows (plain_rows values) (primitive_rows indices)) (omega (arith, ap (λ (l : List ℕ). length l) c.as_slice-places.ensures, count values.offsets values.values indices.values indices.validity indices.validity_fits c.requires)) in
-    subst (λ rows. AreStarts g.O.NativeType.number values.values rows c.loop-k.starts.items) all c.loop-k.invariant.starts
-
-pub returns-clause-count : goal.returns-clause-count
-returns-clause-count g c =
-    let values = c.args.values.now in
-    let indices = c.args.indices.now in
-    let all = take_all c.loop-k.k (take_rows (plain_rows values) (primitive_rows indices)) (omega (arith, ap (λ (l : List ℕ). length l) c.as_slice-places.ensures, count values.offsets values.values indices.values indices.validity indices.validity_fits c.requires)) in
-    c.loop-k.invariant.count ∙ ap bytes_needed all
-
-pub returns-clause-fits : goal.returns-clause-fits
-returns-clause-fits g c =
-    let values = c.args.values.now in
-    let indices = c.args.indices.now in
-    let all = take_all c.loop-k.k (take_rows (plain_rows values) (primitive_rows indices)) (omega (arith, ap (λ (l : List ℕ). length l) c.as_slice-places.ensures, count values.offsets values.values indices.values indices.validity indices.validity_fits c.requires)) in
-    subst (λ rows. pos (bytes_needed rows) ≤ℤ g.O.NativeType.number g.O.NativeType.GREATEST) all (subst (λ n. pos n ≤ℤ g.O.NativeType.number g.O.NativeType.GREATEST) c.loop-k.invariant.count (subst (λ z. pos c.loop-k.end ≤ℤ z) c.most_bytes-most.ensures (omega (arith, ints, c.loop-k.invariant.most))))
+    let greatest = g.O.NativeType.number g.O.NativeType.GREATEST in
+    let long = count values.offsets values.values indices.values indices.validity indices.validity_fits c.requires.inside in
+    let all = take_all c.loop-k.k (take_rows (plain_rows values) (primitive_rows indices))
+    (omega (arith, c.loop-k-test.false, ap (λ (l : List ℕ). length l) c.as_slice-places.ensures, long)) in
+    record {
+      ends = c.loop-k.invariant.ends ∙ ap (λ rows. map pos (0 ∷ ends_from 0 rows)) all;
+      starts = subst (λ rows. AreStarts g.S.NativeType.number values.values rows c.loop-k.starts.items) all c.loop-k.invariant.starts;
+      count = c.loop-k.invariant.count ∙ ap bytes_needed all;
+      fits =
+          let most : pos c.loop-k.end ≤ℤ greatest = subst (λ z. pos c.loop-k.end ≤ℤ z) c.most_bytes-most.ensures (omega (arith, ints, c.loop-k.invariant.most)) in
+          subst (λ n. pos n ≤ℤ greatest) (c.loop-k.invariant.count ∙ ap bytes_needed all) most;
+      refusal = search rules;
+    }

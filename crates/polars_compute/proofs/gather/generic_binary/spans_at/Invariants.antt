@@ -8,7 +8,7 @@ invariant-loop-k g l =
     let rows = take_rows (plain_rows l.values) (primitive_rows l.indices) in
     record {
       ends : map g.O.NativeType.number l.ends.items ≡ map pos (0 ∷ ends_from 0 (take l.k rows));
-      starts : AreStarts g.O.NativeType.number l.values.values (take l.k rows) l.starts.items;
+      starts : AreStarts g.S.NativeType.number l.values.values (take l.k rows) l.starts.items;
       count : l.end ≡ bytes_needed (take l.k rows);
       most : l.end ≤ l.most;
       ends_count : vec_len l.ends ≡ l.k + 1;

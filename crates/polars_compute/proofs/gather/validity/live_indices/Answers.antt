@@ -3,16 +3,11 @@ use Rattle.polars_compute.proofs.Takes.{covers_for}
 use Rattle.polars_compute.proofs.TakenStructs.{live_rows}
 use Rattle.polars_compute.proofs.gather.validity.live_indices.Goals as goal
 
-pub invariant_of-result : goal.invariant_of-result
-invariant_of-result c =
+pub invariant_of-result-clause-validity_fits : goal.invariant_of-result-clause-validity_fits
+invariant_of-result-clause-validity_fits c =
     let indices = c.args.indices.now in
-    let items = c.in_ok-values.ensures.items in
-    record {
-      rows_fit = rw items indices.rows_fit;
-      validity_fits =
-          covers_for c.in_ok-validity.validity c.in_ok-values.values (primitive_rows indices) c.args.validity.now c.in_ok-validity.ensures.bits
-          (ap (λ (l : List ℕ). length l) items ∙ sym (length-number_rows pos indices.values indices.validity));
-    }
+    covers_for c.in_ok-validity.validity c.in_ok-values.values (primitive_rows indices) c.args.validity.now c.in_ok-validity.ensures.bits
+    (ap (λ (l : List ℕ). length l) c.in_ok-values.ensures.items ∙ sym (length-number_rows pos indices.values indices.validity))
 
 pub returns-clause-rows : goal.returns-clause-rows
 returns-clause-rows c =

@@ -1,5 +1,5 @@
 use Rattle.polars_compute.proofs.Common.{◌+◌, ◌∙◌, ap, length, refl, sym, subst, arith, HasLeft}
-use Rattle.polars_compute.proofs.Weaving.{lane_inside, part_done, row_after}
+use Rattle.polars_compute.proofs.Flattening.{lane_inside, part_done, row_after}
 use Rattle.polars_compute.proofs.lanes.Woven.next_lane.Goals as goal
 
 pub overflow_add-result : goal.overflow_add-result

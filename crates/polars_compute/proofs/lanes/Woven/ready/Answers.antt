@@ -1,5 +1,5 @@
 use Rattle.polars_compute.proofs.Common.{arith, refl, sym, subst, HasLeft}
-use Rattle.polars_compute.proofs.Weaving.{lane_inside}
+use Rattle.polars_compute.proofs.Flattening.{lane_inside}
 use Rattle.polars_compute.proofs.lanes.Woven.ready.Goals as goal
 
 pub overflow_mul-self : goal.overflow_mul-self

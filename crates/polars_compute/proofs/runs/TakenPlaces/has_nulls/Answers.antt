@@ -1,5 +1,5 @@
 use Rattle.polars_compute.proofs.Common.{All, map, pos, sym, subst, number_rows, IsPicked, pick_of}
-use Rattle.polars_compute.proofs.KeptRuns.{all_picked}
+use Rattle.polars_compute.proofs.Selects.{all_picked}
 use Rattle.polars_compute.proofs.runs.TakenPlaces.has_nulls.Goals as goal
 
 pub returns-in-None : goal.returns-in-None

@@ -1,5 +1,5 @@
 use Rattle.polars_compute.proofs.Common.{sym, ◌∙◌}
-use Rattle.polars_compute.proofs.Weaving.{pick_after, pick_first}
+use Rattle.polars_compute.proofs.Flattening.{pick_after, pick_first}
 use Rattle.polars_compute.proofs.woven.WovenPlan.next.Goals as goal
 
 pub invariant_of-self : goal.invariant_of-self

@@ -1,4 +1,4 @@
-use Rattle.polars_compute.proofs.Weaving.{part_after}
+use Rattle.polars_compute.proofs.Flattening.{part_after}
 use Rattle.polars_compute.proofs.woven.WovenPlan.next_run.Goals as goal
 
 pub overflow_sub-self : goal.overflow_sub-self

@@ -1,10 +1,6 @@
 use Rattle.polars_compute.proofs.Common.{◌∙◌, ap, sym, arith, primitive_rows, place_of, is_none}
-use Rattle.polars_compute.proofs.Blocks.{all_inside, long_rows, outside_at}
-use Rattle.polars_compute.proofs.EntryPlaces.{none_is}
+use Rattle.polars_compute.proofs.Elements.{all_inside, none_is, outside_at}
 use Rattle.polars_compute.proofs.gather.sublist.fixed_size_list.is_error.Goals as goal
-
-pub get-requires : goal.get-requires
-get-requires c = omega (arith, c.loop-k-test.true, c.requires, long_rows c.args.arr.now)
 
 pub returns-then-is_none : goal.returns-then-is_none
 returns-then-is_none c =

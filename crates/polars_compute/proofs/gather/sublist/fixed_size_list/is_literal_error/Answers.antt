@@ -1,6 +1,5 @@
 use Rattle.polars_compute.proofs.Common.{◌∙◌, ap, sym, arith, true, false, w64, place, at_each, is_none, to_z-of_z}
-use Rattle.polars_compute.proofs.Blocks.{all_inside, each_place, outside_at}
-use Rattle.polars_compute.proofs.EntryPlaces.{none_is}
+use Rattle.polars_compute.proofs.Elements.{all_inside, each_place, none_is, outside_at}
 use Rattle.polars_compute.proofs.gather.sublist.fixed_size_list.is_literal_error.Goals as goal
 
 pub returns-then-is_some : goal.returns-then-is_some

@@ -1,6 +1,5 @@
 use Rattle.polars_compute.proofs.Common.{◌+◌, ◌-◌, ◌∙◌, ap, sym, slice_index, w64, place, is_none, to_z-of_z}
-use Rattle.polars_compute.proofs.Offsets.{lacks_is, lacks_none}
-use Rattle.polars_compute.proofs.EntryPlaces.{none_is}
+use Rattle.polars_compute.proofs.Elements.{lacks_is, lacks_none, none_is}
 use Rattle.polars_compute.proofs.gather.sublist.list.is_oob_at.Goals as goal
 
 pub returns-then-not-is_valid_at : goal.returns-then-not-is_valid_at

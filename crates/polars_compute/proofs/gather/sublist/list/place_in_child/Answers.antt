@@ -1,5 +1,5 @@
 use Rattle.polars_compute.proofs.Common.{◌+◌, ◌-◌, ◌∙◌, ap, sym, arith, slice_index, w64, to_z, of_z, place}
-use Rattle.polars_compute.proofs.Offsets.{place_small}
+use Rattle.polars_compute.proofs.Elements.{place_small}
 use Rattle.polars_compute.proofs.gather.sublist.list.place_in_child.Goals as goal
 
 pub overflow_cast-result : goal.overflow_cast-result

@@ -1,7 +1,7 @@
-use Rattle.polars_compute.proofs.Common.{◌≡◌, ◌<◌, ◌+◌, ℤ, pos, ◌++◌, ◌∷◌, [], ◌∙◌, length, map, ap, sym, arith, w64, to_z, length-map-range_with_len, range_with_len}
-use Rattle.polars_compute.proofs.Common.{ints, IfOk-weaker, offsets_of, same_numbers}
+use Rattle.polars_compute.proofs.Common.{◌≡◌, ◌<◌, ◌+◌, ℤ, pos, ◌++◌, ◌∷◌, [], ◌∙◌, map, ap, sym, arith, w64, to_z, range_with_len, ints, IfOk-weaker}
+use Rattle.polars_compute.proofs.Common.{offsets_of, same_numbers}
 use Rattle.sel_gather.proofs.JoinedRows.{map_same}
-use Rattle.polars_compute.proofs.Units.{counts_rise, more_numbers}
+use Rattle.polars_compute.proofs.Elements.{counts_rise, more_numbers}
 use Rattle.polars_compute.proofs.gather.sublist.list.unit_offsets.Goals as goal
 
 pub loop-offset-preserved : goal.loop-offset-preserved
@@ -12,11 +12,6 @@ loop-offset-preserved c =
       c.push_reserved.ensures.items ∙ ap (λ z. c.loop-offset.offsets.items ++ z ∷ []) shown ∙ ap (λ l. l ++ pos k ∷ []) c.loop-offset.invariant.0 ∙ more_numbers k,
       c.push_reserved.ensures.capacity ∙ c.loop-offset.invariant.1,
     )
-
-pub push_reserved-requires : goal.push_reserved-requires
-push_reserved-requires c =
-    let many = ap length c.loop-offset.invariant.0 ∙ length-map-range_with_len pos 0 c.loop-offset.offset in
-    omega (arith, many, c.loop-offset.invariant.1, c.loop-offset.offsets.ok, c.in_ok-offsets.ensures.capacity, c.loop-offset-test.true)
 
 pub of_rising-requires : goal.of_rising-requires
 of_rising-requires c =

@@ -1,6 +1,5 @@
 use Rattle.polars_compute.proofs.Common.{◌∙◌, ◌+◌, ◌*◌, ap, arith, sym, subst}
-use Rattle.polars_compute.proofs.Blocks.{entry_small}
-use Rattle.polars_compute.proofs.EntryPlaces.{PlaceBelow}
+use Rattle.polars_compute.proofs.Elements.{PlaceBelow, entry_small}
 use Rattle.polars_compute.proofs.gather.sublist.fixed_size_list.Blocks.entry_at.Goals as goal
 
 pub overflow_cast-result : goal.overflow_cast-result

@@ -1,17 +1,6 @@
-use Rattle.polars_compute.proofs.Common.{◌∙◌, ℕ, ap, sym, arith, None, slice_index_or, primitive_rows, number_value, Null, child_pick, place_of, entry_place}
-use Rattle.polars_compute.proofs.Blocks.{entries_long, long_rows}
-use Rattle.polars_compute.proofs.EntryPlaces.{mapped_at}
+use Rattle.polars_compute.proofs.Common.{◌∙◌, ℕ, ap, sym, None, slice_index_or, primitive_rows, number_value, Null, child_pick, place_of, entry_place}
+use Rattle.polars_compute.proofs.Elements.{mapped_at}
 use Rattle.polars_compute.proofs.gather.sublist.fixed_size_list.EntryPlacesPlaces.get.Goals as goal
-
-pub get-requires : goal.get-requires
-get-requires c =
-    let p = c.args.self.now in
-    omega (arith, c.requires, entries_long p.blocks.arr.now (primitive_rows p.index.now), p.paired, long_rows p.blocks.arr.now)
-
-pub entry_at-requires-clause-inside : goal.entry_at-requires-clause-inside
-entry_at-requires-clause-inside c =
-    let p = c.args.self.now in
-    omega (arith, c.requires, entries_long p.blocks.arr.now (primitive_rows p.index.now))
 
 pub returns : goal.returns
 returns c =

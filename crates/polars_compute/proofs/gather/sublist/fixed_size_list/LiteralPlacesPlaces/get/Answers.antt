@@ -1,12 +1,6 @@
 use Rattle.polars_compute.proofs.Common.{◌<◌, ◌∙◌, ℕ, ap, sym, subst, arith, None, slice_index_or, Null, Number, child_pick, at_each, place_of, entry_place}
-use Rattle.polars_compute.proofs.Blocks.{each_place, entries_long, place_of_below}
-use Rattle.polars_compute.proofs.EntryPlaces.{mapped_at, PlaceBelow}
+use Rattle.polars_compute.proofs.Elements.{PlaceBelow, each_place, entries_long, mapped_at, place_of_below}
 use Rattle.polars_compute.proofs.gather.sublist.fixed_size_list.LiteralPlacesPlaces.get.Goals as goal
-
-pub entry_at-requires-clause-inside : goal.entry_at-requires-clause-inside
-entry_at-requires-clause-inside c =
-    let arr = c.args.self.now.blocks.arr.now in
-    omega (arith, c.requires, entries_long arr (at_each arr c.args.self.now.index))
 
 pub entry_at-requires-clause-below : goal.entry_at-requires-clause-below
 entry_at-requires-clause-below c =

@@ -1,6 +1,5 @@
 use Rattle.polars_compute.proofs.Common.{◌∙◌, ap, sym, at_each, is_none, is_some}
-use Rattle.polars_compute.proofs.Blocks.{each_place, entries_there}
-use Rattle.polars_compute.proofs.EntryPlaces.{copied_there, is_gone, none_is}
+use Rattle.polars_compute.proofs.Elements.{copied_there, each_place, entries_there, is_gone, none_is}
 use Rattle.polars_compute.proofs.gather.sublist.fixed_size_list.LiteralPlacesPlaces.has_nulls.Goals as goal
 
 pub returns-else-is_none : goal.returns-else-is_none

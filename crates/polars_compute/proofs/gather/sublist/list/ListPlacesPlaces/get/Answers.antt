@@ -1,11 +1,6 @@
-use Rattle.polars_compute.proofs.Common.{◌∙◌, ap, sym, arith, None, rules, SFits, w64, rows_between, child_pick, child_place, to_z-of_z}
-use Rattle.polars_compute.proofs.EntryPlaces.{mapped_at, mapped_count}
+use Rattle.polars_compute.proofs.Common.{◌∙◌, ap, sym, None, rules, SFits, w64, rows_between, child_pick, child_place, to_z-of_z}
+use Rattle.polars_compute.proofs.Elements.{mapped_at}
 use Rattle.polars_compute.proofs.gather.sublist.list.ListPlacesPlaces.get.Goals as goal
-
-pub place_in_child-requires : goal.place_in_child-requires
-place_in_child-requires c =
-    let arr = c.args.self.now.arr.now in
-    omega (arith, c.requires, mapped_count child_pick (child_place arr.offsets arr.validity c.args.self.now.index) (rows_between arr.offsets))
 
 pub returns : goal.returns
 returns c =

@@ -1,7 +1,6 @@
 use Rattle.polars_compute.proofs.Common.{◌∙◌, ap, sym, rules, SFits, w64, rows, oob, to_z-of_z}
 use Rattle.sel_arrow.specs.NestedArrays.{list_column}
-use Rattle.polars_compute.proofs.Offsets.{all_there}
-use Rattle.polars_compute.proofs.EntryPlaces.{is_gone}
+use Rattle.polars_compute.proofs.Elements.{all_there, is_gone}
 use Rattle.polars_compute.proofs.gather.sublist.list.ListPlacesPlaces.has_nulls.Goals as goal
 
 pub returns-else-is_some : goal.returns-else-is_some

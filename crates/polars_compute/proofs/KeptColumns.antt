@@ -1,13 +1,18 @@
--- The blocks that a mask selects, and the values in them.
-use Rattle.polars_compute.proofs.Common.{◌≡◌, ℕ, zero, suc, ◌+◌, ◌-◌, ◌*◌, ◌≤◌, ◌<◌, Bool, true, false, List, [], ◌∷◌, ◌++◌, length, take, drop, map, get_or, Option, Box}
-use Rattle.polars_compute.proofs.Common.{Global, refl, ap, sym, ◌∙◌, subst, arith, length-append, first_chunks, take-append_seam, drop-append-add, drop-drop, drop-map}
-use Rattle.polars_compute.proofs.Common.{ext_get_or, length-drop, length-map, length-take, map-append, take-map, get_or-map-range_with_len, mul-le, Bits, count_true}
-use Rattle.polars_compute.proofs.Common.{Covers, blocks, block_rows, list_of, rows, row_count, type_of, well_formed, of_fixed_size_list, Value, Column, FixedSizeList}
-use Rattle.polars_compute.proofs.Common.{FixedSizeList', HasBlocks, has_blocks, length-blocks, length-rows, few_kept, length-select, select, flat_map, slice_range}
-use Rattle.polars_compute.proofs.Common.{option_map, suc-mul}
+-- Filtered fixed-size list and struct columns.
+use Rattle.polars_compute.proofs.Common.{◌≡◌, ℕ, zero, suc, ◌+◌, ◌-◌, ◌*◌, ◌≤◌, ◌<◌, Bool, true, false, List, [], ◌∷◌, ◌++◌, length, take, drop, map, get_or}
+use Rattle.polars_compute.proofs.Common.{Option, Box, Global, refl, ap, sym, ◌∙◌, subst, arith, length-append, first_chunks, drop-drop, drop-map, ext_get_or}
+use Rattle.polars_compute.proofs.Common.{length-drop, length-map, length-take, map-append, take-map, get_or-map-range_with_len, mul-le, Bits, count_true}
+use Rattle.polars_compute.proofs.Common.{Covers, blocks, block_rows, list_of, rows, row_count, type_of, well_formed, of_fixed_size_list, Value, Column}
+use Rattle.polars_compute.proofs.Common.{FixedSizeList, FixedSizeList', HasBlocks, has_blocks, length-blocks, length-rows, few_kept, length-select, select}
+use Rattle.polars_compute.proofs.Common.{flat_map, slice_range, option_map, suc-mul, map-map, All, Vec, range_with_len, get_or-map, All-nil, All-cons, All-head}
+use Rattle.polars_compute.proofs.Common.{All-tail, length-map-range_with_len, fill_by_all, masked, struct_at, IsField, Null, Struct, rows-Struct, has_fields}
+use Rattle.polars_compute.proofs.Common.{fields_make, kept, few_rows}
 use Rattle.sel_arrow.proofs.NestedRows.{blocks_formed}
+use Rattle.std.proofs.lemmas.List.{take_at, drop_at}
 use Rattle.polars_compute.specs.FixedSizeLists.{IsFixedSizeList}
-use Rattle.polars_compute.proofs.Selects.{kept_covers, kept_rows, select-map}
+use Rattle.polars_compute.proofs.Selects.{count_kept, kept_below, kept_covers, kept_rows, select-map, select-masked, selected}
+use Rattle.sel_arrow.specs.Nested.{struct_rows}
+use Rattle.sel_arrow.specs.Value.{Tuple, values_of}
 
 -- ---- blocks as consecutive chunks
 
@@ -41,9 +46,7 @@ chunks_are w n xs =
 
 mapped_chunks : {A B : Type 0} (f : A → B) (w n : ℕ) (xs : List A) → first_chunks w n (map f xs) ≡ map (map f) (first_chunks w n xs)
 mapped_chunks f w zero xs = refl
-mapped_chunks f w (suc n) xs =
-    ap (λ l. l ∷ first_chunks w n (drop w (map f xs))) (take-map f w xs)
-    ∙ ap (λ l. map f (take w xs) ∷ l) (ap (first_chunks w n) (drop-map f w xs) ∙ mapped_chunks f w n (drop w xs))
+mapped_chunks f w (suc n) xs = rw (take-map, drop-map, mapped_chunks f w n (drop w xs))
 
 mapped_joined : {A B : Type 0} (f : A → B) (xss : List (List A)) → map f (joined xss) ≡ joined (map (map f) xss)
 mapped_joined f [] = refl
@@ -74,13 +77,7 @@ length-joined w (xs ∷ xss) wide = omega (arith, length-append xs (joined xss),
 
 chunks_joined : {A : Type 0} (w : ℕ) (xss : List (List A)) → AllWide w xss → first_chunks w (length xss) (joined xss) ≡ xss
 chunks_joined w [] wide = refl
-chunks_joined w (xs ∷ xss) wide =
-    let rest = joined xss in
-    let front : take w (xs ++ rest) ≡ xs = ap (λ n. take n (xs ++ rest)) (sym wide.0) ∙ take-append_seam xs rest in
-    let plus : w ≡ length xs + 0 = omega (arith, wide.0) in
-    let back : drop w (xs ++ rest) ≡ rest = ap (λ n. drop n (xs ++ rest)) plus ∙ drop-append-add xs rest 0 in
-    ap (λ l. l ∷ first_chunks w (length xss) (drop w (xs ++ rest))) front
-    ∙ ap (λ l. xs ∷ l) (ap (first_chunks w (length xss)) back ∙ chunks_joined w xss wide.1)
+chunks_joined w (xs ∷ xss) wide = rw (take_at xs (joined xss) w wide.0, drop_at xs (joined xss) w wide.0, chunks_joined w xss wide.1)
 
 -- ---- the values of selected blocks
 
@@ -160,3 +157,75 @@ module _ (c : Column) (size count : ℕ) (child : Column) (validity seen : Optio
         covered = kept_covers validity seen ms ms count (λ v there. has.covered v there ∙ same_count) valid counted;
         child = child_formed;
       })
+
+-- ---- filtered struct rows, field by field
+
+-- Row k of a filtered list is its row at the k-th position that is selected.
+kept_row : (xs : List Value) (ms : List Bool) (k : ℕ) → length xs ≡ length ms → k < length (kept ms) → get_or (select xs ms) k Null ≡ get_or xs (get_or (kept ms) k 0) Null
+kept_row xs ms k long lt = ap (λ l. get_or l k Null) (selected xs ms Null long) ∙ get_or-map (λ i. get_or xs i Null) (kept ms) k 0 Null lt
+
+-- Row k of the filtered fields is the struct row at the k-th position that is selected.
+kept_tuple : (fs : List (List Value)) (ms : List Bool) (k : ℕ) → All (λ f. length f ≡ length ms) fs → k < length (kept ms) → struct_at (map (λ f. select f ms) fs) k ≡ struct_at fs (get_or (kept ms) k 0)
+kept_tuple fs ms k all lt = ap (λ values. Tuple (values_of values)) (each fs all)
+  where
+    each : (fs : List (List Value)) → All (λ f. length f ≡ length ms) fs → map (λ f. get_or f k Null) (map (λ f. select f ms) fs) ≡ map (λ f. get_or f (get_or (kept ms) k 0) Null) fs
+    each [] all = refl
+    each (f ∷ fs) all =
+        let fits = λ (f : List Value). length f ≡ length ms in
+        cc (kept_row f ms k (All-head fits f fs all) lt, each fs (All-tail fits f fs all))
+
+-- The struct rows of the filtered fields are the filtered struct rows.
+kept_plain : (fs : List (List Value)) (n count : ℕ) (ms : List Bool) → n ≡ length ms → count ≡ count_true ms → All (λ f. length f ≡ length ms) fs
+    → select (map (struct_at fs) (range_with_len 0 n)) ms ≡ map (struct_at (map (λ f. select f ms) fs)) (range_with_len 0 count)
+kept_plain fs n count ms long counts all =
+    let plain = map (struct_at fs) (range_with_len 0 n) in
+    let whole : length plain ≡ length ms = length-map-range_with_len (struct_at fs) 0 n ∙ long in
+    fill_by_all (struct_at (map (λ f. select f ms) fs)) (select plain ms) count Null (length-select plain ms whole ∙ sym counts)
+    (λ k lt.
+    let inside : k < length (kept ms) = omega (arith, lt, counts, count_kept ms) in
+    let below : get_or (kept ms) k 0 < n = omega (arith, kept_below ms k inside, long) in
+    kept_row plain ms k whole inside
+    ∙ get_or-map-range_with_len (struct_at fs) 0 n (get_or (kept ms) k 0) (get_or (kept ms) k 0) Null below (omega arith)
+    ∙ sym (kept_tuple fs ms k all inside))
+
+pub kept_tuples : (fs : List (List Value)) (n count : ℕ) (validity seen : Option Bits) (ms : List Bool) → n ≡ length ms → count ≡ count_true ms → All (λ f. length f ≡ length ms) fs → Covers validity n
+    → option_map (λ v. v.bits) seen ≡ option_map (λ v. select v.bits ms) validity → struct_rows count (map (λ f. select f ms) fs) seen ≡ select (struct_rows n fs validity) ms
+kept_tuples fs n count validity seen ms long counts all covers is =
+    let plain = map (struct_at fs) (range_with_len 0 n) in
+    ap (masked seen) (sym (kept_plain fs n count ms long counts all))
+    ∙ select-masked validity seen plain ms (λ v there. covers v there ∙ sym (length-map-range_with_len (struct_at fs) 0 n)) is
+
+-- ---- columns
+
+-- The rows of a column that a mask selects.
+abbrev pub kept_of : List Bool → Column → List Value
+kept_of ms column = select (rows column) ms
+
+field_lengths : (n : ℕ) (ms : List Bool) (cs : List Column) → n ≡ length ms → All (IsField n) cs → All (λ f. length f ≡ length ms) (map rows cs)
+field_lengths n ms [] long all = All-nil (λ f. length f ≡ length ms)
+field_lengths n ms (c ∷ cs) long all =
+    All-cons (λ f. length f ≡ length ms) (rows c) (map rows cs) (length-rows c ∙ (All-head (IsField n) c cs all).0 ∙ long)
+    (field_lengths n ms cs long (All-tail (IsField n) c cs all))
+
+pub kept_struct_rows : (n count : ℕ) (fields parts : Vec Column Global) (validity seen : Option Bits) (ms : List Bool) → well_formed (Struct n fields validity) ≡ true → n ≡ length ms → count ≡ count_true ms
+    → map rows parts.items ≡ map (kept_of ms) fields.items → option_map (λ v. v.bits) seen ≡ option_map (λ v. select v.bits ms) validity → rows (Struct count parts seen) ≡ select (rows (Struct n fields validity)) ms
+kept_struct_rows n count fields parts validity seen ms formed long counts made is =
+    let has = has_fields n fields validity formed in
+    rows-Struct count parts seen
+    ∙ ap (λ fs. struct_rows count fs seen) (made ∙ sym (map-map (λ f. select f ms) rows fields.items))
+    ∙ kept_tuples (map rows fields.items) n count validity seen ms long counts (field_lengths n ms fields.items long has.fields) has.covered is
+    ∙ ap (λ vs. select vs ms) (sym (rows-Struct n fields validity))
+
+pub kept_struct_formed : (n count : ℕ) (fields parts : Vec Column Global) (validity seen : Option Bits) (ms : List Bool) → well_formed (Struct n fields validity) ≡ true → n ≡ length ms → count ≡ count_true ms
+    → All (IsField (count_true ms)) parts.items → option_map (λ v. v.bits) seen ≡ option_map (λ v. select v.bits ms) validity → well_formed (Struct count parts seen) ≡ true
+kept_struct_formed n count fields parts validity seen ms formed long counts all is =
+    let has = has_fields n fields validity formed in
+    let kept_count = length-select ms ms refl in
+    fields_make count parts seen
+    (record {
+      few = omega (arith, counts, kept_count, few_kept ms ms, long, has.few);
+      covered = kept_covers validity seen ms ms count (λ v there. has.covered v there ∙ long) is (counts ∙ sym kept_count);
+      fields = subst (λ k. All (IsField k) parts.items) (sym counts) all;
+    })
+
+pub ruleset row_counts = (few_rows, length-rows)
