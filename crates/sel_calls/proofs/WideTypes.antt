@@ -4,22 +4,22 @@ use Rattle.sel_calls.proofs.Common.{flat_map, nat_tests, shape_of, shapes_of_eac
 use Rattle.sel_arrow.specs.declared.datatype.ArrowDataType.{ArrowDataType, Row_of-ArrowDataType, end_of-ArrowDataType, more_of-ArrowDataType}
 use Rattle.sel_arrow.specs.declared.datatype.ArrowDataType.TheVariants.{LargeList', FixedSizeList', Struct'}
 use Rattle.sel_text.specs.declared.build.NullSlots.{NullSlots}
-use Rattle.sel_text.proofs.Making.{or_first, or_second}
+use Rattle.std.proofs.lemmas.Bool.{or_left, or_right}
 
 -- One of two conditions does not hold.
 one_fails : (a b : Bool) → (a && b) ≡ false → (p q : Bool) → (a ≡ false → p ≡ true) → (b ≡ false → q ≡ true) → (p || q) ≡ true
-one_fails false b fails p q one other = or_first p q (one refl)
-one_fails true b fails p q one other = or_second p q (other fails)
+one_fails false b fails p q one other = or_left p q (one refl)
+one_fails true b fails p q one other = or_right p q (other fails)
 
 long_past : (size : ℕ) → is_few size ≡ false → exceeds_max size ≡ true
 long_past size many = grind (arith, nat_tests, many)
 
 mutual
   pub wide_past : (beneath : NullSlots) (dtype : ArrowDataType) → widths_fit dtype ≡ false → (rows : List Value) → exceeds_limit beneath (shape_of dtype) rows ≡ true
-  wide_past beneath (LargeList' p child) wide rows = or_second (exceeds_max (length rows)) _ (wide_past beneath child wide (flat_map (entries_in beneath) rows))
+  wide_past beneath (LargeList' p child) wide rows = or_right (exceeds_max (length rows)) _ (wide_past beneath child wide (flat_map (entries_in beneath) rows))
   wide_past beneath (FixedSizeList' p child size) wide rows =
-      one_fails (is_few size) (widths_fit child) wide (exceeds_max (length rows) || exceeds_max size) _ (λ many. or_second (exceeds_max (length rows)) (exceeds_max size) (long_past size many)) (λ deep. wide_past beneath child deep (flat_map (block_in size) rows))
-  wide_past beneath (Struct' n fields) wide rows = or_second (exceeds_max (length rows)) _ (any_wide_past beneath fields wide 0 rows)
+      one_fails (is_few size) (widths_fit child) wide (exceeds_max (length rows) || exceeds_max size) _ (λ many. or_right (exceeds_max (length rows)) (exceeds_max size) (long_past size many)) (λ deep. wide_past beneath child deep (flat_map (block_in size) rows))
+  wide_past beneath (Struct' n fields) wide rows = or_right (exceeds_max (length rows)) _ (any_wide_past beneath fields wide 0 rows)
   wide_past beneath dtype wide rows = absurd (true≢false wide)
 
   any_wide_past : (beneath : NullSlots) {n : _} (dtypes : Row_of-ArrowDataType n) → all_widths_fit dtypes ≡ false → (place : ℕ) (rows : List Value) → any_exceeds_limit beneath (shapes_of_each dtypes) place rows ≡ true

@@ -1,12 +1,12 @@
 -- The child rows of lists.
-use Rattle.std.proofs.Common.{◌≡◌, ℕ, zero, suc, ◌+◌, ◌*◌, Bool, true, false, ◌||◌, ◌==◌, List, [], ◌∷◌, ◌++◌, map, length, Option, Some, refl, sym, ap, ◌∙◌, arith, append_assoc, length-append, not, nat_lt}
-use Rattle.sel_text.proofs.Common.{flat_map, list_all, slice_range, range_with_len, nat_tests, length-replicate, list_all-append, Bits, Malformed, ChildLength, OffsetRange, TooManyRows, ValidityLength, Width, masked, too_many, validity_differs, Covers, list_fault, block_fault, list_of, list_rows, block_rows, rows_between, last_offset, rows, Shape, of_large_list, of_fixed_size_list, Value, Null, Items, Values, no_values, next_value, listed, is_valid, Column, both, and_first, and_second, offsets_below, fits, all_fit, block_in, entries_in, ShowsRows, NullSlots}
+use Rattle.std.proofs.Common.{◌<◌, replicate, ◌≡◌, ℕ, ◌+◌, ◌*◌, Bool, true, false, ◌||◌, ◌==◌, List, [], ◌∷◌, ◌++◌, map, length, Option, Some, refl, sym, ap, ◌∙◌, arith, append_assoc, length-append, not, nat_lt}
+use Rattle.sel_text.proofs.Common.{max_rows, of_null, exceeds_limit, eq-eqb, flat_map, list_all, slice_range, range_with_len, nat_tests, length-replicate, list_all-append, Bits, Malformed, ChildLength, OffsetRange, TooManyRows, ValidityLength, Width, masked, too_many, validity_differs, Covers, list_fault, block_fault, list_of, list_rows, block_rows, rows_between, last_offset, rows, Shape, of_large_list, of_fixed_size_list, Value, Null, Items, Values, no_values, next_value, listed, is_valid, Column, both, and_first, and_second, offsets_below, fits, all_fit, block_in, entries_in, ShowsRows, NullSlots}
 use Rattle.sel_text.specs.declared.build.NullSlots.TheVariants.{Zeros, Others}
 use Rattle.sel_text.proofs.FittingRows.{nulls_fit}
 use Rattle.sel_text.proofs.ItemRows.{values_back}
-use Rattle.sel_text.proofs.Making.{first_of_three, first_of_four}
+use Rattle.sel_text.proofs.Making.{all_nulls, first_of_three, first_of_four}
 use Rattle.sel_text.proofs.OffsetsBelow.{count_between, ends_inside, parts_between, slice_here}
-use Rattle.sel_text.proofs.Refusals.{no_difference}
+use Rattle.sel_text.proofs.Refusals.{many_past, no_difference}
 use Rattle.sel_text.proofs.Shown.{show_next}
 
 listed_fit : (s : Shape) (vs : Values) → all_fit s vs ≡ true → list_all (fits s) (listed vs) ≡ true
@@ -73,10 +73,12 @@ module _ (below : Value → List Value) (p : Value → Bool) where
       let rest = blocks_from size sized rows (pre ++ below row) child (k + 1) (and_second (p row) (list_all p rows) fit) next (is ∙ sym (append_assoc pre (below row) (flat_map below rows))) in
       ap (λ l. slice_range l (k * size) (k * size + size) ∷ map (λ i. slice_range child (i * size) (i * size + size)) (range_with_len (k + 1) (length rows))) is ∙ cc (here, rest)
 
--- ---- the rules of a list column: only those on sizes can be broken
+-- The child rows of lists fit the type of the entries.
+pub lists_fit : (b : NullSlots) (s : Shape) (vs below : List Value) → below ≡ flat_map (entries_in b) vs → list_all (fits (of_large_list s)) vs ≡ true → list_all (fits s) below ≡ true
+lists_fit b s vs below read fit = ap (list_all (fits s)) read ∙ all_below (entries_in b) (fits (of_large_list s)) (fits s) (list_below s b) vs fit
 
-is_equal : (m n : ℕ) → m ≡ n → not (m == n) ≡ false
-is_equal m n same = grind (arith, nat_tests)
+pub blocks_fit : (s : Shape) (size : ℕ) (vs below : List Value) → below ≡ flat_map (block_in size) vs → list_all (fits (of_fixed_size_list s size)) vs ≡ true → list_all (fits s) below ≡ true
+blocks_fit s size vs below read fit = ap (list_all (fits s)) read ∙ all_below (block_in size) (fits (of_fixed_size_list s size)) (fits s) (block_below s size) vs fit
 
 -- ---- list columns
 
@@ -116,4 +118,21 @@ pub blocks_past : (s : Shape) (size : ℕ) (vs : List Value) (n count : ℕ) (va
 blocks_past s size vs n count validity m fit same long covers is =
     let fills : count ≡ n * size = long ∙ blocks_long (block_in size) (fits (of_fixed_size_list s size)) size (block_long s size) vs fit ∙ ap (λ k. k * size) (sym same) in
     let kept : validity_differs validity n ≡ false = ap (validity_differs validity) same ∙ no_difference validity (length vs) covers in
-    ap (λ k. too_many k || too_many size) (sym same) ∙ first_of_four (too_many n) (too_many size) (not (count == n * size)) (validity_differs validity n) TooManyRows Width ChildLength ValidityLength m (is_equal count (n * size) fills) kept is
+    ap (λ k. too_many k || too_many size) (sym same) ∙ first_of_four (too_many n) (too_many size) (not (count == n * size)) (validity_differs validity n) TooManyRows Width ChildLength ValidityLength m (ap not (eq-eqb count (n * size) fills)) kept is
+
+-- Too many child rows exceed a limit.
+pub blocks_many : (b : NullSlots) (s : Shape) (size n : ℕ) (vs : List Value) → list_all (fits (of_fixed_size_list s size)) vs ≡ true → n ≡ length vs → max_rows < n * size → exceeds_limit b s (flat_map (block_in size) vs) ≡ true
+blocks_many b s size n vs fit same many =
+    let count = blocks_count s size n vs fit same in
+    let more : max_rows < length (flat_map (block_in size) vs) = omega (arith, count, many) in
+    many_past b s (flat_map (block_in size) vs) (grind (arith, nat_tests, more))
+
+-- Child rows of the null type are as many nulls.
+pub blocks_null : (size n : ℕ) (vs : List Value) → list_all (fits (of_fixed_size_list of_null size)) vs ≡ true → n ≡ length vs → replicate (n * size) Null ≡ flat_map (block_in size) vs
+blocks_null size n vs fit same =
+    ap (λ k. replicate k Null) (sym (blocks_count of_null size n vs fit same))
+    ∙ all_nulls (flat_map (block_in size) vs) (all_below (block_in size) (fits (of_fixed_size_list of_null size)) (fits of_null) (block_below of_null size) vs fit)
+
+-- The same if their number has more than 64 bits.
+pub blocks_wide : (b : NullSlots) (s : Shape) (size n : ℕ) (vs : List Value) → list_all (fits (of_fixed_size_list s size)) vs ≡ true → n ≡ length vs → (n * size < 18446744073709551616 → ⊥) → exceeds_limit b s (flat_map (block_in size) vs) ≡ true
+blocks_wide b s size n vs fit same wide = let many : max_rows < n * size = grind (arith, wide) in blocks_many b s size n vs fit same many

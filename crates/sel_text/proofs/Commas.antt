@@ -1,6 +1,32 @@
 -- Parts followed by commas, as they are parsed.
-use Rattle.std.proofs.Common.{◌≡◌, ℕ, List, [], ◌∷◌, ◌++◌, refl, ap, sym, ◌∙◌, append_assoc, append-nil}
+use Rattle.std.proofs.Common.{◌≡◌, ◌≢◌, ℕ, List, [], ◌∷◌, ◌++◌, refl, ap, sym, ◌∙◌, append_assoc, append-nil}
 use Rattle.sel_text.proofs.Common.{flat_map, join_with_byte, flat_map-append}
+
+-- The parts from the second on, each after a comma, then the closing bracket and a rest.
+abbrev pub after : ℕ → List (List ℕ) → List ℕ → List ℕ
+after close [] r = close ∷ r
+after close (x ∷ xs) r = 44 ∷ x ++ after close xs r
+
+-- All parts, separated by commas, then the closing bracket and a rest.
+abbrev pub inside : ℕ → List (List ℕ) → List ℕ → List ℕ
+inside close [] r = close ∷ r
+inside close (x ∷ xs) r = x ++ after close xs r
+
+joined_after : (close : ℕ) (x : List ℕ) (xs : List (List ℕ)) (r : List ℕ) → (join_with_byte 44 (x ∷ xs) ++ close ∷ []) ++ r ≡ x ++ after close xs r
+joined_after close x [] r = append_assoc x (close ∷ []) r
+joined_after close x (y ∷ xs) r =
+    append_assoc (x ++ (44 ∷ join_with_byte 44 (y ∷ xs))) (close ∷ []) r
+    ∙ append_assoc x (44 ∷ join_with_byte 44 (y ∷ xs)) (close ∷ r)
+    ∙ ap (λ l. x ++ (44 ∷ l)) (sym (append_assoc (join_with_byte 44 (y ∷ xs)) (close ∷ []) r) ∙ joined_after close y xs r)
+
+pub joined_inside : (close : ℕ) (xs : List (List ℕ)) (r : List ℕ) → (join_with_byte 44 xs ++ close ∷ []) ++ r ≡ inside close xs r
+joined_inside close [] r = refl
+joined_inside close (x ∷ xs) r = joined_after close x xs r
+
+-- A closing bracket or a comma follows each part.
+pub bracket_or_comma : (close : ℕ) (texts : List (List ℕ)) (next more : List ℕ) → next ≡ after close texts more → ((end : List ℕ) → next ≢ close ∷ end) → ((rest : List ℕ) → next ≢ 44 ∷ rest) → ⊥
+bracket_or_comma close [] next more is no_bracket no_comma = no_bracket _ is
+bracket_or_comma close (x ∷ texts) next more is no_bracket no_comma = no_comma _ is
 
 -- Each part, followed by a comma.
 abbrev pub commas : List (List ℕ) → List ℕ

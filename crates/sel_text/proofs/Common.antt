@@ -1,5 +1,5 @@
 -- The names that most proofs cite, passed on from one place. Declares nothing.
-pub use Rattle.sel_arrow.proofs.Lists.{all_at, all_part, and_first, and_second, both}
+pub use Rattle.sel_arrow.proofs.Lists.{all_at, all_part, and_first, and_second, both, push_more}
 pub use Rattle.sel_arrow.specs.Columns.{binview_rows, utf8view_rows}
 pub use Rattle.sel_arrow.specs.DataType.{shape_of}
 pub use Rattle.sel_arrow.specs.Depth.{deepest, depth}
@@ -23,9 +23,9 @@ pub use Rattle.sel_bits.specs.Limits.{max_buffer_bytes, max_rows}
 pub use Rattle.sel_bits.specs.declared.faults.Malformed.{Malformed}
 pub use Rattle.sel_bits.specs.declared.faults.Malformed.TheVariants.{ChildLength, FieldLength, OffsetRange, TooManyBuffers, TooManyRows, Utf8, ValidityLength, ViewPrefix, ViewRange, Width}
 pub use Rattle.sel_text.specs.Below.{HasParts, ends_below, offsets_below, parts_below}
-pub use Rattle.sel_text.specs.Cells.{CellFits, CellKind, HasCellRow, cell_value}
+pub use Rattle.sel_text.specs.Cells.{HasCellRow, cell_value}
 pub use Rattle.sel_text.specs.Digits.{NoDigit}
-pub use Rattle.sel_text.specs.Fits.{RowsFit, all_fit, are_bytes, fields_fit, fits, fits_bytes, fits_count, fits_number, fits_unsigned, is_boolean_shape}
+pub use Rattle.sel_text.specs.Fits.{RowsFit, all_fit, are_bytes, fields_fit, fits, fits_bytes, fits_count, fits_number, is_boolean_shape}
 pub use Rattle.sel_text.specs.ItemValues.{item_value, rows_read, values_read}
 pub use Rattle.sel_text.specs.Limits.{all_placed_bytes, any_exceeds_limit, block_in, bytes_placed, entries_in, exceeds_limit, exceeds_max, part_in}
 pub use Rattle.sel_text.specs.Notation.{IsFirstError, after_byte, changed, closes, closing, goes_on, innermost, is_end, is_last, is_lower, is_row_notation, is_some_and, is_type_notation, kept, name_byte, value_byte}
@@ -35,7 +35,7 @@ pub use Rattle.sel_text.specs.Steps.{IsMemoryFault, MakesColumn, ReportsLimit, S
 pub use Rattle.sel_text.specs.Stored.{bool_stored, bytes_behind, bytes_stored}
 pub use Rattle.sel_text.specs.TextErrors.{IsLimitOrMemoryError, make_fault}
 pub use Rattle.sel_text.specs.Texts.{bool_text, bracketed, bytes_text, escaped, hex_byte, hex_text, is_text_shape, item_shape, item_texts, parenthesized, part_shapes, part_texts, quoted, text_of, value_text}
-pub use Rattle.sel_text.specs.Tokens.{after_name_byte, after_string_byte, after_word_byte, escape_byte, is_between, is_hexadecimal, low_first_byte, low_second_byte, text_byte, unit_first_byte, unit_second_byte}
+pub use Rattle.sel_text.specs.Tokens.{after_name_byte, after_string_byte, after_word_byte, escape_byte, is_between, is_hexadecimal, text_byte}
 pub use Rattle.sel_text.specs.Types.{angled, type_text, type_texts}
 pub use Rattle.sel_text.specs.Written.{all_widths_written, widths_written}
 pub use Rattle.sel_text.specs.declared.build.NullSlots.{NullSlots}
@@ -43,26 +43,26 @@ pub use Rattle.sel_text.specs.declared.item.Item.{Item, Items as ItemsItem, Part
 pub use Rattle.sel_text.specs.declared.notation.Bracket.{Bracket}
 pub use Rattle.sel_text.specs.declared.notation.Bracket.TheVariants.{Child, Fields, Round, Square}
 pub use Rattle.sel_text.specs.declared.notation.Change.{Change}
-pub use Rattle.sel_text.specs.declared.notation.Change.TheVariants.{Close, Keep, Open}
+pub use Rattle.sel_text.specs.declared.notation.Change.TheVariants.{Close, Keep}
 pub use Rattle.sel_text.specs.declared.notation.Next.{Next}
 pub use Rattle.sel_text.specs.declared.notation.Next.TheVariants.{After, FirstName, Name, Quoted, Size, SizeDigit}
 pub use Rattle.sel_text.specs.declared.spelling.Place.{Place}
 pub use Rattle.sel_text.specs.declared.spelling.Place.TheVariants.{Between, Gap, Hexadecimal as InHex, Prefix, Quoted as InString, Word as PlaceWord}
 pub use Rattle.sel_text.specs.declared.text_error.Fault.{Fault}
-pub use Rattle.sel_text.specs.declared.text_error.Fault.TheVariants.{Limit, OutOfMemory, Syntax, «Type»}
+pub use Rattle.sel_text.specs.declared.text_error.Fault.TheVariants.{Limit, OutOfMemory}
 pub use Rattle.sel_text.specs.declared.tokens.TypeWord.{TypeWord as TypeWordSoFar}
-pub use Rattle.sel_text.specs.declared.tokens.TypeWord.TheVariants.{B, Bi, Bin, Bina, Binar, Binv, Binvi, Binvie, Bo, Boo, F as FixedF, Fi, Fix, Fixe, I, I1, I12, I3, I6, L, Li, Lis, S, St, Str, Stru, Struc, U, Ut, Utf}
+pub use Rattle.sel_text.specs.declared.tokens.TypeWord.TheVariants.{B, Lis}
 pub use Rattle.sel_text.specs.declared.tokens.Within.{Within}
 pub use Rattle.sel_text.specs.declared.tokens.Within.TheVariants.{AfterE0, AfterEd, AfterF0, AfterF4, ByteOne, ByteThree, ByteTwo, Escape, HighOne, HighTwo, LastOne, LastThree, LastTwo, LowBackslash, LowFirst, LowLetter, LowSecond, Text, UnitFirst, UnitSecond}
 pub use Rattle.sel_text.specs.declared.tokens.Word.{Word as WordSoFar}
-pub use Rattle.sel_text.specs.declared.tokens.Word.TheVariants.{F as FalseF, Fa, Fal, Fals, N, Nu, Nul, T, Tr, Tru}
-pub use Rattle.std.proofs.lemmas.Bool.{eq-eqb, eqb-true, false_from_ne_true, false≢true}
-pub use Rattle.std.proofs.lemmas.Bool.Decides.{Decides-ltb, nat_tests}
+pub use Rattle.sel_text.specs.declared.tokens.Word.TheVariants.{N}
+pub use Rattle.std.proofs.lemmas.Bool.{cond_both, eq-eqb, eqb-true, false_from_ne_true, false≢true, or_from, or_left, or_parts, or_right}
+pub use Rattle.std.proofs.lemmas.Bool.Decides.{nat_tests}
 pub use Rattle.std.proofs.lemmas.Fmt.{decimal-digits_value, decimal_digit, decimal_is_IsNumeral_wide, decimal_step_wide}
 pub use Rattle.std.proofs.lemmas.Grind.{common_steps, flat_map-append}
 pub use Rattle.std.proofs.lemmas.List.{append-nil, drop_all, drop_more, get_or-append_right, get_or-drop, get_or-map, get_or-take, get_or_past, length-map, length-replicate, length-take, map-append, map-id, map_more, replicate-append-replicate, take-append-drop, take_all, take_more, take_rest}
 pub use Rattle.std.proofs.lemmas.List.Elements.{All-head, All-more, All-tail, All-weaker}
-pub use Rattle.std.proofs.lemmas.List.Folds.{list_all-append}
+pub use Rattle.std.proofs.lemmas.List.Folds.{list_all-append, list_all-map, list_all_at}
 pub use Rattle.std.proofs.lemmas.Result.{IfErr-weaker, IfOk-weaker, on_ok_weaker}
 pub use Rattle.std.proofs.lemmas.Str.{IsUtf8-from_is_utf8, chars-encodes, digit_value-digit_char, encode_ascii, encodes-append, is_utf8-from_IsUtf8}
 pub use Rattle.std.specs.Char.{digit_char, digit_value, is_digit}

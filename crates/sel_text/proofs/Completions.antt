@@ -1,7 +1,7 @@
 -- Every beginning of a text can be completed to one that can be read.
-use Rattle.std.proofs.Common.{◌≡◌, ◌<◌, ℕ, ◌+◌, true, false, List, [], ◌∷◌, ◌++◌, length, take, drop, get_or, refl, ap, sym, ◌∙◌, append_assoc, append-nil, arith, codes, Some, zero, None, Option, suc, take-append-drop, take_all}
+use Rattle.std.proofs.Common.{◌≡◌, ◌<◌, ℕ, true, false, List, [], ◌∷◌, ◌++◌, length, take, drop, get_or, refl, ap, sym, ◌∙◌, append_assoc, append-nil, arith, codes, Some, zero, None, Option, suc, take-append-drop, take_all}
 use Rattle.std.proofs.Math.Seq.{take-suc}
-use Rattle.sel_text.proofs.Common.{after_byte, changed, closing, goes_on, innermost, is_end, is_some_and, IsFirstError, Bracket, Square, Round, Child, Fields, Change, Next, B, Text, N}
+use Rattle.sel_text.proofs.Common.{after_byte, changed, closing, goes_on, innermost, is_end, is_some_and, IsFirstError, Bracket, Square, Change, Next, B, Text, N}
 use Rattle.sel_text.specs.declared.notation.Next.TheVariants.{FirstValue, FirstName, After, Digit, Word, TypeWord, Quoted}
 
 -- The closing brackets of open brackets.
@@ -13,9 +13,7 @@ closed : (brackets : List Bracket) → goes_on After brackets (closings brackets
 unfolding closings
 closed [] = refl
 closed (Square ∷ brackets) = closed brackets
-closed (Round ∷ brackets) = closed brackets
-closed (Child ∷ brackets) = closed brackets
-closed (Fields ∷ brackets) = closed brackets
+closed (bracket ∷ brackets) = closed brackets
 
 -- What follows can be read to the end.
 abbrev pub Completes : Next → List Bracket → Type 0
@@ -62,15 +60,12 @@ LeadsTo start text next brackets i = (more : List ℕ) → goes_on start [] (tak
 split : (text more : List ℕ) (i : ℕ) → i < length text → take (suc i) text ++ more ≡ take i text ++ (get_or text i 0 ∷ more)
 split text more i inside = ap (λ front. front ++ more) (take-suc text i 0 inside) ∙ append_assoc (take i text) (get_or text i 0 ∷ []) more
 
-steps : (next : Next) (brackets : List Bracket) (byte : ℕ) (more : List ℕ) (step : Option (Next × Change)) → step ≡ after_byte next (innermost brackets) byte →
-    goes_on next brackets (byte ∷ more) ≡ is_some_and (λ step. goes_on step.0 (changed step.1 brackets) more) step
-steps next brackets byte more step told = ap (is_some_and (λ step. goes_on step.0 (changed step.1 brackets) more)) (sym told)
-
 pub fails_at : (start : Next) (text : List ℕ) (next : Next) (brackets : List Bracket) (i byte : ℕ) → i < length text → byte ≡ get_or text i 0 →
     None ≡ after_byte next (innermost brackets) byte → LeadsTo start text next brackets i → IsFirstError (goes_on start []) text i
 fails_at start text next brackets i byte inside first told so_far =
+    let stops : after_byte next (innermost brackets) (get_or text i 0) ≡ None = rw (← first) (sym told) in
     let none : (more : List ℕ) → goes_on start [] (take (suc i) text ++ more) ≡ false =
-    λ more. ap (goes_on start []) (split text more i inside) ∙ so_far (get_or text i 0 ∷ more) ∙ steps next brackets (get_or text i 0) more None (rw (← first) told) in
+    λ more. ap (goes_on start []) (split text more i inside) ∙ so_far (get_or text i 0 ∷ more) ∙ ap (is_some_and (λ (step : Next × Change). goes_on step.0 (changed step.1 brackets) more)) stops in
     record {
       place = omega arith;
       wrong = ap (goes_on start []) (sym (take-append-drop (suc i) text)) ∙ none (drop (suc i) text);

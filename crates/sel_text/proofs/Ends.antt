@@ -1,6 +1,7 @@
 -- Decimal numbers, and the bytes after them.
-use Rattle.std.proofs.Common.{◌≡◌, ◌≢◌, ℕ, zero, suc, ◌+◌, ◌/◌, ◌^◌, ◌≤◌, ◌<◌, Bool, true, false, List, [], ◌∷◌, ◌++◌, length, take, drop, get_or, refl, ap, sym, ◌∙◌, arith, lit<, length-take, subst, nat_lt, get_or-take, take-append-drop}
-use Rattle.sel_text.proofs.Common.{digit_value, decimal, AllDigits, IsNumeral, digits_value, nat_tests, decimal_is_IsNumeral_wide, decimal_digit, decimal_step_wide, NoDigit}
+use Rattle.std.proofs.Common.{◌≡◌, inl, inr, ◌≢◌, ℕ, zero, suc, ◌/◌, ◌^◌, ◌≤◌, ◌<◌, List, [], ◌∷◌, ◌++◌, length, take, drop, get_or, refl, ap, sym, ◌∙◌, arith, lit<, length-take, subst, get_or-take, take-append-drop}
+use Rattle.std.proofs.lemmas.Bool.{cases_lt}
+use Rattle.sel_text.proofs.Common.{digit_value, decimal, AllDigits, IsNumeral, digits_value, decimal_is_IsNumeral_wide, decimal_digit, decimal_step_wide, NoDigit}
 use Rattle.std.proofs.Math.ListN.{get_or-append}
 
 pub digits_apart : (a b r t : List ℕ) → AllDigits 10 a → AllDigits 10 b → NoDigit r → NoDigit t → a ++ r ≡ b ++ t → (a ≡ b) × (r ≡ t)
@@ -32,20 +33,15 @@ numeral_is n small = decimal_is_IsNumeral_wide n (few_digits n (omega (arith, sm
 -- A decimal number begins with a zero only if it is zero.
 pub first_digit : (most n : ℕ) → n ≤ most → 0 < n → n < 10 ^ 64 → 48 < get_or (decimal n) 0 0
 first_digit zero n few some small = absurd (omega arith)
-first_digit (suc most) n few some small = go (first_digit most (n / 10)) (nat_lt n 10) refl
-  where
-    go : (n / 10 ≤ most → 0 < n / 10 → n / 10 < 10 ^ 64 → 48 < get_or (decimal (n / 10)) 0 0) → (b : Bool) → nat_lt n 10 ≡ b → 48 < get_or (decimal n) 0 0
-    go shorter true is =
-        let low : n < 10 = grind (arith, nat_tests, is) in
-        let one : get_or (decimal n) 0 0 ≡ 48 + n = ap (λ l. get_or l 0 0) (decimal_digit n low) in
-        omega (arith, one, some)
-    go shorter false is =
-        let high : 10 ≤ n = grind (arith, nat_tests, is) in
-        let less : n / 10 < 10 ^ 64 = omega (arith, small) in
-        let before = shorter (omega (arith, few, high)) (omega (arith, high)) less in
-        let long = (decimal_is_IsNumeral_wide (n / 10) less).0.0 in
-        let same : get_or (decimal n) 0 0 ≡ get_or (decimal (n / 10)) 0 0 = ap (λ l. get_or l 0 0) (decimal_step_wide n high small) ∙ get_or-append (decimal (n / 10)) _ 0 0 long in
-        omega (arith, before, same)
+first_digit (suc most) n few some small =
+    elim (cases_lt n 10) [
+      | inl low ↦ let one = ap (λ l. get_or l 0 0) (decimal_digit n low) in omega (arith, one, some)
+      | inr high ↦ let less : n / 10 < 10 ^ 64 = omega (arith, small) in
+          let before = first_digit most (n / 10) (omega (arith, few, high)) (omega (arith, high)) less in
+          let long = (decimal_is_IsNumeral_wide (n / 10) less).0.0 in
+          let same = ap (λ l. get_or l 0 0) (decimal_step_wide n high small) ∙ get_or-append (decimal (n / 10)) _ 0 0 long in
+          omega (arith, before, same)
+    ]
 
 -- A decimal number has a digit; it begins with a zero only if that is its only digit.
 pub numeral_has : (n : ℕ) → n < 2 ^ 128 → (0 < length (decimal n)) × AllDigits 10 (decimal n) × (get_or (decimal n) 0 0 ≡ 48 → length (decimal n) ≡ 1)
@@ -56,16 +52,16 @@ numeral_has (suc n) small =
     (is.0, is.1, λ e. absurd (omega (arith, first, e)))
 
 -- All digits at the front are the decimal number there.
-pub numeral_told : (bytes digits rest : List ℕ) → bytes ≡ digits ++ rest → AllDigits 10 digits → NoDigit rest → (n : ℕ) (more : List ℕ) → n < 2 ^ 128 → NoDigit more → bytes ≡ decimal n ++ more →
+numeral_told : (bytes digits rest : List ℕ) → bytes ≡ digits ++ rest → AllDigits 10 digits → NoDigit rest → (n : ℕ) (more : List ℕ) → n < 2 ^ 128 → NoDigit more → bytes ≡ decimal n ++ more →
     (digits ≡ decimal n) × (rest ≡ more)
 numeral_told bytes digits rest is all end n more small ends begins =
     digits_apart digits (decimal n) rest more all (numeral_has n small).1 end ends (sym is ∙ begins)
 
--- The value of these digits is that number.
-pub value_told : (bytes digits rest : List ℕ) → bytes ≡ digits ++ rest → AllDigits 10 digits → NoDigit rest → (n : ℕ) (more : List ℕ) → n < 2 ^ 128 → NoDigit more → bytes ≡ decimal n ++ more →
-    digits_value 10 digits ≡ n
-value_told bytes digits rest is all end n more small ends begins =
-    ap (digits_value 10) (numeral_told bytes digits rest is all end n more small ends begins).0 ∙ (numeral_is n small).1
+-- All digits at the front are the number.
+pub digits_told : (n : ℕ) (bytes digits rest more : List ℕ) → n < 2 ^ 128 → bytes ≡ digits ++ rest → AllDigits 10 digits → NoDigit rest → NoDigit more → bytes ≡ decimal n ++ more → (digits_value 10 digits ≡ n) × (rest ≡ more)
+digits_told n bytes digits rest more small parts all end ends is =
+    let told = numeral_told bytes digits rest parts all end n more small ends is in
+    (ap (digits_value 10) told.0 ∙ (numeral_is n small).1, told.1)
 
 -- No decimal number is empty.
 pub no_numeral : (bytes : List ℕ) (count : ℕ) → count ≡ 0 → NoDigit (drop count bytes) → (n : ℕ) (more : List ℕ) → n < 2 ^ 128 → NoDigit more → bytes ≢ decimal n ++ more

@@ -2,7 +2,8 @@
 use Rattle.std.proofs.Common.{◌≡◌, ◌≢◌, ℕ, zero, suc, ◌+◌, ◌≤◌, ◌<◌, true, true≢false, List, [], ◌∷◌, ◌++◌, length, drop, map, get_or, refl, ap, sym, ◌∙◌, arith, append_assoc, append-nil, length-append, subst}
 use Rattle.sel_text.proofs.Common.{drop_more, drop_all, shape_of, Shape, Shapes, no_shapes, next_shape, shapes_of, Value, Values, no_values, next_value, listed, ArrowDataType, and_first, and_second, fits, all_fit, fields_fit, bracketed, item_texts, parenthesized, part_texts, value_text}
 use Rattle.sel_text.specs.Readings.{BeginsWith}
-use Rattle.sel_text.proofs.Told.{after, inside, joined_inside, after_no_digit, no_value}
+use Rattle.sel_text.proofs.Commas.{after, inside, joined_inside}
+use Rattle.sel_text.proofs.Told.{after_no_digit, no_value}
 
 -- ---- lists
 
@@ -19,6 +20,9 @@ pub record IsLeft (s : Shape) (all read : List Value) (rest more : List ℕ) : T
 pub items_opened : (s : Shape) (vs : Values) (text rest more : List ℕ) → text ≡ 91 ∷ rest → text ≡ bracketed (item_texts s vs) ++ more → rest ≡ inside 93 (item_texts s vs) more
 items_opened s vs text rest more opens is = ap (drop 1) (sym opens ∙ is) ∙ joined_inside 93 (item_texts s vs) more
 
+left_of : (s : Shape) (all read : List Value) (v : Value) (vs : Values) (rest more : List ℕ) → all_fit s (next_value v vs) ≡ true → read ++ (v ∷ listed vs) ≡ all → rest ≡ value_text s v ++ after 93 (item_texts s vs) more → IsLeft s all read rest more
+left_of s all read v vs rest more fit whole is = record { first = v; others = vs; fit = and_first _ _ fit; others_fit = and_second _ _ fit; whole = whole; text = is }
+
 -- If the closing bracket follows at once, there is no value.
 pub no_items : (s : Shape) (vs : Values) (rest end more : List ℕ) → all_fit s vs ≡ true → rest ≡ inside 93 (item_texts s vs) more → rest ≡ 93 ∷ end → ([] ≡ listed vs) × (end ≡ more)
 no_items s no_values rest end more fit is closes = (refl, ap (drop 1) (sym closes ∙ is))
@@ -27,14 +31,7 @@ no_items s (next_value v vs) rest end more fit is closes = absurd (no_value s v 
 -- Otherwise there is at least one value.
 pub some_items : (s : Shape) (vs : Values) (rest more : List ℕ) → all_fit s vs ≡ true → rest ≡ inside 93 (item_texts s vs) more → ((end : List ℕ) → rest ≢ 93 ∷ end) → IsLeft s (listed vs) [] rest more
 some_items s no_values rest more fit is other = absurd (other more is)
-some_items s (next_value v vs) rest more fit is other = record {
-  first = v;
-  others = vs;
-  fit = and_first (fits s v) (all_fit s vs) fit;
-  others_fit = and_second (fits s v) (all_fit s vs) fit;
-  whole = refl;
-  text = is;
-}
+some_items s (next_value v vs) rest more fit is other = left_of s (listed (next_value v vs)) [] v vs rest more fit refl is
 
 pub item_begins : (s : Shape) (all read : List Value) (rest more : List ℕ) → (left : IsLeft s all read rest more) → BeginsWith s left.first rest (after 93 (item_texts s left.others) more)
 item_begins s all read rest more left = record { fit = left.fit; end = after_no_digit 93 (item_texts s left.others) more (omega arith); whole = left.text }
@@ -55,21 +52,9 @@ more_items s all read rest next behind more left is comma = go left.others left.
   where
     go : (others : Values) → all_fit s others ≡ true → read ++ (left.first ∷ listed others) ≡ all → next ≡ after 93 (item_texts s others) more → IsLeft s all (read ++ left.first ∷ []) behind more
     go no_values fit whole is = let first : 44 ≡ 93 = ap (λ l. get_or l 0 0) (sym comma ∙ is) in absurd (omega (arith, first))
-    go (next_value v vs) fit whole is = record {
-      first = v;
-      others = vs;
-      fit = and_first (fits s v) (all_fit s vs) fit;
-      others_fit = and_second (fits s v) (all_fit s vs) fit;
-      whole = append_assoc read (left.first ∷ []) (v ∷ listed vs) ∙ whole;
-      text = ap (drop 1) (sym comma ∙ is);
-    }
+    go (next_value v vs) fit whole is = left_of s all (read ++ left.first ∷ []) v vs behind more fit (append_assoc read (left.first ∷ []) (v ∷ listed vs) ∙ whole) (ap (drop 1) (sym comma ∙ is))
 
--- A closing bracket or a comma follows each value.
-pub bracket_or_comma : (close : ℕ) (texts : List (List ℕ)) (next more : List ℕ) → next ≡ after close texts more → ((end : List ℕ) → next ≢ close ∷ end) → ((rest : List ℕ) → next ≢ 44 ∷ rest) → ⊥
-bracket_or_comma close [] next more is no_bracket no_comma = no_bracket _ is
-bracket_or_comma close (x ∷ texts) next more is no_bracket no_comma = no_comma _ is
-
--- So the text does not end there.
+-- The text does not end after a value.
 some_after : (close : ℕ) (texts : List (List ℕ)) (more : List ℕ) → 0 < length (after close texts more)
 some_after close [] more = omega arith
 some_after close (x ∷ texts) more = omega arith

@@ -1,6 +1,7 @@
 -- Equality of rows.
 use Rattle.std.proofs.Common.{◌≡◌, ◌≢◌, ℕ, ◌+◌, ◌-◌, ◌≤◌, ◌<◌, Bool, List, [], ◌∷◌, ◌++◌, length, take, drop, map, refl, ap, sym, ◌∙◌, arith, get_or, length-take, length-drop, ◌↔◌, IsTrue, bytes_eq}
 use Rattle.std.proofs.lemmas.Slice.Eq.{bytes_eq-Decides}
+use Rattle.std.proofs.lemmas.Simd.{map-map}
 use Rattle.sel_text.proofs.Common.{slice_range, take_more, get_or-drop, get_or-take, take_all, rows, Column, list_of, struct_at, Value, Null, Bytes, Items, Tuple, values_of, listed}
 
 -- The result of comparing the stored bytes is whether the rows are equal.
@@ -64,12 +65,9 @@ pub lists_same : (xs ys : List Value) (a b from to k : ℕ) → b - a ≡ to - f
 lists_same xs ys a b from to k long all same =
     ap list_of (ap (λ n. take n (drop a xs)) (sym all) ∙ same ∙ ap (λ n. take n (drop from ys)) (all ∙ long))
 
-minus_none : (n : ℕ) → n - 0 ≡ n
-minus_none n = omega arith
-
 -- The whole list as a part.
 pub whole_part : {A : Type 0} (xs : List A) (n : ℕ) → n ≡ length xs → slice_range xs 0 n ≡ xs
-whole_part xs n all = ap (λ k. take k xs) (minus_none n) ∙ take_all n xs (omega (arith, all))
+whole_part xs n all = ap (λ k. take k xs) (let whole : n - 0 ≡ n = omega arith in whole) ∙ take_all n xs (omega (arith, all))
 
 -- ---- structs
 
@@ -80,12 +78,8 @@ entry_at place field = get_or (rows field) place Null
 abbrev pub entries_at : ℕ → List Column → List Value
 entries_at place fields = map (entry_at place) fields
 
-each_entry : (place : ℕ) (fields : List Column) → map (λ field. get_or field place Null) (map rows fields) ≡ entries_at place fields
-each_entry place [] = refl
-each_entry place (field ∷ fields) = ap (λ l. get_or (rows field) place Null ∷ l) (each_entry place fields)
-
 tuple_is : (place : ℕ) (fields : List Column) → struct_at (map rows fields) place ≡ Tuple (values_of (entries_at place fields))
-tuple_is place fields = ap (λ l. Tuple (values_of l)) (each_entry place fields)
+tuple_is place fields = ap (λ l. Tuple (values_of l)) (map-map (λ field. get_or field place Null) rows fields)
 
 pub tuples_same : (place at : ℕ) (fields others : List Column) → entries_at place fields ≡ entries_at at others → struct_at (map rows fields) place ≡ struct_at (map rows others) at
 tuples_same place at fields others same = tuple_is place fields ∙ ap (λ l. Tuple (values_of l)) same ∙ sym (tuple_is at others)

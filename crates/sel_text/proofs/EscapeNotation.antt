@@ -1,5 +1,7 @@
 -- Escapes of strings in the notation of rows.
-use Rattle.std.proofs.Common.{◌≡◌, ◌≢◌, ◌≤◌, ◌<◌, ℕ, ◌+◌, ◌-◌, ◌*◌, Bool, true, false, List, [], ◌∷◌, drop, refl, ap, sym, ◌∙◌, arith, Some, None, subst, Option, unwrap_or, option_map, option_and_then, nat_lt, ◌&&◌, ◌==◌, if◌then◌else◌}
+use Rattle.std.proofs.Common.{◌≡◌, inl, inr, ◌≤◌, ◌<◌, ℕ, ◌+◌, ◌-◌, ◌*◌, Bool, true, false, List, [], ◌∷◌, drop, refl, ap, sym, ◌∙◌, arith, Some, None, subst, Option, unwrap_or, option_map, option_and_then, ◌&&◌, ◌==◌, if◌then◌else◌}
+use Rattle.std.proofs.lemmas.Bool.{cases_eq, cases_lt, ne_eqb}
+use Rattle.std.proofs.lemmas.Option.{option_and_then_some}
 use Rattle.sel_text.proofs.Common.{digit_value, is_digit, nat_tests, goes_on, escape_at, is_high, is_low, next_unit, paired, short_escape, unit_at, unit_escape, escape_byte, is_hexadecimal, Bracket, Quoted, Text, Escape, UnitFirst, UnitSecond, LastThree, LastTwo, LastOne, HighTwo, HighOne, LowBackslash, LowLetter, LowFirst, LowSecond}
 use lib.Utf8.{scalar}
 use Rattle.sel_text.proofs.StringNotation.{hex_step, inside, leads_byte, leads_none, Leads}
@@ -19,16 +21,13 @@ from_short (Some x) c n is =
     let same = from_some x 1 c n is in
     (ap Some same.0, sym same.1)
 
-short_scalar : (letter c : ℕ) → short_escape letter ≡ Some c → scalar c ≡ true
-short_scalar letter c is = grind (arith, nat_tests, is)
-
-short_byte : (letter c : ℕ) → short_escape letter ≡ Some c → escape_byte letter ≡ Some (Quoted Text)
-short_byte letter c is = grind (arith, nat_tests, is)
-
 short_read : (letter : ℕ) (rest : List ℕ) (c n : ℕ) → option_map {U = ℕ × ℕ} (λ character. (character, 1)) (short_escape letter) ≡ Some (c, n) → Escapes (letter ∷ rest) c n
 short_read letter rest c n is =
     let parts = from_short (short_escape letter) c n is in
-    (short_scalar letter c parts.0, λ brackets. inside Escape Text brackets letter rest (short_byte letter c parts.0) ∙ ap (λ k. goes_on (Quoted Text) brackets (drop k (letter ∷ rest))) (sym parts.1))
+    let told = parts.0 in (
+      grind (arith, nat_tests, told),
+      λ brackets. inside Escape Text brackets letter rest (grind (arith, nat_tests, told)) ∙ ap (λ k. goes_on (Quoted Text) brackets (drop k (letter ∷ rest))) (sym parts.1),
+    )
 
 -- ---- `\u` escapes
 
@@ -46,28 +45,27 @@ record Unit_at (text : List ℕ) (unit : ℕ) : Type 0 where
   digit_d : digit_value d < 16
   unit_is : unit ≡ digit_value a * 4096 + digit_value b * 256 + digit_value c * 16 + digit_value d
 
-of_digit : (x : ℕ) → is_digit x 16 ≡ true → digit_value x < 16
-of_digit x is = grind (arith, nat_tests, is)
+if_some : (t : Bool) (x y : ℕ) → (if t then Some x else None) ≡ Some y → (t ≡ true) × (x ≡ y)
+if_some true x y is = (refl, cc)
+if_some false x y is = absurd cc
 
 read_unit : (text : List ℕ) (unit : ℕ) → unit_at text ≡ Some unit → Unit_at text unit
-read_unit (a ∷ b ∷ c ∷ d ∷ rest) unit is = go (is_digit a 16) (is_digit b 16) (is_digit c 16) (is_digit d 16) refl refl refl refl is
-  where
-    go : (p q r s : Bool) → is_digit a 16 ≡ p → is_digit b 16 ≡ q → is_digit c 16 ≡ r → is_digit d 16 ≡ s →
-        (if p && q && r && s then Some (digit_value a * 4096 + digit_value b * 256 + digit_value c * 16 + digit_value d) else None) ≡ Some unit → Unit_at (a ∷ b ∷ c ∷ d ∷ rest) unit
-    go true true true true da db dc dd is = record {
+read_unit (a ∷ b ∷ c ∷ d ∷ rest) unit is =
+    let parts = if_some (is_digit a 16 && is_digit b 16 && is_digit c 16 && is_digit d 16) _ unit is in
+    let all = parts.0 in
+    record {
       a = a;
       b = b;
       c = c;
       d = d;
       rest = rest;
       text_is = refl;
-      digit_a = of_digit a da;
-      digit_b = of_digit b db;
-      digit_c = of_digit c dc;
-      digit_d = of_digit d dd;
-      unit_is = cc;
+      digit_a = grind (arith, nat_tests, all);
+      digit_b = grind (arith, nat_tests, all);
+      digit_c = grind (arith, nat_tests, all);
+      digit_d = grind (arith, nat_tests, all);
+      unit_is = sym parts.1;
     }
-    go p q r s da db dc dd is = absurd cc
 read_unit text unit is = absurd cc
 
 hexadecimal : (x : ℕ) → digit_value x < 16 → is_hexadecimal x ≡ true
@@ -82,7 +80,7 @@ last_two c d digit_c digit_d =
 plain_unit : (text : List ℕ) (unit : ℕ) → is_high unit ≡ false → is_low unit ≡ false → Unit_at text unit → Escapes (117 ∷ text) unit 5
 plain_unit text unit high low at = (
   plain_scalar unit high low (omega (arith, at.unit_is, at.digit_a, at.digit_b, at.digit_c, at.digit_d)),
-  λ brackets. inside Escape UnitFirst brackets 117 text refl ∙ rw at.text_is ((digits (digit_value at.a == 13) refl).led brackets at.rest),
+  λ brackets. inside Escape UnitFirst brackets 117 text refl ∙ rw at.text_is (digits.led brackets at.rest),
 )
   where
     plain_scalar : (unit : ℕ) → is_high unit ≡ false → is_low unit ≡ false → unit < 65536 → scalar unit ≡ true
@@ -91,35 +89,29 @@ plain_unit text unit high low at = (
     apart : (unit : ℕ) → is_high unit ≡ false → is_low unit ≡ false → 55296 ≤ unit → 57344 ≤ unit
     apart unit high low least = grind (arith, nat_tests, high, low, least)
 
-    digits : (t : Bool) → (digit_value at.a == 13) ≡ t → Leads UnitFirst Text (at.a ∷ at.b ∷ at.c ∷ at.d ∷ [])
-    digits true is =
-        let same : digit_value at.a ≡ 13 = grind (arith, nat_tests, is) in
-        let small : digit_value at.b < 8 = second same (nat_lt (digit_value at.b) 8) refl in
-        leads_byte UnitFirst UnitSecond Text at.a _ (grind (arith, nat_tests, same)) (leads_byte UnitSecond LastTwo Text at.b _ (grind (arith, nat_tests, small)) (last_two at.c at.d at.digit_c at.digit_d))
-      where
-        second : digit_value at.a ≡ 13 → (t : Bool) → nat_lt (digit_value at.b) 8 ≡ t → digit_value at.b < 8
-        second same true is = grind (arith, nat_tests, is)
-        second same false is =
-            let least : 8 ≤ digit_value at.b = grind (arith, nat_tests, is) in
-            let past = apart unit high low (omega (arith, at.unit_is, same, least)) in
-            absurd (omega (arith, at.unit_is, same, at.digit_b, at.digit_c, at.digit_d, past))
-    digits false is =
-        let not : digit_value at.a ≢ 13 = grind (arith, nat_tests, is) in
-        leads_byte UnitFirst LastThree Text at.a _ (grind (arith, nat_tests, at.digit_a, not))
-        (leads_byte LastThree LastTwo Text at.b _ (hex_step LastThree LastTwo at.b refl (hexadecimal at.b at.digit_b)) (last_two at.c at.d at.digit_c at.digit_d))
+    second : digit_value at.a ≡ 13 → digit_value at.b < 8
+    second same =
+        elim (cases_lt (digit_value at.b) 8) [
+          | inl small ↦ small
+          | inr least ↦ absurd (
+              let past = apart unit high low (omega (arith, at.unit_is, same, least)) in
+              omega (arith, at.unit_is, same, at.digit_b, at.digit_c, at.digit_d, past))
+        ]
 
-range_high : (unit : ℕ) → is_high unit ≡ true → (55296 ≤ unit) × (unit < 56320)
-range_high unit is = (grind (arith, nat_tests, is), grind (arith, nat_tests, is))
-
-range_low : (unit : ℕ) → is_low unit ≡ true → (56320 ≤ unit) × (unit < 57344)
-range_low unit is = (grind (arith, nat_tests, is), grind (arith, nat_tests, is))
+    digits : Leads UnitFirst Text (at.a ∷ at.b ∷ at.c ∷ at.d ∷ [])
+    digits =
+        elim (cases_eq (digit_value at.a) 13) [
+          | inl same ↦ let small = second same in
+              leads_byte UnitFirst UnitSecond Text at.a _ (grind (arith, nat_tests, same)) (leads_byte UnitSecond LastTwo Text at.b _ (grind (arith, nat_tests, small)) (last_two at.c at.d at.digit_c at.digit_d))
+          | inr not ↦ leads_byte UnitFirst LastThree Text at.a _ (grind (arith, nat_tests, at.digit_a, not))
+              (leads_byte LastThree LastTwo Text at.b _ (hex_step LastThree LastTwo at.b refl (hexadecimal at.b at.digit_b)) (last_two at.c at.d at.digit_c at.digit_d))
+        ]
 
 -- The first escape of a surrogate pair.
 high_leads : (text : List ℕ) (unit : ℕ) → is_high unit ≡ true → (at : Unit_at text unit) → Leads UnitFirst LowBackslash (at.a ∷ at.b ∷ at.c ∷ at.d ∷ [])
 high_leads text unit is at =
-    let range = range_high unit is in
-    let least = range.0 in
-    let most = range.1 in
+    let least : 55296 ≤ unit = grind (arith, nat_tests, is) in
+    let most : unit < 56320 = grind (arith, nat_tests, is) in
     let first : digit_value at.a ≡ 13 = omega (arith, at.unit_is, at.digit_b, at.digit_c, at.digit_d, least, most) in
     let from : 8 ≤ digit_value at.b = omega (arith, at.unit_is, first, at.digit_c, at.digit_d, least) in
     let until : digit_value at.b < 12 = omega (arith, at.unit_is, first, most) in
@@ -130,9 +122,8 @@ high_leads text unit is at =
 -- The second escape of a surrogate pair, after its `\u`.
 low_leads : (text : List ℕ) (unit : ℕ) → is_low unit ≡ true → (at : Unit_at text unit) → Leads LowFirst Text (at.a ∷ at.b ∷ at.c ∷ at.d ∷ [])
 low_leads text unit is at =
-    let range = range_low unit is in
-    let least = range.0 in
-    let most = range.1 in
+    let least : 56320 ≤ unit = grind (arith, nat_tests, is) in
+    let most : unit < 57344 = grind (arith, nat_tests, is) in
     let first : digit_value at.a ≡ 13 = omega (arith, at.unit_is, at.digit_b, at.digit_c, at.digit_d, least, most) in
     let from : 12 ≤ digit_value at.b = omega (arith, at.unit_is, first, at.digit_c, at.digit_d, least) in
     leads_byte LowFirst LowSecond Text at.a _ (grind (arith, nat_tests, first)) (leads_byte LowSecond LastTwo Text at.b _ (grind (arith, nat_tests, from, at.digit_b)) (last_two at.c at.d at.digit_c at.digit_d))
@@ -156,11 +147,10 @@ read_next text unit is = absurd cc
 
 pair_scalar : (high low : ℕ) → is_high high ≡ true → is_low low ≡ true → scalar (65536 + (high - 55296) * 1024 + (low - 56320)) ≡ true
 pair_scalar high low first second =
-    let a = range_high high first in
-    let b = range_low low second in
-    let most : 65536 + (high - 55296) * 1024 + (low - 56320) < 1114112 = let x = a.1 in let y = b.1 in omega (arith, x, y) in
-    let least : 57344 ≤ 65536 + (high - 55296) * 1024 + (low - 56320) = omega arith in
-    within (65536 + (high - 55296) * 1024 + (low - 56320)) least most
+    let from : 55296 ≤ high = grind (arith, nat_tests, first) in
+    let until : high < 56320 = grind (arith, nat_tests, first) in
+    let few : low < 57344 = grind (arith, nat_tests, second) in
+    within (65536 + (high - 55296) * 1024 + (low - 56320)) (omega arith) (omega (arith, from, until, few))
   where
     within : (n : ℕ) → 57344 ≤ n → n < 1114112 → scalar n ≡ true
     within n least most = grind (arith, nat_tests, least, most)
@@ -172,48 +162,38 @@ from_pair true x c n is =
 from_pair false x c n is = absurd cc
 
 pair_read : (text : List ℕ) (unit c n : ℕ) → is_high unit ≡ true → Unit_at text unit → option_and_then (paired unit) (next_unit (drop 4 text)) ≡ Some (c, n) → Escapes (117 ∷ text) c n
-pair_read text unit c n high at is = go (next_unit at.rest) refl (ap (λ t. option_and_then (paired unit) (next_unit (drop 4 t))) (sym at.text_is) ∙ is)
+pair_read text unit c n high at is =
+    option_and_then_some (paired unit) (next_unit at.rest) (c, n) (ap (λ t. option_and_then (paired unit) (next_unit (drop 4 t))) (sym at.text_is) ∙ is) go
   where
-    go : (o : Option ℕ) → next_unit at.rest ≡ o → option_and_then (paired unit) o ≡ Some (c, n) → Escapes (117 ∷ text) c n
-    go None told is = absurd cc
-    go (Some low) told is =
+    go : (low : ℕ) → next_unit at.rest ≡ Some low → paired unit low ≡ Some (c, n) → Escapes (117 ∷ text) c n
+    go low told is =
         let parts = from_pair (is_low low) (65536 + (unit - 55296) * 1024 + (low - 56320)) c n is in
         let other = read_next at.rest low told in
         let digits = read_unit other.digits low other.unit_is in
-        let whole : text ≡ at.a ∷ at.b ∷ at.c ∷ at.d ∷ 92 ∷ 117 ∷ digits.a ∷ digits.b ∷ digits.c ∷ digits.d ∷ digits.rest =
-        at.text_is ∙ ap (λ t. at.a ∷ at.b ∷ at.c ∷ at.d ∷ t) (other.text_is ∙ ap (λ t. 92 ∷ 117 ∷ t) digits.text_is) in (
+        let behind = digits.a ∷ digits.b ∷ digits.c ∷ digits.d ∷ digits.rest in
+        let whole : text ≡ at.a ∷ at.b ∷ at.c ∷ at.d ∷ 92 ∷ 117 ∷ behind = at.text_is ∙ ap (λ t. at.a ∷ at.b ∷ at.c ∷ at.d ∷ t) (other.text_is ∙ ap (λ t. 92 ∷ 117 ∷ t) digits.text_is) in (
           subst (λ x. scalar x ≡ true) parts.1 (pair_scalar unit low high parts.0),
           λ brackets. rw (whole, parts.2)
-              (inside Escape UnitFirst brackets 117 (at.a ∷ at.b ∷ at.c ∷ at.d ∷ 92 ∷ 117 ∷ digits.a ∷ digits.b ∷ digits.c ∷ digits.d ∷ digits.rest) refl
-              ∙ (high_leads text unit high at).led brackets (92 ∷ 117 ∷ digits.a ∷ digits.b ∷ digits.c ∷ digits.d ∷ digits.rest)
-              ∙ inside LowBackslash LowLetter brackets 92 (117 ∷ digits.a ∷ digits.b ∷ digits.c ∷ digits.d ∷ digits.rest) refl
-              ∙ inside LowLetter LowFirst brackets 117 (digits.a ∷ digits.b ∷ digits.c ∷ digits.d ∷ digits.rest) refl
-              ∙ (low_leads other.digits low parts.0 digits).led brackets digits.rest),
+              (inside Escape UnitFirst brackets 117 (at.a ∷ at.b ∷ at.c ∷ at.d ∷ 92 ∷ 117 ∷ behind) refl ∙ (high_leads text unit high at).led brackets (92 ∷ 117 ∷ behind)
+              ∙ inside LowBackslash LowLetter brackets 92 (117 ∷ behind) refl ∙ inside LowLetter LowFirst brackets 117 behind refl ∙ (low_leads other.digits low parts.0 digits).led brackets digits.rest),
         )
 
 unit_read : (text : List ℕ) (c n : ℕ) → option_and_then (unit_escape text) (unit_at text) ≡ Some (c, n) → Escapes (117 ∷ text) c n
-unit_read text c n is = go (unit_at text) refl is
+unit_read text c n is = option_and_then_some (unit_escape text) (unit_at text) (c, n) is (λ unit told is. choose unit told (is_high unit) (is_low unit) refl refl is)
   where
-    go : (o : Option ℕ) → unit_at text ≡ o → option_and_then (unit_escape text) o ≡ Some (c, n) → Escapes (117 ∷ text) c n
-    go None told is = absurd cc
-    go (Some unit) told is = choose (is_high unit) (is_low unit) refl refl is
-      where
-        choose : (h l : Bool) → is_high unit ≡ h → is_low unit ≡ l → (if h then option_and_then (paired unit) (next_unit (drop 4 text)) else if l then None else Some (unit, 5)) ≡ Some (c, n) → Escapes (117 ∷ text) c n
-        choose true l high low is = pair_read text unit c n high (read_unit text unit told) is
-        choose false true high low is = absurd cc
-        choose false false high low is =
-            let same = from_some unit 5 c n is in
-            let character : unit ≡ c = same.0 in
-            let count : 5 ≡ n = same.1 in
-            subst (λ k. Escapes (117 ∷ text) c k) count (subst (λ x. Escapes (117 ∷ text) x 5) character (plain_unit text unit high low (read_unit text unit told)))
+    choose : (unit : ℕ) → unit_at text ≡ Some unit → (h l : Bool) → is_high unit ≡ h → is_low unit ≡ l →
+        (if h then option_and_then (paired unit) (next_unit (drop 4 text)) else if l then None else Some (unit, 5)) ≡ Some (c, n) → Escapes (117 ∷ text) c n
+    choose unit told true l high low is = pair_read text unit c n high (read_unit text unit told) is
+    choose unit told false true high low is = absurd cc
+    choose unit told false false high low is =
+        let same = from_some unit 5 c n is in
+        subst (λ k. Escapes (117 ∷ text) c k) same.1 (subst (λ x. Escapes (117 ∷ text) x 5) same.0 (plain_unit text unit high low (read_unit text unit told)))
 
 -- An escape leads to the next byte of the string.
 pub escape_read : (text : List ℕ) (c n : ℕ) → escape_at text ≡ Some (c, n) → Escapes text c n
 escape_read [] c n is = absurd cc
-escape_read (letter ∷ rest) c n is = go (letter == 117) refl is
-  where
-    go : (t : Bool) → (letter == 117) ≡ t → (if t then option_and_then (unit_escape rest) (unit_at rest) else option_map {U = ℕ × ℕ} (λ character. (character, 1)) (short_escape letter)) ≡ Some (c, n) → Escapes (letter ∷ rest) c n
-    go true told is =
-        let same : letter ≡ 117 = grind (arith, nat_tests, told) in
-        subst (λ x. Escapes (x ∷ rest) c n) (sym same) (unit_read rest c n is)
-    go false told is = short_read letter rest c n is
+escape_read (letter ∷ rest) c n is =
+    elim (cases_eq letter 117) [
+      | inl same ↦ subst (λ x. Escapes (x ∷ rest) c n) (sym same) (unit_read rest c n (rw same at is))
+      | inr not ↦ short_read letter rest c n (rw (ne_eqb letter 117 not) at is)
+    ]

@@ -1,6 +1,7 @@
 -- Characters of quoted strings.
-use Rattle.std.proofs.Common.{◌≡◌, ◌≢◌, ℕ, ◌+◌, ◌/◌, ◌≤◌, ◌<◌, Bool, true, false, cond, List, [], ◌∷◌, ◌++◌, refl, ap, sym, ◌∙◌, arith, append_assoc, append-nil, nat_lt, ◌==◌, codes, subst, if◌then◌else◌}
-use Rattle.sel_text.proofs.Common.{flat_map, nat_tests, IsUtf8, chars, flat_map-append, encode_ascii, encodes-append, chars-encodes, escaped, quoted, hex_byte}
+use Rattle.std.proofs.Common.{◌≡◌, inl, inr, ◌≢◌, ℕ, ◌+◌, ◌/◌, ◌≤◌, ◌<◌, true, false, List, [], ◌∷◌, ◌++◌, refl, ap, sym, ◌∙◌, arith, append_assoc, append-nil, nat_lt, ◌==◌, codes, subst}
+use Rattle.std.proofs.lemmas.Bool.{cases_lt, ltb-false, ltb-true}
+use Rattle.sel_text.proofs.Common.{cond_both, flat_map, nat_tests, IsUtf8, chars, flat_map-append, encode_ascii, encodes-append, chars-encodes, escaped, quoted, hex_byte}
 use lib.Utf8.{encode, encodes, next}
 
 -- A byte that needs no escape.
@@ -21,47 +22,42 @@ module _ (P : ℕ → List ℕ → Type 0)
   not_byte : (b n : ℕ) → (b == n) ≡ false → b ≢ n
   not_byte b n is = grind (arith, nat_tests, is)
 
-  choose : (b : ℕ) (t : Bool) (x y : List ℕ) → (t ≡ true → P b x) → (t ≡ false → P b y) → P b (if t then x else y)
-  choose b true x y f g = f refl
-  choose b false x y f g = g refl
-
   pub each_escape : (b : ℕ) → P b (escaped b)
   each_escape b =
-      choose b (b == 34) _ _ (λ is. at_byte b 34 _ is quote) (λ n34.
-      choose b (b == 92) _ _ (λ is. at_byte b 92 _ is backslash) (λ n92.
-      choose b (b == 10) _ _ (λ is. at_byte b 10 _ is line) (λ n10.
-      choose b (b == 13) _ _ (λ is. at_byte b 13 _ is return) (λ n13.
-      choose b (b == 9) _ _ (λ is. at_byte b 9 _ is tab) (λ n9.
-      choose b (b == 8) _ _ (λ is. at_byte b 8 _ is back) (λ n8.
-      choose b (b == 12) _ _ (λ is. at_byte b 12 _ is feed) (λ n12.
-      choose b (nat_lt b 32) _ _
+      cond_both (b == 34) _ _ (P b) (λ is. at_byte b 34 _ is quote) (λ n34.
+      cond_both (b == 92) _ _ (P b) (λ is. at_byte b 92 _ is backslash) (λ n92.
+      cond_both (b == 10) _ _ (P b) (λ is. at_byte b 10 _ is line) (λ n10.
+      cond_both (b == 13) _ _ (P b) (λ is. at_byte b 13 _ is return) (λ n13.
+      cond_both (b == 9) _ _ (P b) (λ is. at_byte b 9 _ is tab) (λ n9.
+      cond_both (b == 8) _ _ (P b) (λ is. at_byte b 8 _ is back) (λ n8.
+      cond_both (b == 12) _ _ (P b) (λ is. at_byte b 12 _ is feed) (λ n12.
+      cond_both (nat_lt b 32) _ _ (P b)
       (λ low. control b (grind (arith, nat_tests, low)) (not_byte b 8 n8) (not_byte b 9 n9) (not_byte b 10 n10) (not_byte b 12 n12) (not_byte b 13 n13))
       (λ high. plain b (grind (arith, nat_tests, high)) (not_byte b 34 n34) (not_byte b 92 n92)))))))))
 
+-- A property of the bytes of each character from 128 on.
+pub encoded : (P : List ℕ → Type 0) (c : ℕ) → 128 ≤ c → (c < 2048 → P ((192 + c / 64) ∷ next c ∷ [])) → (2048 ≤ c → c < 65536 → P ((224 + c / 4096) ∷ next (c / 64) ∷ next c ∷ [])) →
+    (65536 ≤ c → P ((240 + c / 262144) ∷ next (c / 4096) ∷ next (c / 64) ∷ next c ∷ [])) → P (encode c)
+unfolding encode
+encoded P c high two three four =
+    cond_both (nat_lt c 128) _ _ P (λ low. absurd (let small = ltb-true c 128 low in omega (arith, high, small))) (λ _.
+    cond_both (nat_lt c 2048) _ _ P (λ few. two (ltb-true c 2048 few)) (λ many.
+    cond_both (nat_lt c 65536) _ _ P (λ few. three (ltb-false c 2048 many) (ltb-true c 65536 few)) (λ most. four (ltb-false c 65536 most))))
+
 -- A character from 128 on needs no escape.
 pub high_letter : (c : ℕ) → 128 ≤ c → flat_map escaped (encode c) ≡ encode c
-unfolding encode
-high_letter c high = go (nat_lt c 128) (nat_lt c 2048) (nat_lt c 65536) (grind (arith, nat_tests))
-  where
-    go : (x y z : Bool) → x ≡ false →
-        flat_map escaped (cond x (c ∷ []) (cond y ((192 + c / 64) ∷ next c ∷ []) (cond z ((224 + c / 4096) ∷ next (c / 64) ∷ next c ∷ []) ((240 + c / 262144) ∷ next (c / 4096) ∷ next (c / 64) ∷ next c ∷ []))))
-        ≡ cond x (c ∷ []) (cond y ((192 + c / 64) ∷ next c ∷ []) (cond z ((224 + c / 4096) ∷ next (c / 64) ∷ next c ∷ []) ((240 + c / 262144) ∷ next (c / 4096) ∷ next (c / 64) ∷ next c ∷ [])))
-    go true y z is = cc
-    go false true z is = rw (escaped_high (192 + c / 64) (omega arith), escaped_high (next c) (omega arith)) refl
-    go false false true is = rw (escaped_high (224 + c / 4096) (omega arith), escaped_high (next (c / 64)) (omega arith), escaped_high (next c) (omega arith)) refl
-    go false false false is = rw (escaped_high (240 + c / 262144) (omega arith), escaped_high (next (c / 4096)) (omega arith), escaped_high (next (c / 64)) (omega arith), escaped_high (next c) (omega arith)) refl
+high_letter c high =
+    encoded (λ l. flat_map escaped l ≡ l) c high (λ two. rw (escaped_high (192 + c / 64) (omega arith), escaped_high (next c) (omega arith)) refl)
+    (λ two three. rw (escaped_high (224 + c / 4096) (omega arith), escaped_high (next (c / 64)) (omega arith), escaped_high (next c) (omega arith)) refl)
+    (λ four. rw (escaped_high (240 + c / 262144) (omega arith), escaped_high (next (c / 4096)) (omega arith), escaped_high (next (c / 64)) (omega arith), escaped_high (next c) (omega arith)) refl)
 
 -- A character that needs no escape.
 pub plain_letter : (c : ℕ) → c ≢ 34 → c ≢ 92 → 32 ≤ c → flat_map escaped (encode c) ≡ encode c
-plain_letter c q s high = go (nat_lt c 128) refl
-  where
-    go : (b : Bool) → nat_lt c 128 ≡ b → flat_map escaped (encode c) ≡ encode c
-    go true is =
-        let low : c < 128 = grind (arith, nat_tests, is) in
-        ap (flat_map escaped) (encode_ascii c low) ∙ ap (λ t. t ++ []) (escaped_plain c q s high) ∙ sym (encode_ascii c low)
-    go false is =
-        let past : 128 ≤ c = grind (arith, nat_tests, is) in
-        high_letter c past
+plain_letter c q s high =
+    elim (cases_lt c 128) [
+      | inl low ↦ ap (flat_map escaped) (encode_ascii c low) ∙ ap (λ t. t ++ []) (escaped_plain c q s high) ∙ sym (encode_ascii c low)
+      | inr past ↦ high_letter c past
+    ]
 
 -- One more character.
 pub letters_more : (entry old new ys : List ℕ) (c : ℕ) → old ≡ entry ++ (34 ∷ flat_map escaped (encodes ys)) → new ≡ old ++ flat_map escaped (encode c) →

@@ -1,22 +1,12 @@
 -- The texts of types that are still to be parsed.
-use Rattle.std.proofs.Common.{◌≡◌, ◌≢◌, ℕ, ◌+◌, ◌-◌, ◌<◌, ◌≤◌, true, List, [], ◌∷◌, ◌++◌, map, get_or, drop, refl, ap, sym, ◌∙◌, arith, append_assoc, subst, ◌^◌, nat_lt, IsTrue}
-use Rattle.sel_text.proofs.Common.{join_with_byte, nat_tests, map-append, shape_of, Shape, Shapes, no_shapes, next_shape, shapes_of, of_fixed_size_list, of_struct, ArrowDataType, and_first, and_second, both, angled, type_text, type_texts, ReportsLimit, deepest, depth, widths_written, all_widths_written, Fault}
+use Rattle.std.proofs.Common.{◌≡◌, ◌≢◌, ℕ, ◌+◌, ◌-◌, ◌<◌, ◌≤◌, true, List, [], ◌∷◌, ◌++◌, map, get_or, drop, refl, ap, sym, ◌∙◌, arith, subst, ◌^◌, nat_lt, IsTrue}
+use Rattle.sel_text.proofs.Common.{nat_tests, map-append, shape_of, Shape, Shapes, no_shapes, next_shape, shapes_of, of_fixed_size_list, of_struct, ArrowDataType, and_first, and_second, both, angled, type_text, type_texts, ReportsLimit, deepest, depth, widths_written, all_widths_written, Fault}
+use Rattle.sel_text.proofs.Commas.{after, joined_inside}
 use Rattle.sel_text.proofs.Making.{told_more}
 
--- The text after the first of several types.
-abbrev pub behind_first : Shapes → List ℕ → List ℕ
-behind_first no_shapes more = 62 ∷ more
-behind_first (next_shape s ss) more = 44 ∷ (type_text s ++ behind_first ss more)
-
-join_behind : (s : Shape) (ss : Shapes) (more : List ℕ) → join_with_byte 44 (type_texts (next_shape s ss)) ++ (62 ∷ more) ≡ type_text s ++ behind_first ss more
-join_behind s no_shapes more = refl
-join_behind s (next_shape t ss) more =
-    append_assoc (type_text s) (44 ∷ join_with_byte 44 (type_texts (next_shape t ss))) (62 ∷ more) ∙ ap (λ l. type_text s ++ (44 ∷ l)) (join_behind t ss more)
-
 -- After the opening bracket.
-pub behind_bracket : (s : Shape) (ss : Shapes) (text more : List ℕ) → 60 ∷ text ≡ angled (type_texts (next_shape s ss)) ++ more → text ≡ type_text s ++ behind_first ss more
-behind_bracket s ss text more is =
-    ap (drop 1) is ∙ append_assoc (join_with_byte 44 (type_texts (next_shape s ss))) (62 ∷ []) more ∙ join_behind s ss more
+pub behind_bracket : (s : Shape) (ss : Shapes) (text more : List ℕ) → 60 ∷ text ≡ angled (type_texts (next_shape s ss)) ++ more → text ≡ type_text s ++ after 62 (type_texts ss) more
+behind_bracket s ss text more is = ap (drop 1) is ∙ joined_inside 62 (type_texts (next_shape s ss)) more
 
 -- Types that were parsed, followed by others.
 abbrev pub shapes_then : List Shape → Shapes → Shapes
@@ -37,7 +27,7 @@ pub record IsLeft (all : Shapes) (read : List ArrowDataType) (rest more : List �
   pub others : Shapes
   pub narrow : all_widths_written (next_shape first others) ≡ true
   pub whole : shapes_then (map shape_of read) (next_shape first others) ≡ all
-  pub text : rest ≡ type_text first ++ behind_first others more
+  pub text : rest ≡ type_text first ++ after 62 (type_texts others) more
 
 -- At first all types remain.
 pub all_left : (s : Shape) (ss : Shapes) (text more : List ℕ) → all_widths_written (next_shape s ss) ≡ true → 60 ∷ text ≡ angled (type_texts (next_shape s ss)) ++ more → IsLeft (next_shape s ss) [] text more
@@ -49,41 +39,33 @@ first_narrow s ss narrow = and_first (widths_written s) (all_widths_written ss) 
 others_narrow : (s : Shape) (ss : Shapes) → all_widths_written (next_shape s ss) ≡ true → all_widths_written ss ≡ true
 others_narrow s ss narrow = and_second (widths_written s) (all_widths_written ss) narrow
 
+shapes_grown : (read grown : List ArrowDataType) (field : ArrowDataType) (s : Shape) → grown ≡ read ++ field ∷ [] → shape_of field ≡ s → map shape_of grown ≡ map shape_of read ++ s ∷ []
+shapes_grown read grown field s is here = ap (map shape_of) is ∙ map-append shape_of read (field ∷ []) ∙ ap (λ s. map shape_of read ++ s ∷ []) here
+
 -- The closing bracket follows the last type.
 pub last_read : (all : Shapes) (read grown : List ArrowDataType) (field : ArrowDataType) (rest text end more : List ℕ) (left : IsLeft all read rest more) → grown ≡ read ++ field ∷ [] →
-    (shape_of field ≡ left.first) × (text ≡ behind_first left.others more) → text ≡ 62 ∷ end → (shapes_of (map shape_of grown) ≡ all) × (end ≡ more)
+    (shape_of field ≡ left.first) × (text ≡ after 62 (type_texts left.others) more) → text ≡ 62 ∷ end → (shapes_of (map shape_of grown) ≡ all) × (end ≡ more)
 last_read all read grown field rest text end more left is told closed = go left.others left.whole told.1
   where
-    grown_shapes : map shape_of grown ≡ map shape_of read ++ left.first ∷ []
-    grown_shapes = ap (map shape_of) is ∙ map-append shape_of read (field ∷ []) ∙ ap (λ s. map shape_of read ++ s ∷ []) told.0
-
-    go : (others : Shapes) → shapes_then (map shape_of read) (next_shape left.first others) ≡ all → text ≡ behind_first others more → (shapes_of (map shape_of grown) ≡ all) × (end ≡ more)
+    go : (others : Shapes) → shapes_then (map shape_of read) (next_shape left.first others) ≡ all → text ≡ after 62 (type_texts others) more → (shapes_of (map shape_of grown) ≡ all) × (end ≡ more)
     go no_shapes whole behind =
-        (sym (then_none (map shape_of grown)) ∙ ap (λ l. shapes_then l no_shapes) grown_shapes ∙ then_one (map shape_of read) left.first no_shapes ∙ whole, ap (drop 1) (sym closed ∙ behind))
+        (sym (then_none (map shape_of grown)) ∙ ap (λ l. shapes_then l no_shapes) (shapes_grown read grown field left.first is told.0) ∙ then_one (map shape_of read) left.first no_shapes ∙ whole, ap (drop 1) (sym closed ∙ behind))
     go (next_shape s ss) whole behind = let first : 62 ≡ 44 = ap (λ l. get_or l 0 0) (sym closed ∙ behind) in absurd (omega (arith, first))
 
 -- Otherwise a comma and another type follow.
 pub more_left : (all : Shapes) (read grown : List ArrowDataType) (field : ArrowDataType) (rest text behind more : List ℕ) (left : IsLeft all read rest more) → grown ≡ read ++ field ∷ [] →
-    (shape_of field ≡ left.first) × (text ≡ behind_first left.others more) → text ≡ 44 ∷ behind → IsLeft all grown behind more
+    (shape_of field ≡ left.first) × (text ≡ after 62 (type_texts left.others) more) → text ≡ 44 ∷ behind → IsLeft all grown behind more
 more_left all read grown field rest text behind more left is told comma = go left.others left.narrow left.whole told.1
   where
-    grown_shapes : map shape_of grown ≡ map shape_of read ++ left.first ∷ []
-    grown_shapes = ap (map shape_of) is ∙ map-append shape_of read (field ∷ []) ∙ ap (λ s. map shape_of read ++ s ∷ []) told.0
-
-    go : (others : Shapes) → all_widths_written (next_shape left.first others) ≡ true → shapes_then (map shape_of read) (next_shape left.first others) ≡ all → text ≡ behind_first others more → IsLeft all grown behind more
+    go : (others : Shapes) → all_widths_written (next_shape left.first others) ≡ true → shapes_then (map shape_of read) (next_shape left.first others) ≡ all → text ≡ after 62 (type_texts others) more → IsLeft all grown behind more
     go no_shapes narrow whole here = let first : 44 ≡ 62 = ap (λ l. get_or l 0 0) (sym comma ∙ here) in absurd (omega (arith, first))
     go (next_shape s ss) narrow whole here = record {
       first = s;
       others = ss;
       narrow = others_narrow left.first (next_shape s ss) narrow;
-      whole = ap (λ l. shapes_then l (next_shape s ss)) grown_shapes ∙ then_one (map shape_of read) left.first (next_shape s ss) ∙ whole;
+      whole = ap (λ l. shapes_then l (next_shape s ss)) (shapes_grown read grown field left.first is told.0) ∙ then_one (map shape_of read) left.first (next_shape s ss) ∙ whole;
       text = ap (drop 1) (sym comma ∙ here);
     }
-
--- A closing bracket or a comma follows each type.
-pub bracket_or_comma : (others : Shapes) (text more : List ℕ) → text ≡ behind_first others more → ((rest : List ℕ) → text ≢ 62 ∷ rest) → ((rest : List ℕ) → text ≢ 44 ∷ rest) → ⊥
-bracket_or_comma no_shapes text more is no_bracket no_comma = no_bracket _ is
-bracket_or_comma (next_shape s ss) text more is no_bracket no_comma = no_comma _ is
 
 -- The list sizes of the first remaining type have 64 bits.
 pub left_narrow : (all : Shapes) (read : List ArrowDataType) (rest more : List ℕ) (left : IsLeft all read rest more) → IsTrue (widths_written left.first)
@@ -92,7 +74,7 @@ left_narrow all read rest more left = first_narrow left.first left.others left.n
 -- After `struct<`, a bracket means that there are no types, and a letter that there are some.
 pub no_types : (parts : Shapes) (rest more : List ℕ) → 60 ∷ 62 ∷ rest ≡ angled (type_texts parts) ++ more → (parts ≡ no_shapes) × (rest ≡ more)
 no_types no_shapes rest more is = (refl, ap (drop 2) is)
-no_types (next_shape s ss) rest more is = absurd (letter s (behind_first ss more) rest (behind_bracket s ss (62 ∷ rest) more is))
+no_types (next_shape s ss) rest more is = absurd (letter s (after 62 (type_texts ss) more) rest (behind_bracket s ss (62 ∷ rest) more is))
   where
     letter : (s : Shape) (more rest : List ℕ) → 62 ∷ rest ≡ type_text s ++ more → ⊥
     letter (of_fixed_size_list s n) more rest is = let first = ap (λ l. get_or l 0 0) is in omega (arith, first)

@@ -1,6 +1,6 @@
 -- Rows of each layout fit the type of their column.
-use Rattle.std.proofs.Common.{◌≡◌, ℕ, zero, suc, ℤ, ◌+◌, ◌-◌, ◌*◌, ◌≤◌, ◌<◌, Bool, true, false, All, List, [], ◌∷◌, ◌++◌, map, length, take, Option, Some, None, Vec, Box, Global, refl, ap, sym, subst, ◌∙◌, arith, length-take, length-drop, get_or, ◌==◌, ◌/◌, ◌%◌, ◌^◌, nat_lt, replicate, slice_index_or, if◌then◌else◌, take_all}
-use Rattle.sel_text.proofs.Common.{w32, byte_at, bytes_low_first, to_le_bytes, list_all, range_with_len, slice_range, is_utf8, nat_tests, All-head, All-tail, All-weaker, list_all-append, Bits, utf8view_rows, hidden, masked, number_rows, list_of, blocks, list_rows, struct_at, byte_rows, pieces_after, rows, type_of, well_formed, IsField, IsWellFormed, Shape, shapes_of, of_binary_view, of_boolean, of_fixed_size_list, of_large_binary, of_large_list, of_null, of_struct, of_utf8_view, all_text, Value, Null, Truth, Number, Bytes, values_of, listed, buffer_at, inline_bytes, inline_space, is_inline, view_bytes, view_rows, view_value, Column, LargeList, FixedSizeList, Struct, NullColumn, Boolean, LargeBinary, BinaryView, Utf8View, View, both, all_part, and_first, and_second, all_fit, are_bytes, fields_fit, fits, fits_number, RowsFit}
+use Rattle.std.proofs.Common.{◌≡◌, ℕ, zero, suc, ℤ, ◌+◌, ◌-◌, ◌*◌, ◌≤◌, ◌<◌, Bool, true, false, All, List, [], ◌∷◌, map, length, take, Option, Some, None, Vec, Box, Global, refl, ap, sym, subst, ◌∙◌, arith, length-take, length-drop, get_or, ◌==◌, nat_lt, replicate, slice_index_or, take_all}
+use Rattle.sel_text.proofs.Common.{cond_both, list_all, range_with_len, slice_range, is_utf8, nat_tests, All-head, All-tail, All-weaker, list_all-map, false≢true, Bits, utf8view_rows, hidden, masked, number_rows, list_of, blocks, struct_at, pieces, rows, type_of, well_formed, IsField, IsWellFormed, Shape, shapes_of, of_binary_view, of_boolean, of_fixed_size_list, of_large_binary, of_large_list, of_null, of_struct, of_utf8_view, all_text, Value, Null, Truth, Number, Bytes, values_of, listed, buffer_at, inline_bytes, inline_space, is_inline, view_bytes, view_value, Column, LargeList, FixedSizeList, Struct, NullColumn, Boolean, LargeBinary, BinaryView, Utf8View, View, both, all_part, and_first, and_second, all_fit, are_bytes, fields_fit, fits, fits_number, RowsFit}
 use Rattle.std.proofs.Math.Nat.{mul-le-mul_right}
 use Rattle.sel_arrow.specs.declared.binary.BinaryArray.{BinaryArray}
 use Rattle.sel_arrow.specs.declared.binview.BinaryViewArray.{BinaryViewArray}
@@ -15,27 +15,23 @@ use Rattle.sel_text.proofs.Told.{all_fits}
 
 -- ---- rows under a validity
 
-hidden_fit : (s : Shape) (bits : List Bool) (vs : List Value) → list_all (fits s) vs ≡ true → list_all (fits s) (hidden bits vs) ≡ true
-hidden_fit s [] vs fit = fit
-hidden_fit s (b ∷ bits) [] fit = refl
-hidden_fit s (true ∷ bits) (v ∷ vs) fit =
-    both (fits s v) (list_all (fits s) (hidden bits vs)) (and_first (fits s v) (list_all (fits s) vs) fit) (hidden_fit s bits vs (and_second (fits s v) (list_all (fits s) vs) fit))
-hidden_fit s (false ∷ bits) (v ∷ vs) fit = hidden_fit s bits vs (and_second (fits s v) (list_all (fits s) vs) fit)
+hidden_all : (p : Value → Bool) → p Null ≡ true → (bits : List Bool) (vs : List Value) → list_all p vs ≡ true → list_all p (hidden bits vs) ≡ true
+hidden_all p null [] vs all = all
+hidden_all p null (b ∷ bits) [] all = refl
+hidden_all p null (true ∷ bits) (v ∷ vs) all = both (p v) (list_all p (hidden bits vs)) (and_first _ _ all) (hidden_all p null bits vs (and_second _ _ all))
+hidden_all p null (false ∷ bits) (v ∷ vs) all = both (p Null) (list_all p (hidden bits vs)) null (hidden_all p null bits vs (and_second _ _ all))
 
--- A validity leaves rows that fit.
-pub masked_fit : (s : Shape) (validity : Option Bits) (vs : List Value) → list_all (fits s) vs ≡ true → list_all (fits s) (masked validity vs) ≡ true
-masked_fit s None vs fit = fit
-masked_fit s (Some validity) vs fit = hidden_fit s validity.bits vs fit
+-- Under a validity, rows pass a test that null passes too.
+masked_all : (p : Value → Bool) → p Null ≡ true → (validity : Option Bits) (vs : List Value) → list_all p vs ≡ true → list_all p (masked validity vs) ≡ true
+masked_all p null None vs all = all
+masked_all p null (Some validity) vs all = hidden_all p null validity.bits vs all
 
--- Values of which each fits as a row.
-mapped_fit : {A : Type 0} (f : A → Value) (s : Shape) (p : A → Bool) → ((x : A) → p x ≡ true → fits s (f x) ≡ true) → (xs : List A) → list_all p xs ≡ true → list_all (fits s) (map f xs) ≡ true
-mapped_fit f s p each [] all = refl
-mapped_fit f s p each (x ∷ xs) all =
-    both (fits s (f x)) (list_all (fits s) (map f xs)) (each x (and_first (p x) (list_all p xs) all)) (mapped_fit f s p each xs (and_second (p x) (list_all p xs) all))
+masked_fit : (s : Shape) (validity : Option Bits) (vs : List Value) → list_all (fits s) vs ≡ true → list_all (fits s) (masked validity vs) ≡ true
+masked_fit s validity vs fit = masked_all (fits s) refl validity vs fit
 
-any_fit : {A : Type 0} (f : A → Value) (s : Shape) → ((x : A) → fits s (f x) ≡ true) → (xs : List A) → list_all (fits s) (map f xs) ≡ true
-any_fit f s each [] = refl
-any_fit f s each (x ∷ xs) = both (fits s (f x)) (list_all (fits s) (map f xs)) (each x) (any_fit f s each xs)
+any_pass : {A : Type 0} (f : A → Value) (p : Value → Bool) → ((x : A) → p (f x) ≡ true) → (xs : List A) → list_all p (map f xs) ≡ true
+any_pass f p each [] = refl
+any_pass f p each (x ∷ xs) = both (p (f x)) (list_all p (map f xs)) (each x) (any_pass f p each xs)
 
 -- ---- columns without children
 
@@ -43,54 +39,26 @@ pub nulls_fit : (s : Shape) (n : ℕ) → list_all (fits s) (replicate n Null) �
 nulls_fit s zero = refl
 nulls_fit s (suc n) = nulls_fit s n
 
-pub booleans_fit : (bits : List Bool) (validity : Option Bits) → list_all (fits of_boolean) (masked validity (map Truth bits)) ≡ true
-booleans_fit bits validity = masked_fit of_boolean validity (map Truth bits) (any_fit Truth of_boolean (λ b. refl) bits)
-
-pub numbers_fit : {T : Type 0} (s : Shape) (number : T → ℤ) (xs : List T) (validity : Option Bits) → list_all (λ x. fits_number s (number x)) xs ≡ true → list_all (fits s) (number_rows number xs validity) ≡ true
-numbers_fit s number xs validity all =
-    masked_fit s validity (map (λ x. Number (number x)) xs) (mapped_fit (λ x. Number (number x)) s (λ x. fits_number s (number x)) (λ x one. one) xs all)
-
--- The same once every value is read.
+-- Numbers fit once every value is read.
 pub numbers_read : {T : Type 0} (s : Shape) (number : T → ℤ) (read values : List T) (validity : Option Bits) (i : ℕ) → read ≡ values → length read ≤ i → list_all (λ x. fits_number s (number x)) (take i read) ≡ true →
     list_all (fits s) (number_rows number values validity) ≡ true
 numbers_read s number read values validity i same long all =
-    numbers_fit s number values validity (subst (λ l. list_all (λ x. fits_number s (number x)) l ≡ true) (take_all i read long ∙ same) all)
+    let fit = ap (list_all (λ x. fits_number s (number x))) (sym (take_all i read long ∙ same)) ∙ all in
+    masked_fit s validity (map (λ x. Number (number x)) values) (list_all-map (fits s) (λ x. Number (number x)) values ∙ fit)
 
 -- ---- bytes
 
-pieces_bytes : (a : ℕ) (offsets bytes : List ℕ) → are_bytes bytes ≡ true → list_all (fits of_large_binary) (map Bytes (pieces_after a offsets bytes)) ≡ true
-pieces_bytes a [] bytes all = refl
-pieces_bytes a (b ∷ offsets) bytes all =
-    both (are_bytes (slice_range bytes a b)) (list_all (fits of_large_binary) (map Bytes (pieces_after b offsets bytes))) (all_part (λ byte. nat_lt byte 256) bytes a (b - a) all) (pieces_bytes b offsets bytes all)
-
-pub binary_fit : (offsets bytes : List ℕ) (validity : Option Bits) → are_bytes bytes ≡ true → list_all (fits of_large_binary) (byte_rows offsets bytes validity) ≡ true
-binary_fit [] bytes validity all = masked_fit of_large_binary validity [] refl
-binary_fit (a ∷ offsets) bytes validity all = masked_fit of_large_binary validity (map Bytes (pieces_after a offsets bytes)) (pieces_bytes a offsets bytes all)
+-- Parts of a list whose elements pass a test.
+parts_pass : {A : Type 0} (f : List A → Value) (p : A → Bool) (q : Value → Bool) → ((xs : List A) → list_all p xs ≡ true → q (f xs) ≡ true) → (offsets : List ℕ) (xs : List A) → list_all p xs ≡ true → list_all q (map f (pieces offsets xs)) ≡ true
+parts_pass f p q each [] xs all = refl
+parts_pass f p q each (a ∷ []) xs all = refl
+parts_pass f p q each (a ∷ b ∷ offsets) xs all =
+    both (q (f (slice_range xs a b))) (list_all q (map f (pieces (b ∷ offsets) xs))) (each (slice_range xs a b) (all_part p xs a (b - a) all)) (parts_pass f p q each (b ∷ offsets) xs all)
 
 -- ---- views
 
-byte_of : (n : ℕ) → nat_lt (n % 256) 256 ≡ true
-byte_of n = let small : n % 256 < 256 = omega arith in grind (arith, nat_tests, small)
-
-byte_small : (i n : ℕ) → nat_lt (byte_at i n) 256 ≡ true
-byte_small zero n = byte_of n
-byte_small (suc i) n = byte_of (n / 256 ^ suc i)
-
-low_bytes : (i k n : ℕ) → are_bytes (bytes_low_first i k n) ≡ true
-low_bytes i zero n = refl
-low_bytes i (suc k) n = both (nat_lt (byte_at i n) 256) (are_bytes (bytes_low_first (suc i) k n)) (byte_small i n) (low_bytes (suc i) k n)
-
-word_bytes : (n : ℕ) → are_bytes (to_le_bytes w32 n) ≡ true
-word_bytes n = low_bytes 0 4 n
-
 inline_are_bytes : (view : View) → are_bytes (inline_bytes view) ≡ true
-inline_are_bytes view =
-    let p = λ (byte : ℕ). nat_lt byte 256 in
-    let two = list_all-append p (to_le_bytes w32 view.buffer_idx) (to_le_bytes w32 view.offset)
-    ∙ both (are_bytes (to_le_bytes w32 view.buffer_idx)) (are_bytes (to_le_bytes w32 view.offset)) (word_bytes view.buffer_idx) (word_bytes view.offset) in
-    let all : are_bytes (inline_space view) ≡ true = list_all-append p (to_le_bytes w32 view.prefix) (to_le_bytes w32 view.buffer_idx ++ to_le_bytes w32 view.offset)
-    ∙ both (are_bytes (to_le_bytes w32 view.prefix)) (are_bytes (to_le_bytes w32 view.buffer_idx ++ to_le_bytes w32 view.offset)) (word_bytes view.prefix) two in
-    all_part p (inline_space view) 0 view.length all
+inline_are_bytes view = all_part (λ byte. nat_lt byte 256) (inline_space view) 0 view.length (grind (arith, nat_tests))
 
 buffer_are_bytes : (buffers : List (List ℕ)) (i : ℕ) → list_all are_bytes buffers ≡ true → are_bytes (buffer_at buffers i) ≡ true
 buffer_are_bytes [] i all = refl
@@ -98,39 +66,22 @@ buffer_are_bytes (b ∷ buffers) zero all = and_first (are_bytes b) (list_all ar
 buffer_are_bytes (b ∷ buffers) (suc i) all = buffer_are_bytes buffers i (and_second (are_bytes b) (list_all are_bytes buffers) all)
 
 view_are_bytes : (buffers : List (List ℕ)) (view : View) → list_all are_bytes buffers ≡ true → are_bytes (view_bytes buffers view) ≡ true
-view_are_bytes buffers view all = go (is_inline view)
-  where
-    go : (b : Bool) → are_bytes (if b then inline_bytes view else slice_range (buffer_at buffers view.buffer_idx) view.offset (view.offset + view.length)) ≡ true
-    go true = inline_are_bytes view
-    go false = all_part (λ byte. nat_lt byte 256) (buffer_at buffers view.buffer_idx) view.offset ((view.offset + view.length) - view.offset) (buffer_are_bytes buffers view.buffer_idx all)
+view_are_bytes buffers view all =
+    cond_both (is_inline view) _ _ (λ bytes. are_bytes bytes ≡ true) (λ _. inline_are_bytes view)
+    (λ _. all_part (λ byte. nat_lt byte 256) (buffer_at buffers view.buffer_idx) view.offset ((view.offset + view.length) - view.offset) (buffer_are_bytes buffers view.buffer_idx all))
 
-pub binview_fit : (views : List View) (buffers : List (List ℕ)) (validity : Option Bits) → list_all are_bytes buffers ≡ true → list_all (fits of_binary_view) (view_rows views buffers validity) ≡ true
-binview_fit views buffers validity all =
-    masked_fit of_binary_view validity (map (view_value buffers) views) (any_fit (view_value buffers) of_binary_view (λ view. view_are_bytes buffers view all) views)
+-- Whether a row is null or of bytes.
+abbrev is_bytes : Value → Bool
+is_bytes Null = true
+is_bytes (Bytes bytes) = true
+is_bytes row = false
 
 -- Rows of bytes that are strings.
-texts_hidden : (buffers : List (List ℕ)) (bits : List Bool) (views : List View) → all_text (hidden bits (map (view_value buffers) views)) ≡ true → list_all (fits of_utf8_view) (hidden bits (map (view_value buffers) views)) ≡ true
-texts_hidden buffers [] views all = texts_plain buffers views all
-  where
-    texts_plain : (buffers : List (List ℕ)) (views : List View) → all_text (map (view_value buffers) views) ≡ true → list_all (fits of_utf8_view) (map (view_value buffers) views) ≡ true
-    texts_plain buffers [] all = refl
-    texts_plain buffers (view ∷ views) all =
-        let here = is_utf8 (view_bytes buffers view) in
-        both here (list_all (fits of_utf8_view) (map (view_value buffers) views)) (and_first here (all_text (map (view_value buffers) views)) all)
-        (texts_plain buffers views (and_second here (all_text (map (view_value buffers) views)) all))
-texts_hidden buffers (b ∷ bits) [] all = refl
-texts_hidden buffers (true ∷ bits) (view ∷ views) all =
-    let here = is_utf8 (view_bytes buffers view) in
-    both here (list_all (fits of_utf8_view) (hidden bits (map (view_value buffers) views))) (and_first here (all_text (hidden bits (map (view_value buffers) views))) all)
-    (texts_hidden buffers bits views (and_second here (all_text (hidden bits (map (view_value buffers) views))) all))
-texts_hidden buffers (false ∷ bits) (view ∷ views) all = texts_hidden buffers bits views all
-
-texts_masked : (buffers : List (List ℕ)) (views : List View) (validity : Option Bits) → all_text (view_rows views buffers validity) ≡ true → list_all (fits of_utf8_view) (view_rows views buffers validity) ≡ true
-texts_masked buffers views None all = texts_hidden buffers [] views all
-texts_masked buffers views (Some validity) all = texts_hidden buffers validity.bits views all
-
-pub strings_fit : (array : Utf8ViewArray) → list_all (fits of_utf8_view) (utf8view_rows array) ≡ true
-strings_fit array = texts_masked array.bytes.buffers array.bytes.views array.bytes.validity array.texts
+texts_fit : (rows : List Value) → list_all is_bytes rows ≡ true → all_text rows ≡ true → list_all (fits of_utf8_view) rows ≡ true
+texts_fit [] bytes texts = refl
+texts_fit (Null ∷ rows) bytes texts = texts_fit rows bytes texts
+texts_fit (Bytes bs ∷ rows) bytes texts = both (is_utf8 bs) (list_all (fits of_utf8_view) rows) (and_first _ _ texts) (texts_fit rows bytes (and_second _ _ texts))
+texts_fit (row ∷ rows) bytes texts = absurd (false≢true bytes)
 
 -- ---- columns without children
 
@@ -138,31 +89,31 @@ pub null_column_fits : (c : Column) (array : NullArray) → c ≡ NullColumn arr
 null_column_fits c array is = subst RowsFit (sym is) (nulls_fit of_null array.length)
 
 pub boolean_column_fits : (c : Column) (array : BooleanArray) → c ≡ Boolean array → RowsFit c
-boolean_column_fits c array is = subst RowsFit (sym is) (booleans_fit array.values.bits array.validity)
+boolean_column_fits c array is = subst RowsFit (sym is) (masked_fit of_boolean array.validity (map Truth array.values.bits) (any_pass Truth (fits of_boolean) (λ b. refl) array.values.bits))
 
 pub binary_column_fits : (c : Column) (array : BinaryArray _ _) (bytes : List ℕ) → c ≡ LargeBinary array → bytes ≡ array.values → are_bytes bytes ≡ true → RowsFit c
-binary_column_fits c array bytes is same all = subst RowsFit (sym is) (binary_fit array.offsets array.values array.validity (subst (λ l. are_bytes l ≡ true) same all))
+binary_column_fits c array bytes is same all =
+    let bytes = parts_pass Bytes (λ byte. nat_lt byte 256) (fits of_large_binary) (λ bytes fit. fit) array.offsets array.values (ap are_bytes (sym same) ∙ all) in
+    subst RowsFit (sym is) (masked_fit of_large_binary array.validity (map Bytes (pieces array.offsets array.values)) bytes)
 
 pub binview_column_fits : (c : Column) (array : BinaryViewArray) (buffers : List (List ℕ)) → c ≡ BinaryView array → buffers ≡ array.buffers → list_all are_bytes buffers ≡ true → RowsFit c
-binview_column_fits c array buffers is same all = subst RowsFit (sym is) (binview_fit array.views array.buffers array.validity (subst (λ l. list_all are_bytes l ≡ true) same all))
+binview_column_fits c array buffers is same all =
+    let bytes = λ (view : View). view_are_bytes array.buffers view (ap (list_all are_bytes) (sym same) ∙ all) in
+    subst RowsFit (sym is) (masked_fit of_binary_view array.validity (map (view_value array.buffers) array.views) (any_pass (view_value array.buffers) (fits of_binary_view) bytes array.views))
 
 pub string_column_fits : (c : Column) (array : Utf8ViewArray) → c ≡ Utf8View array → RowsFit c
-string_column_fits c array is = subst RowsFit (sym is) (strings_fit array)
+string_column_fits c array is =
+    let views = array.bytes in
+    let bytes = masked_all is_bytes refl views.validity (map (view_value views.buffers) views.views) (any_pass (view_value views.buffers) is_bytes (λ view. refl) views.views) in
+    subst RowsFit (sym is) (texts_fit (utf8view_rows array) bytes array.texts)
 
 -- ---- lists
 
-pieces_fit : (s : Shape) (a : ℕ) (offsets : List ℕ) (vs : List Value) → list_all (fits s) vs ≡ true → list_all (fits (of_large_list s)) (map list_of (pieces_after a offsets vs)) ≡ true
-pieces_fit s a [] vs fit = refl
-pieces_fit s a (b ∷ offsets) vs fit =
-    both (all_fit s (values_of (slice_range vs a b))) (list_all (fits (of_large_list s)) (map list_of (pieces_after b offsets vs))) (all_fits s (slice_range vs a b) (all_part (fits s) vs a (b - a) fit))
-    (pieces_fit s b offsets vs fit)
-
-lists_fit : (s : Shape) (offsets : List ℕ) (vs : List Value) (validity : Option Bits) → list_all (fits s) vs ≡ true → list_all (fits (of_large_list s)) (list_rows offsets vs validity) ≡ true
-lists_fit s [] vs validity fit = masked_fit (of_large_list s) validity [] refl
-lists_fit s (a ∷ offsets) vs validity fit = masked_fit (of_large_list s) validity (map list_of (pieces_after a offsets vs)) (pieces_fit s a offsets vs fit)
-
 pub list_column_fits : (c : Column) (offsets : List ℕ) (values : Box Column Global) (validity : Option Bits) → c ≡ LargeList offsets values validity → RowsFit values.value → RowsFit c
-list_column_fits c offsets values validity is fit = subst RowsFit (sym is) (lists_fit (type_of values.value) offsets (rows values.value) validity fit)
+list_column_fits c offsets values validity is fit =
+    let s = type_of values.value in
+    let lists = parts_pass list_of (fits s) (fits (of_large_list s)) (all_fits s) offsets (rows values.value) fit in
+    subst RowsFit (sym is) (masked_fit (of_large_list s) validity (map list_of (pieces offsets (rows values.value))) lists)
 
 -- ---- fixed-size lists
 
@@ -207,7 +158,7 @@ struct_fits (c ∷ fields) i fit =
 pub struct_column_fits : (c : Column) (len : ℕ) (fields : Vec Column Global) (validity : Option Bits) → c ≡ Struct len fields validity → All RowsFit fields.items → RowsFit c
 struct_column_fits c len fields validity is fit =
     let ss = shapes_of (map type_of fields.items) in
-    let plain = any_fit (struct_at (map rows fields.items)) (of_struct ss) (λ i. struct_fits fields.items i fit) (range_with_len 0 len) in
+    let plain = any_pass (struct_at (map rows fields.items)) (fits (of_struct ss)) (λ i. struct_fits fields.items i fit) (range_with_len 0 len) in
     let all = masked_fit (of_struct ss) validity (map (struct_at (map rows fields.items)) (range_with_len 0 len)) plain in
     ap (λ s. list_all (fits s) (rows c)) (struct_type c len fields validity is) ∙ ap (λ l. list_all (fits (of_struct ss)) l) (ap rows is ∙ rows-Struct len fields validity) ∙ all
 

@@ -1,22 +1,17 @@
 -- The text of parsed rows, and whether they fit their types.
-use Rattle.std.proofs.Common.{◌≡◌, ◌≢◌, ℕ, zero, suc, ◌+◌, ◌<◌, Bool, true, false, ◌&&◌, List, [], ◌∷◌, ◌++◌, length, map, get_or, Vec, Box, Global, refl, ap, sym, ◌∙◌, arith, ◌==◌}
-use Rattle.sel_text.proofs.Common.{list_all, eq-eqb, eqb-true, false_from_ne_true, shape_of, Shape, shapes_of, Value, Items, Tuple, Values, values_of, both, and_first, and_second, fits, fits_bytes, all_fit, fields_fit, item_value, part_texts, value_text, Item, ItemsItem, PartsItem}
+use Rattle.std.proofs.Common.{◌≡◌, ◌≢◌, ℕ, zero, suc, ◌<◌, Bool, true, false, ◌&&◌, List, [], ◌∷◌, ◌++◌, length, map, get_or, Vec, Box, Global, refl, ap, sym, ◌∙◌, arith, ◌==◌}
+use Rattle.sel_text.proofs.Common.{list_all-append, list_all, eq-eqb, eqb-true, false_from_ne_true, IsUtf8-from_is_utf8, is_utf8-from_IsUtf8, shape_of, Shape, shapes_of, Value, Items, Tuple, Values, values_of, both, and_first, and_second, fits, fits_bytes, all_fit, fields_fit, item_value, item_shape, text_of, part_texts, value_text, Item, ItemsItem, PartsItem}
+use Rattle.sel_text.proofs.ItemRows.{list_is}
+use Rattle.sel_text.proofs.Printed.{list_text}
 use Rattle.sel_arrow.specs.declared.datatype.ArrowDataType.{ArrowDataType, LargeList, FixedSizeList}
 use Rattle.sel_arrow.specs.declared.datatype.ArrowDataType.TheVariants.{LargeBinary, BinaryView, Utf8View, LargeList', FixedSizeList'}
-use Rattle.sel_text.proofs.Equalities.{list_back}
-use Rattle.sel_text.proofs.ItemRows.{items_value, parts_value}
-
--- ---- lists and structs as values
-
-pub list_is : (item : Item) (items : Vec Item Global) → item ≡ ItemsItem items → item_value item ≡ Items (values_of (map item_value items.items))
-list_is item items is = ap item_value is ∙ items_value items (values_of (map item_value items.items)) (sym (list_back (map item_value items.items)))
-
-pub tuple_is : (item : Item) (parts : Vec Item Global) → item ≡ PartsItem parts → item_value item ≡ Tuple (values_of (map item_value parts.items))
-tuple_is item parts is = ap item_value is ∙ parts_value parts (values_of (map item_value parts.items)) (sym (list_back (map item_value parts.items)))
 
 pub all_fit_is : (s : Shape) (vs : List Value) → all_fit s (values_of vs) ≡ list_all (fits s) vs
 all_fit_is s [] = refl
 all_fit_is s (v ∷ vs) = ap (λ b. fits s v && b) (all_fit_is s vs)
+
+-- Whether bytes are UTF-8.
+pub ruleset strings = (false_from_ne_true, IsUtf8-from_is_utf8, is_utf8-from_IsUtf8)
 
 -- ---- types without such values
 
@@ -42,19 +37,24 @@ same_size n m b same = ap (λ t. t && b) (sym (eq-eqb n m same))
 -- ---- rows so far
 
 pub all_grown : {A : Type 0} (p : A → Bool) (xs : List A) (x : A) → list_all p xs ≡ true → p x ≡ true → list_all p (xs ++ x ∷ []) ≡ true
-all_grown p [] x fit here = ap (λ b. b && true) here
-all_grown p (y ∷ xs) x fit here = both (p y) _ (and_first (p y) _ fit) (all_grown p xs x (and_second (p y) _ fit) here)
+all_grown p xs x fit here = list_all-append p xs (x ∷ []) ∙ both (list_all p xs) _ fit (both (p x) true here refl)
+
+-- The notation of a list whose entries are of a type.
+pub list_row : (s d : Shape) (item : Item) (items : Vec Item Global) (xs : List Item) → xs ≡ items.items → item ≡ ItemsItem items → item_shape d ≡ s →
+    all_fit s (values_of (map item_value items.items)) ≡ fits d (Items (values_of (map item_value items.items))) →
+    (list_all (fits s) (map item_value xs) ≡ fits d (item_value item)) × (text_of s (map item_value xs) ≡ value_text d (item_value item))
+list_row s d item items xs same is child fit =
+    let value = list_is item items is in
+    let vs = map item_value items.items in (
+      ap (λ l. list_all (fits s) (map item_value l)) same ∙ sym (all_fit_is s vs) ∙ fit ∙ ap (fits d) (sym value),
+      ap (λ l. text_of s (map item_value l)) same ∙ list_text d s vs (item_value item) (sym value) child,
+    )
 
 -- ---- one row that does not fit
 
 and_false : (b c : Bool) → false ≡ c → false ≡ (b && c)
 and_false true c same = same
 and_false false c same = refl
-
-pub all_fails : {A : Type 0} (p : A → Bool) (xs : List A) (k : ℕ) (d : A) → k < length xs → p (get_or xs k d) ≡ false → false ≡ list_all p xs
-all_fails p [] k d h not_so = absurd (omega (arith, h))
-all_fails p (x ∷ xs) zero d h not_so = ap (λ b. b && list_all p xs) (sym not_so)
-all_fails p (x ∷ xs) (suc k) d h not_so = and_false (p x) _ (all_fails p xs k d (omega (arith, h)) not_so)
 
 pub fields_fail : (ds : List ArrowDataType) (vs : List Value) (k : ℕ) (d : ArrowDataType) (v : Value) → k < length ds → k < length vs → fits (shape_of (get_or ds k d)) (get_or vs k v) ≡ false →
     false ≡ fields_fit (shapes_of (map shape_of ds)) (values_of vs)

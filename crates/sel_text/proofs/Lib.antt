@@ -1,5 +1,4 @@
 pub mod Below
-pub mod Blocks
 pub mod BuiltViews
 pub mod CellRows
 pub mod ColumnTypes
@@ -16,7 +15,6 @@ pub mod Escapes
 pub mod Fields
 pub mod FittingRows
 pub mod Following
-pub mod ItemParts
 pub mod ItemRows
 pub mod ItemTexts
 pub mod Making
@@ -33,7 +31,6 @@ pub mod RowNotation
 pub mod RowRuns
 pub mod Rows
 pub mod Shown
-pub mod Spelled
 pub mod SpelledRows
 pub mod Spellings
 pub mod StringNotation
@@ -41,4 +38,5 @@ pub mod Told
 pub mod TypeNotation
 pub mod TypeTexts
 pub mod TypesTold
+pub mod ValueTexts
 pub mod Within

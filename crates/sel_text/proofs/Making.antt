@@ -1,16 +1,8 @@
 -- The results of column constructors, and their errors.
-use Rattle.std.proofs.Common.{◌≡◌, Bool, true, false, ◌||◌, List, [], ◌∷◌, length, replicate, Option, Some, None, refl, ap}
+use Rattle.std.proofs.Common.{◌≡◌, Bool, true, false, ◌||◌, List, [], ◌∷◌, length, replicate, Option, Some, None, refl, ap, arith}
 use Rattle.sel_text.proofs.Common.{list_all, of_null, Value, Null, first_broken, IsFaultOrMemory, Malformed, fits, ReportsLimit, make_fault, IsMemoryFault, Fault, Limit, OutOfMemory}
 use Rattle.sel_bits.specs.declared.faults.MakeError.{MakeError}
 use Rattle.sel_bits.specs.declared.faults.MakeError.TheVariants.{Malformed as Broken, OutOfMemory as WantOfMemory}
-
-pub or_first : (a b : Bool) → a ≡ true → (a || b) ≡ true
-or_first true b e = refl
-or_first false b e = absurd cc
-
-pub or_second : (a b : Bool) → b ≡ true → (a || b) ≡ true
-or_second true b e = refl
-or_second false b e = e
 
 -- A limit that the child rows exceed is a limit of the whole.
 pub told_more : (p q : Bool) (fault : Fault) → (p ≡ true → q ≡ true) → ReportsLimit p fault → ReportsLimit q fault
@@ -33,13 +25,10 @@ maker_wanting rule WantOfMemory is kept = tt
 
 -- If only the first of three rules can be broken, a broken rule is the first.
 pub first_of_three : (a b d : Bool) (r s t m : Malformed) → b ≡ false → d ≡ false → first_broken ((r, a) ∷ (s, b) ∷ (t, d) ∷ []) ≡ Some m → a ≡ true
-first_of_three true b d r s t m second third is = refl
-first_of_three false false false r s t m second third is = cc
-first_of_three a b d r s t m second third is = cc
+first_of_three a b d r s t m second third is = grind (arith, second, third, is)
 
 pub first_of_four : (a b d e : Bool) (r s t u m : Malformed) → d ≡ false → e ≡ false → first_broken ((r, a) ∷ (s, b) ∷ (t, d) ∷ (u, e) ∷ []) ≡ Some m → (a || b) ≡ true
-first_of_four true b d e r s t u m third fourth is = refl
-first_of_four false b d e r s t u m third fourth is = first_of_three b d e s t u m third fourth is
+first_of_four a b d e r s t u m third fourth is = grind (arith, third, fourth, is)
 
 -- Each row of the null type is null.
 pub all_nulls : (vs : List Value) → list_all (fits of_null) vs ≡ true → replicate (length vs) Null ≡ vs

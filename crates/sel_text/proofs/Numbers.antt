@@ -1,21 +1,11 @@
 -- Numbers as they are parsed.
 use Rattle.std.proofs.Common.{◌≡◌, ℕ, ℤ, pos, negsuc, suc, ◌^◌, ◌<◌, true, List, ◌++◌, ap, sym, ◌∙◌, ◌∷◌, drop, arith, subst, ◌-ℤ◌, FitsSigned}
-use Rattle.sel_text.proofs.Common.{decimal, signed_decimal, w128, mag, AllDigits, digits_value, Shape, NoDigit, fits_number}
+use Rattle.sel_text.proofs.Common.{decimal, signed_decimal, w128, mag, Shape, NoDigit, fits_number}
 use Rattle.std.proofs.lemmas.Int.{ints, to_z-of_z}
 use mir.Val.{to_z, of_z}
 use Rattle.sel_text.proofs.Decoded.{no_minus}
-use Rattle.sel_text.proofs.Ends.{numeral_is, numeral_told}
+use Rattle.sel_text.proofs.Ends.{numeral_is}
 use Rattle.sel_text.proofs.Told.{small_number, small_below}
-
--- All digits at the front are the number.
-pub digits_told : (n : ℕ) (bytes digits rest more : List ℕ) → n < 2 ^ 128 → bytes ≡ digits ++ rest → AllDigits 10 digits → NoDigit rest → NoDigit more → bytes ≡ decimal n ++ more → (digits_value 10 digits ≡ n) × (rest ≡ more)
-digits_told n bytes digits rest more small parts all end ends is =
-    let told = numeral_told bytes digits rest parts all end n more small ends is in
-    (ap (digits_value 10) told.0 ∙ (numeral_is n small).1, told.1)
-
--- A number that fits a type has at most 128 bits.
-pub plain_small : (s : Shape) (n : ℕ) → fits_number s (pos n) ≡ true → n < 2 ^ 128
-plain_small s n fit = small_number s (pos n) fit
 
 -- A negative number that fits a type has one bit less.
 pub below_small : (s : Shape) (n : ℕ) → fits_number s (negsuc n) ≡ true → suc n < 2 ^ 128
@@ -37,6 +27,6 @@ below_kept s n size z fit is taken =
 pub minus_told : (R : ℤ → List ℕ → Type 0) (s : Shape) (text numeral : List ℕ) → text ≡ 45 ∷ numeral → ((n : ℕ) (more : List ℕ) → fits_number s (negsuc n) ≡ true → NoDigit more → numeral ≡ decimal (suc n) ++ more → R (negsuc n) more) →
     (z : ℤ) (more : List ℕ) → fits_number s z ≡ true → NoDigit more → text ≡ signed_decimal z ++ more → R z more
 minus_told R s text numeral minus read (pos n) more fit end is =
-    let numeric = (numeral_is n (plain_small s n fit)).0 in
+    let numeric = (numeral_is n (small_number s (pos n) fit)).0 in
     absurd (no_minus (decimal n) more numeral numeric.0 numeric.1 (sym is ∙ minus))
 minus_told R s text numeral minus read (negsuc n) more fit end is = read n more fit end (ap (drop 1) (sym minus ∙ is))

@@ -21,9 +21,6 @@ none_negative : (ns : List ℕ) → has_negative (λ z. z) (map pos ns) ≡ fals
 none_negative [] = refl
 none_negative (n ∷ ns) = none_negative ns
 
-from_none : (n : ℕ) → 0 + n ≡ n
-from_none n = omega arith
-
 -- A part of a list after a prefix.
 pub slice_here : {B : Type 0} (pre xs ys : List B) (a b : ℕ) → a ≡ length pre → b ≡ a + length xs → slice_range (pre ++ (xs ++ ys)) a b ≡ xs
 slice_here pre xs ys a b start end = grind (arith, common_steps)
@@ -68,7 +65,8 @@ module _ {A B : Type 0} (below : A → List B) where
       Holds below after new more
   holds_more before after row old new ends more end place so grows put adds is there =
       let all : new ≡ flat_map below (before ++ row ∷ []) = put ∙ ap (λ l. l ++ below row) so.entries_are ∙ ap (λ l. flat_map below before ++ l) (sym (append-nil (below row))) ∙ sym (flat_map-append below before (row ∷ [])) in
-      let last : end ≡ pos (0 + length (flat_map below (before ++ row ∷ []))) = is ∙ ap pos (there ∙ ap length all ∙ sym (from_none (length (flat_map below (before ++ row ∷ []))))) in
+      let count : place ≡ 0 + length (flat_map below (before ++ row ∷ [])) = omega (arith, there, ap length all) in
+      let last = is ∙ ap pos count in
       subst (λ rows. Holds below rows new more) (sym grows) (record {
         entries_are = all;
         ends_are = adds ∙ ap (λ l. l ++ end ∷ []) so.ends_are ∙ ap (λ z. map pos (offsets_below below before) ++ z ∷ []) last

@@ -1,8 +1,9 @@
 -- Types with the same text are equal.
 use Rattle.std.proofs.Common.{◌≡◌, ℕ, ◌<◌, true, List, [], ◌∷◌, ◌++◌, drop, get_or, refl, ap, sym, ◌∙◌, arith, lit<, append_assoc, ◌^◌, codes, Some, unwrap_or}
 use Rattle.sel_text.proofs.Common.{decimal, Shape, Shapes, no_shapes, next_shape, of_large_list, of_fixed_size_list, of_struct, and_first, and_second, angled, type_text, type_texts, spelled, widths_written, all_widths_written}
+use Rattle.sel_text.proofs.Commas.{after}
 use Rattle.sel_text.proofs.Ends.{numbers_told}
-use Rattle.sel_text.proofs.Fields.{behind_first, behind_bracket, block_narrow, no_types}
+use Rattle.sel_text.proofs.Fields.{behind_bracket, block_narrow, no_types}
 use Rattle.sel_text.proofs.TypesTold.{plain_told, blocks_told, tuples_told}
 
 -- ---- texts that begin with a type
@@ -16,7 +17,7 @@ wider n small = let more : 2 ^ 64 < 2 ^ 128 = lit< tt in omega (arith, small, mo
 
 -- Texts of types that each follow a comma are those of only these types.
 abbrev TellsLeft : Shapes → Type 0
-TellsLeft ss = (ts : Shapes) (more rest : List ℕ) → all_widths_written ss ≡ true → all_widths_written ts ≡ true → behind_first ss more ≡ behind_first ts rest → (ss ≡ ts) × (more ≡ rest)
+TellsLeft ss = (ts : Shapes) (more rest : List ℕ) → all_widths_written ss ≡ true → all_widths_written ts ≡ true → after 62 (type_texts ss) more ≡ after 62 (type_texts ts) rest → (ss ≡ ts) × (more ≡ rest)
 
 -- Types in angle brackets.
 parts_told : (ss : Shapes) → TellsLeft ss → (ts : Shapes) (more rest : List ℕ) → all_widths_written ss ≡ true → all_widths_written ts ≡ true → angled (type_texts ss) ++ more ≡ angled (type_texts ts) ++ rest → (ss ≡ ts) × (more ≡ rest)
@@ -54,7 +55,7 @@ mutual
   tells_left : (ss : Shapes) → TellsLeft ss
   tells_left no_shapes no_shapes more rest narrow narrow_others is = (refl, ap (drop 1) is)
   tells_left (next_shape s ss) (next_shape t ts) more rest narrow narrow_others is =
-      let first = tells s t (behind_first ss more) (behind_first ts rest) (and_first _ _ narrow) (and_first _ _ narrow_others) (ap (drop 1) is) in
+      let first = tells s t (after 62 (type_texts ss) more) (after 62 (type_texts ts) rest) (and_first _ _ narrow) (and_first _ _ narrow_others) (ap (drop 1) is) in
       let others = tells_left ss ts more rest (and_second _ _ narrow) (and_second _ _ narrow_others) first.1 in
       (ap (λ x. next_shape x ss) first.0 ∙ ap (next_shape t) others.0, others.1)
   tells_left ss ts more rest narrow narrow_others is = let first = ap (λ l. get_or l 0 0) is in absurd (omega (arith, first))

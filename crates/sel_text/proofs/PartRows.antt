@@ -1,6 +1,8 @@
 -- The fields of struct rows, and struct rows made of fields.
-use Rattle.std.proofs.Common.{◌≡◌, ℕ, zero, suc, ◌+◌, ◌-◌, ◌<◌, true, false, ◌==◌, List, [], ◌∷◌, ◌++◌, map, length, take, get_or, Option, Some, refl, sym, ap, subst, ◌∙◌, arith, append_assoc, length-append, not, slice_index_or}
-use Rattle.sel_text.proofs.Common.{list_all, range_with_len, nat_tests, get_or-append_right, length-map, length-take, map-append, map_more, Bits, Malformed, TooManyRows, FieldLength, ValidityLength, shape_of, struct_fault, masked, too_many, validity_differs, Covers, struct_at, struct_rows, rows, row_count, type_of, Shape, of_struct, shapes_of, Value, Null, Tuple, Values, no_values, next_value, values_of, listed, is_valid, ArrayRef, ArrowDataType, both, and_first, and_second, parts_below, HasParts, fits, fields_fit, any_exceeds_limit, part_in, exceeds_limit, ShowsRows, NullSlots}
+use Rattle.std.proofs.Common.{◌≡◌, ℕ, zero, suc, ◌+◌, ◌<◌, true, false, ◌==◌, List, [], ◌∷◌, ◌++◌, map, length, take, get_or, Option, Some, refl, sym, ap, ◌∙◌, arith, append_assoc, length-append, not, slice_index_or}
+use Rattle.std.proofs.Math.Seq.{get_or-append_seam}
+use Rattle.std.proofs.lemmas.Simd.{map-map}
+use Rattle.sel_text.proofs.Common.{or_left, or_right, list_all, range_with_len, nat_tests, length-map, length-take, map-append, map_more, Bits, Malformed, TooManyRows, FieldLength, ValidityLength, shape_of, struct_fault, masked, too_many, validity_differs, Covers, struct_at, struct_rows, rows, row_count, type_of, Shape, of_struct, shapes_of, Value, Null, Tuple, Values, no_values, next_value, values_of, listed, is_valid, ArrayRef, ArrowDataType, both, and_first, and_second, parts_below, HasParts, fits, fields_fit, any_exceeds_limit, part_in, exceeds_limit, ShowsRows, NullSlots}
 use Rattle.std.proofs.lemmas.List.FromFn.{map-range_with_len_more}
 use Rattle.sel_arrow.specs.NestedArrays.{struct_column}
 use Rattle.sel_arrow.specs.declared.structure.StructArray.{StructArray}
@@ -8,35 +10,34 @@ use Rattle.sel_arrow.proofs.NestedRows.{length-rows}
 use Rattle.sel_arrow.proofs.Trees.{rows-Struct}
 use Rattle.sel_arrow.proofs.Types.{type_of-Struct}
 use Rattle.sel_text.proofs.ItemRows.{values_back}
-use Rattle.sel_text.proofs.Making.{first_of_three, or_first, or_second}
+use Rattle.sel_text.proofs.Making.{first_of_three}
 use Rattle.sel_text.proofs.Refusals.{no_difference}
 use Rattle.sel_text.proofs.Shown.{show_next}
 
 -- ---- the field values fit their types
 
-part_fits : (shapes : List Shape) (es : Values) (k : ℕ) (s : Shape) → fields_fit (shapes_of shapes) es ≡ true → k < length shapes → s ≡ get_or shapes k s → fits s (slice_index_or (listed es) k Null) ≡ true
-part_fits [] es k s fit below is = absurd (omega arith)
-part_fits (x ∷ xs) no_values k s fit below is = absurd cc
-part_fits (x ∷ xs) (next_value v vs) zero s fit below is = subst (λ t. fits t v ≡ true) (sym is) (and_first (fits x v) (fields_fit (shapes_of xs) vs) fit)
-part_fits (x ∷ xs) (next_value v vs) (suc k) s fit below is = part_fits xs vs k s (and_second (fits x v) (fields_fit (shapes_of xs) vs) fit) (omega arith) is
+part_fits : (dtypes : List ArrowDataType) (es : Values) (k : ℕ) (d : ArrowDataType) → fields_fit (shapes_of (map shape_of dtypes)) es ≡ true → k < length dtypes → d ≡ get_or dtypes k d → fits (shape_of d) (slice_index_or (listed es) k Null) ≡ true
+part_fits [] es k d fit below is = absurd (omega arith)
+part_fits (x ∷ xs) no_values k d fit below is = absurd cc
+part_fits (x ∷ xs) (next_value v vs) zero d fit below is = ap (λ t. fits (shape_of t) v) is ∙ and_first _ _ fit
+part_fits (x ∷ xs) (next_value v vs) (suc k) d fit below is = part_fits xs vs k d (and_second _ _ fit) (omega arith) is
 
-row_part : (shapes : List Shape) (k : ℕ) (s : Shape) → k < length shapes → s ≡ get_or shapes k s → (row : Value) → fits (of_struct (shapes_of shapes)) row ≡ true → fits s (part_in k row) ≡ true
-row_part shapes k s below is (Tuple es) fit = part_fits shapes es k s fit below is
-row_part shapes k s below is row fit = refl
+row_part : (dtypes : List ArrowDataType) (k : ℕ) (d : ArrowDataType) → k < length dtypes → d ≡ get_or dtypes k d → (row : Value) → fits (of_struct (shapes_of (map shape_of dtypes))) row ≡ true → fits (shape_of d) (part_in k row) ≡ true
+row_part dtypes k d below is (Tuple es) fit = part_fits dtypes es k d fit below is
+row_part dtypes k d below is row fit = refl
 
-pub parts_kept : (shapes : List Shape) (k : ℕ) (s : Shape) → k < length shapes → s ≡ get_or shapes k s → (vs : List Value) → list_all (fits (of_struct (shapes_of shapes))) vs ≡ true → list_all (fits s) (map (part_in k) vs) ≡ true
-parts_kept shapes k s below is [] fit = refl
-parts_kept shapes k s below is (v ∷ vs) fit =
-    both (fits s (part_in k v)) (list_all (fits s) (map (part_in k) vs)) (row_part shapes k s below is v (and_first _ _ fit)) (parts_kept shapes k s below is vs (and_second _ _ fit))
+pub parts_kept : (dtypes : List ArrowDataType) (k : ℕ) (d : ArrowDataType) → k < length dtypes → d ≡ get_or dtypes k d → (vs : List Value) → list_all (fits (of_struct (shapes_of (map shape_of dtypes)))) vs ≡ true → list_all (fits (shape_of d)) (map (part_in k) vs) ≡ true
+parts_kept dtypes k d below is [] fit = refl
+parts_kept dtypes k d below is (v ∷ vs) fit = both _ _ (row_part dtypes k d below is v (and_first _ _ fit)) (parts_kept dtypes k d below is vs (and_second _ _ fit))
 
 -- A limit that a field exceeds is a limit of the struct rows.
-pub past_at : (b : NullSlots) (shapes : List Shape) (place k n : ℕ) (s : Shape) (vs : List Value) → k < length shapes → s ≡ get_or shapes k s → place + k ≡ n → exceeds_limit b s (map (part_in n) vs) ≡ true → any_exceeds_limit b (shapes_of shapes) place vs ≡ true
-past_at b [] place k n s vs below is at past = absurd (omega arith)
-past_at b (x ∷ xs) place zero n s vs below is at past =
-    let here : n ≡ place = omega arith in
-    or_first (exceeds_limit b x (map (part_in place) vs)) (any_exceeds_limit b (shapes_of xs) (place + 1) vs) (subst (λ t. exceeds_limit b t (map (part_in place) vs) ≡ true) is (subst (λ m. exceeds_limit b s (map (part_in m) vs) ≡ true) here past))
-past_at b (x ∷ xs) place (suc k) n s vs below is at past =
-    or_second (exceeds_limit b x (map (part_in place) vs)) (any_exceeds_limit b (shapes_of xs) (place + 1) vs) (past_at b xs (place + 1) k n s vs (omega arith) is (omega arith) past)
+pub past_at : (b : NullSlots) (dtypes : List ArrowDataType) (place k n : ℕ) (d : ArrowDataType) (vs : List Value) → k < length dtypes → d ≡ get_or dtypes k d → place + k ≡ n → exceeds_limit b (shape_of d) (map (part_in n) vs) ≡ true →
+    any_exceeds_limit b (shapes_of (map shape_of dtypes)) place vs ≡ true
+past_at b [] place k n d vs below is at past = absurd (omega arith)
+past_at b (x ∷ xs) place zero n d vs below is at past =
+    let here : place ≡ n = omega arith in
+    or_left _ _ (ap (λ m. exceeds_limit b (shape_of x) (map (part_in m) vs)) here ∙ ap (λ t. exceeds_limit b (shape_of t) (map (part_in n) vs)) (sym is) ∙ past)
+past_at b (x ∷ xs) place (suc k) n d vs below is at past = or_right _ _ (past_at b xs (place + 1) k n d vs (omega arith) is (omega arith) past)
 
 -- ---- a struct row is made of its field values
 
@@ -46,9 +47,7 @@ count_parts (x ∷ xs) (next_value v vs) fit = ap suc (count_parts xs vs (and_se
 count_parts xs vs fit = cc
 
 entry_here : (pre rest : List Value) (v : Value) (k : ℕ) → length pre ≡ k → get_or (pre ++ v ∷ rest) k Null ≡ v
-entry_here pre rest v k long =
-    let none : k - length pre ≡ 0 = omega arith in
-    get_or-append_right pre (v ∷ rest) (length pre) k Null refl (omega arith) ∙ ap (λ n. get_or (v ∷ rest) n Null) none
+entry_here pre rest v k long = ap (λ n. get_or (pre ++ v ∷ rest) n Null) (sym long) ∙ get_or-append_seam pre v rest Null
 
 entries_from : (all left pre : List Value) (k : ℕ) → all ≡ pre ++ left → length pre ≡ k → map (λ i. slice_index_or all i Null) (range_with_len k (length left)) ≡ left
 entries_from all [] pre k is long = refl
@@ -84,9 +83,6 @@ tuples_from shapes all (row ∷ left) pre k fit is long =
     (λ valid. tuple_of_parts shapes row (and_first _ _ fit) valid ∙ ap (λ l. Tuple (values_of l)) (sym parts))
     (tuples_from shapes all left (pre ++ row ∷ []) (k + 1) (and_second _ _ fit) (is ∙ sym (append_assoc pre (row ∷ []) left)) longer)
 
-tuples_show : (shapes : List Shape) (vs : List Value) → list_all (fits (of_struct (shapes_of shapes))) vs ≡ true → ShowsRows vs (map (struct_at (parts_below (length shapes) vs)) (range_with_len 0 (length vs)))
-tuples_show shapes vs fit = tuples_from shapes vs vs [] 0 fit refl refl
-
 -- ---- field by field
 
 pub parts_more : (new mid old : List ArrayRef) (field : ArrayRef) (dtypes : List ArrowDataType) (dtype : ArrowDataType) (k : ℕ) (vs : List Value) → HasParts mid old (map shape_of (take k dtypes)) vs → k < length dtypes → dtype ≡ get_or dtypes k dtype →
@@ -109,19 +105,15 @@ parts_more new mid old field dtypes dtype k vs has below is put typed made =
 
 -- ---- the columns of the fields
 
-columns_of : {A : Type 0} (f : _ → A) (refs : List ArrayRef) → map f (map (λ field. field.column) refs) ≡ map (λ field. f field.column) refs
-columns_of f [] = refl
-columns_of f (r ∷ refs) = ap (λ l. f r.column ∷ l) (columns_of f refs)
-
 pub tuples_made : (shapes : List Shape) (vs : List Value) (refs old : List ArrayRef) (array : StructArray) (validity : Option Bits) → list_all (fits (of_struct (shapes_of shapes))) vs ≡ true → HasParts refs old shapes vs → old ≡ [] →
     array.len ≡ length vs → array.fields.items ≡ map (λ field. field.column) refs → array.validity ≡ validity → ((plain : List Value) → ShowsRows vs plain → masked validity plain ≡ vs) →
     (type_of (struct_column array) ≡ of_struct (shapes_of shapes)) × (rows (struct_column array) ≡ vs)
 tuples_made shapes vs refs old array validity fit has none len fields valid hides =
-    let types = ap (map type_of) fields ∙ columns_of type_of refs ∙ has.types ∙ ap (λ l. map (λ field. type_of field.column) l ++ shapes) none in
-    let parts = ap (map rows) fields ∙ columns_of rows refs ∙ has.parts ∙ ap (λ l. map (λ field. rows field.column) l ++ parts_below (length shapes) vs) none in (
+    let types = ap (map type_of) fields ∙ map-map type_of (λ field. field.column) refs ∙ has.types ∙ ap (λ l. map (λ field. type_of field.column) l ++ shapes) none in
+    let parts = ap (map rows) fields ∙ map-map rows (λ field. field.column) refs ∙ has.parts ∙ ap (λ l. map (λ field. rows field.column) l ++ parts_below (length shapes) vs) none in (
       type_of-Struct array.len array.fields array.validity ∙ ap (λ l. of_struct (shapes_of l)) types,
       rows-Struct array.len array.fields array.validity ∙ ap (λ l. struct_rows array.len l array.validity) parts ∙ ap (λ n. struct_rows n (parts_below (length shapes) vs) array.validity) len
-          ∙ ap (λ v. struct_rows (length vs) (parts_below (length shapes) vs) v) valid ∙ hides (map (struct_at (parts_below (length shapes) vs)) (range_with_len 0 (length vs))) (tuples_show shapes vs fit),
+          ∙ ap (λ v. struct_rows (length vs) (parts_below (length shapes) vs) v) valid ∙ hides (map (struct_at (parts_below (length shapes) vs)) (range_with_len 0 (length vs))) (tuples_from shapes vs vs [] 0 fit refl refl),
     )
 
 fields_count : (vs : List Value) (refs : List ArrayRef) (places : List ℕ) → map (λ field. rows field.column) refs ≡ map (λ place. map (part_in place) vs) places → list_all (λ n. n == length vs) (map (λ field. row_count field.column) refs) ≡ true

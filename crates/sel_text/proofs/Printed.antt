@@ -21,18 +21,12 @@ opened_first entry old new bracket [] more part none is before now =
     now ∙ ap (λ t. t ++ part) before ∙ append_assoc entry (bracket ∷ []) part ∙ ap (opened entry bracket) (sym is)
 opened_first entry old new bracket (x ∷ parts) more part none is before now = absurd (omega arith)
 
--- A part after a comma.
-pub opened_more : (entry old mid new : List ℕ) (bracket : ℕ) (parts more : List (List ℕ)) (part : List ℕ) → 0 < length parts → more ≡ parts ++ part ∷ [] →
-    old ≡ opened entry bracket parts → mid ≡ old ++ 44 ∷ [] → new ≡ mid ++ part → new ≡ opened entry bracket more
-opened_more entry old mid new bracket parts more part some is before comma now =
-    let head = bracket ∷ join_with_byte 44 parts in
-    now ∙ ap (λ t. t ++ part) comma ∙ append_assoc old (44 ∷ []) part ∙ ap (λ t. t ++ (44 ∷ part)) before ∙ append_assoc entry head (44 ∷ part)
-    ∙ ap (λ t. entry ++ (bracket ∷ t)) (sym (join_push 44 parts part some)) ∙ ap (opened entry bracket) (sym is)
-
--- The closing bracket.
-pub opened_closed : (entry old new : List ℕ) (bracket close : ℕ) (parts : List (List ℕ)) → old ≡ opened entry bracket parts → new ≡ old ++ close ∷ [] →
-    new ≡ entry ++ (bracket ∷ join_with_byte 44 parts ++ close ∷ [])
-opened_closed entry old new bracket close parts before now = now ∙ ap (λ t. t ++ close ∷ []) before ∙ append_assoc entry (bracket ∷ join_with_byte 44 parts) (close ∷ [])
+-- A part after a comma, which is pushed as a character.
+pub opened_more : (entry old put mid new char : List ℕ) (bracket : ℕ) (parts more : List (List ℕ)) (part : List ℕ) → 0 < length parts → more ≡ parts ++ part ∷ [] →
+    old ≡ opened entry bracket parts → mid ≡ put → put ≡ old ++ char → char ≡ 44 ∷ [] → new ≡ mid ++ part → new ≡ opened entry bracket more
+opened_more entry old put mid new char bracket parts more part some is before same pushed comma now =
+    now ∙ ap (λ t. t ++ part) (same ∙ pushed ∙ ap (λ r. old ++ r) comma) ∙ append_assoc old (44 ∷ []) part ∙ ap (λ t. t ++ (44 ∷ part)) before
+    ∙ append_assoc entry (bracket ∷ join_with_byte 44 parts) (44 ∷ part) ∙ ap (λ t. entry ++ (bracket ∷ t)) (sym (join_push 44 parts part some)) ∙ ap (opened entry bracket) (sym is)
 
 -- ---- rows
 
@@ -47,13 +41,6 @@ texts_more f xs a i d le lt =
     ap (λ n. map f (take n (drop a xs))) (range_step a i le)
     ∙ map_more f (drop a xs) (i - a) d (rw length-drop (omega arith))
     ∙ ap (λ x. map f (slice_range xs a i) ++ f x ∷ []) (get_or-drop a xs (i - a) d ∙ ap (λ k. get_or xs k d) place)
-
--- The row texts of no rows.
-pub none_so_far : {A : Type 0} (f : A → List ℕ) (xs : List A) (a : ℕ) → [] ≡ map f (slice_range xs a a)
-none_so_far f xs a = ap (λ n. map f (take n (drop a xs))) (none_left a)
-  where
-    none_left : (a : ℕ) → 0 ≡ a - a
-    none_left a = omega arith
 
 pub texts_count : {A : Type 0} (f : A → List ℕ) (xs : List A) (a i : ℕ) → i ≤ length xs → length (map f (slice_range xs a i)) ≡ i - a
 texts_count f xs a i le = rw (length-map, length-take, length-drop) (omega arith)

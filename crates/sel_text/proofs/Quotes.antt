@@ -72,9 +72,6 @@ hex_digits v small = (λ low. grind (arith, nat_tests), λ high. grind (arith, n
 
 -- ---- escapes
 
-pub escaped_unquoted : IsUnquoted escaped
-escaped_unquoted = unquoted
-
 -- An escape parses to its byte only.
 pub escape_told : (b n : ℕ) (text rest more : List ℕ) → read_one text ≡ one_then n rest → text ≡ escaped b ++ more → (n ≡ b) × (rest ≡ more)
 escape_told b n text rest more read is =

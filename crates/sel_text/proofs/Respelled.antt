@@ -1,7 +1,7 @@
 -- A text is in the notation if its canonical spelling is: white space between tokens makes no
 -- difference, and neither do escapes.
 use Rattle.std.proofs.Common.{true≢false, ◌≡◌, ◌≤◌, ◌<◌, ℕ, Bool, true, false, List, [], ◌∷◌, ◌++◌, length, length-drop, drop, refl, ap, sym, ◌∙◌, arith, Some, None, subst, inl, inr, ◌⊎◌, option_and_then, encode_utf8, Option, suc, zero, option_map, nat_lt, ◌==◌, not, if◌then◌else◌}
-use Rattle.sel_text.proofs.Common.{flat_map, list_all, nat_tests, Shape, after_byte, changed, goes_on, innermost, is_end, is_last, is_some_and, is_row_notation, is_type_notation, kept, after_name_byte, after_word_byte, is_between, escape_at, escape_spelled, is_mark, is_space, place_in_word, spelled, spelled_from, Value as RowValue, fits, escaped, text_of, type_text, widths_written, Bracket, Change, Keep, Next, Place, Between, Gap, Prefix, PlaceWord, InString, InHex, TypeWordSoFar, Lis, U, Within, Text, Escape, WordSoFar, N}
+use Rattle.sel_text.proofs.Common.{false≢true, flat_map, list_all, nat_tests, Shape, after_byte, changed, goes_on, innermost, is_end, is_last, is_some_and, is_row_notation, is_type_notation, kept, after_name_byte, after_word_byte, is_between, escape_at, escape_spelled, is_mark, is_space, place_in_word, spelled, spelled_from, Value as RowValue, fits, escaped, text_of, type_text, widths_written, Bracket, Change, Keep, Next, Place, Between, Gap, Prefix, PlaceWord, InString, InHex, TypeWordSoFar, Lis, Within, Text, Escape, WordSoFar, N}
 use lib.Utf8.{scalar}
 use Rattle.sel_text.proofs.Spellings.{begins}
 use Rattle.sel_text.proofs.EscapeNotation.{escape_read}
@@ -9,7 +9,7 @@ use Rattle.sel_text.proofs.RowNotation.{no_digit, rows_in_notation}
 use Rattle.sel_text.proofs.StringNotation.{letter_leads, starts, Starts}
 use Rattle.sel_text.proofs.TypeNotation.{step_to, type_in_notation}
 use Rattle.sel_text.specs.declared.notation.Next.TheVariants.{Rows, Name, SizeDigit, SizeComma, After, Negative, Digit, HexQuote, Word, TypeWord, Quoted}
-use Rattle.sel_text.proofs.Following.{is_spaced, is_unquoted, is_character, is_in_string, is_prefix, is_in_hex, may_follow, every, leads, byte_leads, hex_leads, string_leads, prefix_after, prefix_leads, stays, spaced_unquoted}
+use Rattle.sel_text.proofs.Following.{is_spaced, is_unquoted, is_character, is_in_string, is_prefix, is_in_hex, may_follow, every, every_weaker, leads, byte_leads, hex_after, hex_leads, string_after, string_leads, stays, spaced_unquoted}
 
 -- ---- the canonical spelling, byte by byte
 
@@ -28,21 +28,12 @@ Ended bytes = (bytes ≡ []) ⊎ ((mark : ℕ) × (more : List ℕ) × (is_mark 
 
 gap_ended : (text bytes : List ℕ) → spelled_from Gap 0 text ≡ Some bytes → Ended bytes
 gap_ended [] bytes is = inl cc
-gap_ended (byte ∷ rest) bytes is = go (gap_ended rest) (is_space byte) refl
+gap_ended (byte ∷ rest) bytes is = go (gap_ended rest) (is_space byte) (is_mark byte) refl refl
   where
-    go : ((bytes : List ℕ) → spelled_from Gap 0 rest ≡ Some bytes → Ended bytes) → (b : Bool) → is_space byte ≡ b → Ended bytes
-    go later true space = later bytes (unspaced Gap Gap byte rest bytes (rw space refl) is)
-    go later false space = token (is_mark byte) refl
-      where
-        token : (b : Bool) → is_mark byte ≡ b → Ended bytes
-        token true mark =
-            let same : spelled_from Gap 0 (byte ∷ rest) ≡ option_map (λ more. (byte ∷ []) ++ more) (spelled_from Between 0 rest) = rw space (rw mark refl) in
-            let split = from_front (byte ∷ []) (spelled_from Between 0 rest) bytes (sym same ∙ is) in
-            inr (byte, split.0, mark, split.2)
-        token false mark =
-            let same : spelled_from Gap 0 (byte ∷ rest) ≡ None = rw space (rw mark refl) in
-            let none : None ≡ Some bytes = sym same ∙ is in
-            absurd cc
+    go : ((bytes : List ℕ) → spelled_from Gap 0 rest ≡ Some bytes → Ended bytes) → (s m : Bool) → is_space byte ≡ s → is_mark byte ≡ m → Ended bytes
+    go later true m space mark = later bytes (unspaced Gap Gap byte rest bytes (rw space refl) is)
+    go later false true space mark = let split = from_front (byte ∷ []) (spelled_from Between 0 rest) bytes (rw (space, mark) at is) in inr (byte, split.0, mark, split.2)
+    go later false false space mark = let none : None ≡ Some bytes = rw (space, mark) at is in absurd cc
 
 unfinished : (next : Next) (brackets : List Bracket) → is_last next ≡ false → is_end next brackets ≡ false
 unfinished next [] last = last
@@ -71,9 +62,6 @@ name_dead : (word : TypeWordSoFar) (mark : ℕ) → is_mark mark ≡ true → af
 name_dead Lis mark is = grind (arith, nat_tests, is)
 name_dead word mark is = grind (arith, nat_tests, is)
 
-hex_quote_dead : (top : Option Bracket) (mark : ℕ) → is_mark mark ≡ true → after_byte HexQuote top mark ≡ None
-hex_quote_dead top mark is = grind (arith, nat_tests, is)
-
 -- ---- the same text, spelled in another way
 
 abbrev pub Respelled : List ℕ → Type 0
@@ -99,15 +87,11 @@ space_no_digit byte space = grind (arith, nat_tests, space)
 gap : (byte : ℕ) (rest : List ℕ) → Respelled rest → (next : Next) (brackets : List Bracket) (bytes : List ℕ) → is_space byte ≡ true → is_spaced next ≡ false → is_unquoted next ≡ true →
     spelled_from Gap 0 rest ≡ Some bytes → goes_on next brackets bytes ≡ true → goes_on next brackets (byte ∷ rest) ≡ true
 gap byte rest later SizeDigit brackets bytes space not outside is on =
-    let number : is_between byte 48 57 ≡ false = space_no_digit byte space in
-    let step : after_byte SizeDigit (innermost brackets) byte ≡ Some (SizeComma, Keep) = rw (number, space) refl in
-    step_to SizeDigit SizeComma Keep brackets byte rest step
+    step_to SizeDigit SizeComma Keep brackets byte rest (rw (space_no_digit byte space, space) refl)
     ∙ later Gap SizeComma brackets bytes refl is (ended SizeDigit SizeComma brackets bytes refl (λ top mark is_token. rw (no_digit mark is_token) refl) (gap_ended rest bytes is) on)
 gap byte rest later Negative brackets bytes space not outside is on = absurd (true≢false (sym on ∙ dead Negative brackets bytes refl (λ top mark is_token. grind (arith, nat_tests, is_token)) (gap_ended rest bytes is)))
 gap byte rest later Digit brackets bytes space not outside is on =
-    let number : is_between byte 48 57 ≡ false = space_no_digit byte space in
-    let step : after_byte Digit (innermost brackets) byte ≡ Some (After, Keep) = rw (number, space) refl in
-    step_to Digit After Keep brackets byte rest step
+    step_to Digit After Keep brackets byte rest (rw (space_no_digit byte space, space) refl)
     ∙ later Gap After brackets bytes refl is (ended Digit After brackets bytes refl (λ top mark is_token. rw (no_digit mark is_token) refl) (gap_ended rest bytes is) on)
 gap byte rest later (Word word) brackets bytes space not outside is on = absurd (true≢false (sym on ∙ dead (Word word) brackets bytes refl (λ top mark is_token. ap kept (word_dead word mark is_token)) (gap_ended rest bytes is)))
 gap byte rest later (TypeWord word) brackets bytes space not outside is on = absurd (true≢false (sym on ∙ dead (TypeWord word) brackets bytes refl (λ top mark is_token. ap kept (name_dead word mark is_token)) (gap_ended rest bytes is)))
@@ -123,129 +107,73 @@ spaced_step byte rest later after next brackets bytes space spaced_may gap_is ou
     go true spaced = step_to next next Keep brackets byte rest (stays next (innermost brackets) byte spaced space) ∙ later after next brackets bytes (spaced_may spaced) told on
     go false not = gap byte rest later next brackets bytes space not outside (subst (λ place. spelled_from place 0 rest ≡ Some bytes) (gap_is not) told) on
 
-leads_mark : (byte : ℕ) (step : Option (Next × Change)) → is_mark byte ≡ true → every (leads byte) step ≡ true → every (λ (step : Next × Change). may_follow Between step.0) step ≡ true
-leads_mark byte None mark is = refl
-leads_mark byte (Some step) mark is = sym (ap (λ t. if t then is_spaced step.0 else if byte == 34 then is_in_string step.0 else if byte == 104 then is_prefix step.0 else is_unquoted step.0) mark) ∙ is
-
--- The state after a byte of a word.
-abbrev pub word_place : ℕ → Place
-word_place byte = if byte == 34 then InString else if byte == 104 then Prefix else PlaceWord
-
-word_may : (quote prefix : Bool) (next : Next) → may_follow (if quote then InString else if prefix then Prefix else PlaceWord) next ≡ (if quote then is_in_string next else if prefix then is_prefix next else is_unquoted next)
-word_may true prefix next = refl
-word_may false true next = refl
-word_may false false next = refl
-
-leads_word : (byte : ℕ) (step : Option (Next × Change)) → is_mark byte ≡ false → every (leads byte) step ≡ true → every (λ (step : Next × Change). may_follow (word_place byte) step.0) step ≡ true
-leads_word byte None mark is = refl
-leads_word byte (Some step) mark is =
-    word_may (byte == 34) (byte == 104) step.0 ∙ sym (ap (λ t. if t then is_spaced step.0 else if byte == 34 then is_in_string step.0 else if byte == 104 then is_prefix step.0 else is_unquoted step.0) mark) ∙ is
-
 -- Another byte, outside of strings.
-unquoted_step : (place : Place) (byte : ℕ) (rest : List ℕ) → Respelled rest → (next : Next) (brackets : List Bracket) (bytes : List ℕ) → is_unquoted next ≡ true → is_space byte ≡ false →
-    (is_mark byte ≡ true → spelled_from place 0 (byte ∷ rest) ≡ option_map (λ more. (byte ∷ []) ++ more) (spelled_from Between 0 rest)) →
-    (is_mark byte ≡ false → spelled_from place 0 (byte ∷ rest) ≡ option_map (λ more. (byte ∷ []) ++ more) (spelled_from (word_place byte) 0 rest)) →
-    spelled_from place 0 (byte ∷ rest) ≡ Some bytes → goes_on next brackets bytes ≡ true → goes_on next brackets (byte ∷ rest) ≡ true
-unquoted_step place byte rest later next brackets bytes outside space at_mark in_word is on = go (is_mark byte) refl
+unquoted_step : (byte : ℕ) (rest : List ℕ) → Respelled rest → (next : Next) (brackets : List Bracket) (bytes : List ℕ) → is_unquoted next ≡ true → is_space byte ≡ false →
+    option_and_then (λ (next : Place × ℕ). option_map (λ more. (byte ∷ []) ++ more) (spelled_from next.0 next.1 rest)) (if is_mark byte then Some (Between, 0) else Some (place_in_word Between byte, 0)) ≡ Some bytes →
+    goes_on next brackets bytes ≡ true → goes_on next brackets (byte ∷ rest) ≡ true
+unquoted_step byte rest later next brackets bytes outside space is on = go (is_mark byte) (byte == 34) (byte == 104) refl refl refl
   where
-    leads_to : every (leads byte) (after_byte next (innermost brackets) byte) ≡ true
-    leads_to = byte_leads next (innermost brackets) byte outside space
+    leads_to : (q : Next × Change → Bool) → ((step : Next × Change) → leads byte step ≡ true → q step ≡ true) → every q (after_byte next (innermost brackets) byte) ≡ true
+    leads_to q weaker = every_weaker (leads byte) q (after_byte next (innermost brackets) byte) weaker (byte_leads next (innermost brackets) byte outside space)
 
-    go : (b : Bool) → is_mark byte ≡ b → goes_on next brackets (byte ∷ rest) ≡ true
-    go true mark = follow byte rest later next brackets Between bytes (sym (at_mark mark) ∙ is) on (leads_mark byte (after_byte next (innermost brackets) byte) mark leads_to)
-    go false mark = follow byte rest later next brackets (word_place byte) bytes (sym (in_word mark) ∙ is) on (leads_word byte (after_byte next (innermost brackets) byte) mark leads_to)
+    go : (m q p : Bool) → is_mark byte ≡ m → (byte == 34) ≡ q → (byte == 104) ≡ p → goes_on next brackets (byte ∷ rest) ≡ true
+    go true q p mark _ _ = follow byte rest later next brackets Between bytes (rw mark at is) on (leads_to _ (λ step led. rw mark at led))
+    go false true p mark quote _ = follow byte rest later next brackets InString bytes (rw (mark, quote) at is) on (leads_to _ (λ step led. rw (mark, quote) at led))
+    go false false true mark quote prefix = follow byte rest later next brackets Prefix bytes (rw (mark, quote, prefix) at is) on (leads_to _ (λ step led. rw (mark, quote, prefix) at led))
+    go false false false mark quote prefix = follow byte rest later next brackets PlaceWord bytes (rw (mark, quote, prefix) at is) on (leads_to _ (λ step led. rw (mark, quote, prefix) at led))
 
 gap_step : (byte : ℕ) (rest : List ℕ) → Respelled rest → (next : Next) (brackets : List Bracket) (bytes : List ℕ) → is_spaced next ≡ true → is_space byte ≡ false → spelled_from Gap 0 (byte ∷ rest) ≡ Some bytes →
     goes_on next brackets bytes ≡ true → goes_on next brackets (byte ∷ rest) ≡ true
 gap_step byte rest later next brackets bytes may space is on = go (is_mark byte) refl
   where
-    leads_to : every (leads byte) (after_byte next (innermost brackets) byte) ≡ true
-    leads_to = byte_leads next (innermost brackets) byte (spaced_unquoted next may) space
-
     go : (b : Bool) → is_mark byte ≡ b → goes_on next brackets (byte ∷ rest) ≡ true
-    go true mark =
-        let same : spelled_from Gap 0 (byte ∷ rest) ≡ option_map (λ more. (byte ∷ []) ++ more) (spelled_from Between 0 rest) = rw space (rw mark refl) in
-        follow byte rest later next brackets Between bytes (sym same ∙ is) on (leads_mark byte (after_byte next (innermost brackets) byte) mark leads_to)
-    go false mark =
-        let same : spelled_from Gap 0 (byte ∷ rest) ≡ None = rw space (rw mark refl) in
-        let none : None ≡ Some bytes = sym same ∙ is in
-        absurd cc
+    go true mark = follow byte rest later next brackets Between bytes (rw (space, mark) at is) on (every_weaker (leads byte) _ _ (λ step led. rw mark at led) (byte_leads next (innermost brackets) byte (spaced_unquoted next may) space))
+    go false mark = let none : None ≡ Some bytes = rw (space, mark) at is in absurd cc
 
 -- After an `h`.
-prefix_dead : (next : Next) (byte : ℕ) (rest : List ℕ) (brackets : List Bracket) (after : Place) (bytes : List ℕ) → is_prefix next ≡ true → (byte == 34) ≡ false → option_map (λ more. (byte ∷ []) ++ more) (spelled_from after 0 rest) ≡ Some bytes →
-    goes_on next brackets bytes ≡ true → goes_on next brackets (byte ∷ rest) ≡ true
-prefix_dead next byte rest brackets after bytes may other is on =
+prefix_dead : (byte : ℕ) (rest : List ℕ) (brackets : List Bracket) (after : Place) (bytes : List ℕ) → (byte == 34) ≡ false → option_map (λ more. (byte ∷ []) ++ more) (spelled_from after 0 rest) ≡ Some bytes →
+    goes_on HexQuote brackets bytes ≡ true → ⊥
+prefix_dead byte rest brackets after bytes other is on =
     let split = from_front (byte ∷ []) (spelled_from after 0 rest) bytes is in
-    go split.0 (after_byte next (innermost brackets) byte) (subst (λ bs. goes_on next brackets bs ≡ true) split.2 on) (prefix_leads next (innermost brackets) byte may)
-  where
-    go : (more : List ℕ) (step : Option (Next × Change)) → is_some_and (λ (step : Next × Change). goes_on step.0 (changed step.1 brackets) more) step ≡ true → every (prefix_after byte) step ≡ true → goes_on next brackets (byte ∷ rest) ≡ true
-    go more None so_far leads_to = absurd cc
-    go more (Some step) so_far leads_to =
-        absurd (true≢false (sym (sym (ap (λ t. if t then is_in_hex step.0 else false) other) ∙ leads_to)))
-
-prefix_quote : (byte : ℕ) (step : Option (Next × Change)) → (byte == 34) ≡ true → every (prefix_after byte) step ≡ true → every (λ (step : Next × Change). may_follow InHex step.0) step ≡ true
-prefix_quote byte None quote is = refl
-prefix_quote byte (Some step) quote is = sym (ap (λ t. if t then is_in_hex step.0 else false) quote) ∙ is
+    false≢true (rw other at (subst (λ bs. goes_on HexQuote brackets bs ≡ true) split.2 on))
 
 quote_no_mark : (byte : ℕ) → (byte == 34) ≡ true → (is_mark byte ≡ false) × (is_space byte ≡ false)
 quote_no_mark byte quote = (grind (arith, nat_tests, quote), grind (arith, nat_tests, quote))
 
 prefix_step : (byte : ℕ) (rest : List ℕ) → Respelled rest → (next : Next) (brackets : List Bracket) (bytes : List ℕ) → is_prefix next ≡ true → spelled_from Prefix 0 (byte ∷ rest) ≡ Some bytes →
     goes_on next brackets bytes ≡ true → goes_on next brackets (byte ∷ rest) ≡ true
-prefix_step byte rest later next brackets bytes may is on = go (byte == 34) (is_space byte) (is_mark byte) refl refl refl
+prefix_step byte rest later HexQuote brackets bytes may is on = go (byte == 34) (is_space byte) (is_mark byte) refl refl refl
   where
-    go : (q s m : Bool) → (byte == 34) ≡ q → is_space byte ≡ s → is_mark byte ≡ m → goes_on next brackets (byte ∷ rest) ≡ true
+    go : (q s m : Bool) → (byte == 34) ≡ q → is_space byte ≡ s → is_mark byte ≡ m → goes_on HexQuote brackets (byte ∷ rest) ≡ true
     go true s m quote _ _ =
         let none = quote_no_mark byte quote in
-        let mark = none.0 in
-        let space = none.1 in
-        let same : spelled_from Prefix 0 (byte ∷ rest) ≡ option_map (λ more. (byte ∷ []) ++ more) (spelled_from InHex 0 rest) = rw space (rw mark (rw quote refl)) in
-        follow byte rest later next brackets InHex bytes (sym same ∙ is) on (prefix_quote byte (after_byte next (innermost brackets) byte) quote (prefix_leads next (innermost brackets) byte may))
-    go false true m quote space _ =
-        absurd (true≢false (sym on ∙ prefix_ended next brackets bytes may (gap_ended rest bytes (unspaced Prefix Gap byte rest bytes (rw space refl) is))))
-      where
-        prefix_ended : (next : Next) (brackets : List Bracket) (bytes : List ℕ) → is_prefix next ≡ true → Ended bytes → goes_on next brackets bytes ≡ false
-        prefix_ended HexQuote brackets bytes may end = dead HexQuote brackets bytes refl hex_quote_dead end
-        prefix_ended next brackets bytes may end = absurd cc
-    go false false true quote space mark =
-        let same : spelled_from Prefix 0 (byte ∷ rest) ≡ option_map (λ more. (byte ∷ []) ++ more) (spelled_from Between 0 rest) = rw space (rw mark refl) in
-        prefix_dead next byte rest brackets Between bytes may quote (sym same ∙ is) on
-    go false false false quote space mark =
-        let same : spelled_from Prefix 0 (byte ∷ rest) ≡ option_map (λ more. (byte ∷ []) ++ more) (spelled_from (place_in_word Prefix byte) 0 rest) = rw space (rw mark refl) in
-        prefix_dead next byte rest brackets (place_in_word Prefix byte) bytes may quote (sym same ∙ is) on
-
--- A quote ends a string, or bytes in hexadecimal.
-quote_may : (inside : Place) (quote : Bool) (step : Option (Next × Change)) → every (λ (step : Next × Change). if quote then is_unquoted step.0 else may_follow inside step.0) step ≡ true →
-    every (λ (step : Next × Change). may_follow (if quote then PlaceWord else inside) step.0) step ≡ true
-quote_may inside quote None is = refl
-quote_may inside true (Some step) is = is
-quote_may inside false (Some step) is = is
+        follow byte rest later HexQuote brackets InHex bytes (rw (none.1, none.0, quote) at is) on (rw quote refl)
+    go false true m quote space _ = absurd (true≢false (sym on ∙ dead HexQuote brackets bytes refl (λ top mark is_token. grind (arith, nat_tests, is_token)) (gap_ended rest bytes (unspaced Prefix Gap byte rest bytes (rw space refl) is))))
+    go false false true quote space mark = absurd (prefix_dead byte rest brackets Between bytes quote (rw (space, mark) at is) on)
+    go false false false quote space mark = absurd (prefix_dead byte rest brackets (place_in_word Prefix byte) bytes quote (rw (space, mark) at is) on)
+prefix_step byte rest later next brackets bytes may is on = absurd cc
 
 -- In bytes in hexadecimal.
 hex_step : (byte : ℕ) (rest : List ℕ) → Respelled rest → (next : Next) (brackets : List Bracket) (bytes : List ℕ) → is_in_hex next ≡ true → spelled_from InHex 0 (byte ∷ rest) ≡ Some bytes →
     goes_on next brackets bytes ≡ true → goes_on next brackets (byte ∷ rest) ≡ true
-hex_step byte rest later next brackets bytes may is on =
-    follow byte rest later next brackets (if byte == 34 then PlaceWord else InHex) bytes is on (quote_may InHex (byte == 34) (after_byte next (innermost brackets) byte) (hex_leads next (innermost brackets) byte may))
+hex_step byte rest later next brackets bytes may is on = go (byte == 34) refl
+  where
+    go : (q : Bool) → (byte == 34) ≡ q → goes_on next brackets (byte ∷ rest) ≡ true
+    go true quote = follow byte rest later next brackets PlaceWord bytes (rw quote at is) on (every_weaker (hex_after byte) _ _ (λ step led. rw quote at led) (hex_leads next (innermost brackets) byte may))
+    go false quote = follow byte rest later next brackets InHex bytes (rw quote at is) on (every_weaker (hex_after byte) _ _ (λ step led. rw quote at led) (hex_leads next (innermost brackets) byte may))
 
 -- In a string.
 string_step : (byte : ℕ) (rest : List ℕ) → Respelled rest → (next : Next) (brackets : List Bracket) (bytes : List ℕ) → is_in_string next ≡ true → (byte == 92) ≡ false → spelled_from InString 0 (byte ∷ rest) ≡ Some bytes →
     goes_on next brackets bytes ≡ true → goes_on next brackets (byte ∷ rest) ≡ true
 string_step byte rest later next brackets bytes may other is on = go (byte == 34) (nat_lt byte 32) refl refl
   where
-    leads_to : every (λ (step : Next × Change). may_follow (if byte == 34 then PlaceWord else InString) step.0) (after_byte next (innermost brackets) byte) ≡ true
-    leads_to = quote_may InString (byte == 34) (after_byte next (innermost brackets) byte) (string_leads next (innermost brackets) byte may other)
+    leads_to : every (string_after byte) (after_byte next (innermost brackets) byte) ≡ true
+    leads_to = string_leads next (innermost brackets) byte may other
 
     go : (q c : Bool) → (byte == 34) ≡ q → nat_lt byte 32 ≡ c → goes_on next brackets (byte ∷ rest) ≡ true
-    go true c quote _ =
-        let same : spelled_from InString 0 (byte ∷ rest) ≡ option_map (λ more. (byte ∷ []) ++ more) (spelled_from (if byte == 34 then PlaceWord else InString) 0 rest) = rw (other, quote) refl in
-        follow byte rest later next brackets (if byte == 34 then PlaceWord else InString) bytes (sym same ∙ is) on leads_to
-    go false true quote control =
-        let same : spelled_from InString 0 (byte ∷ rest) ≡ None = rw (other, quote, control) refl in
-        let none : None ≡ Some bytes = sym same ∙ is in
-        absurd cc
-    go false false quote control =
-        let same : spelled_from InString 0 (byte ∷ rest) ≡ option_map (λ more. (byte ∷ []) ++ more) (spelled_from (if byte == 34 then PlaceWord else InString) 0 rest) = rw (other, quote, control) refl in
-        follow byte rest later next brackets (if byte == 34 then PlaceWord else InString) bytes (sym same ∙ is) on leads_to
+    go true c quote _ = follow byte rest later next brackets PlaceWord bytes (rw (other, quote) at is) on (every_weaker (string_after byte) _ _ (λ step led. rw quote at led) leads_to)
+    go false true quote control = let none : None ≡ Some bytes = rw (other, quote, control) at is in absurd cc
+    go false false quote control = follow byte rest later next brackets InString bytes (rw (other, quote, control) at is) on (every_weaker (string_after byte) _ _ (λ step led. rw quote at led) leads_to)
 
 skip : (place : Place) (n : ℕ) (rest : List ℕ) → spelled_from place n rest ≡ spelled_from place 0 (drop n rest)
 skip place zero rest = refl
@@ -294,7 +222,7 @@ step byte rest later Between next brackets bytes may is on = go (is_space byte) 
   where
     go : (b : Bool) → is_space byte ≡ b → goes_on next brackets (byte ∷ rest) ≡ true
     go true space = spaced_step byte rest (later 0) Between next brackets bytes space (λ spaced. spaced) (λ not. absurd (true≢false (sym may ∙ not))) (spaced_unquoted next may) (unspaced Between Between byte rest bytes (rw space refl) is) on
-    go false space = unquoted_step Between byte rest (later 0) next brackets bytes (spaced_unquoted next may) space (λ mark. rw space (rw mark refl)) (λ mark. rw space (rw mark refl)) is on
+    go false space = unquoted_step byte rest (later 0) next brackets bytes (spaced_unquoted next may) space (rw space at is) on
 step byte rest later Gap next brackets bytes may is on = go (is_space byte) refl
   where
     go : (b : Bool) → is_space byte ≡ b → goes_on next brackets (byte ∷ rest) ≡ true
@@ -304,7 +232,7 @@ step byte rest later PlaceWord next brackets bytes may is on = go (is_space byte
   where
     go : (b : Bool) → is_space byte ≡ b → goes_on next brackets (byte ∷ rest) ≡ true
     go true space = spaced_step byte rest (later 0) Gap next brackets bytes space (λ spaced. spaced) (λ not. refl) may (unspaced PlaceWord Gap byte rest bytes (rw space refl) is) on
-    go false space = unquoted_step PlaceWord byte rest (later 0) next brackets bytes may space (λ mark. rw space (rw mark refl)) (λ mark. rw space (rw mark refl)) is on
+    go false space = unquoted_step byte rest (later 0) next brackets bytes may space (rw space at is) on
 step byte rest later Prefix next brackets bytes may is on = prefix_step byte rest (later 0) next brackets bytes may is on
 step byte rest later InHex next brackets bytes may is on = hex_step byte rest (later 0) next brackets bytes may is on
 step byte rest later InString next brackets bytes may is on = go (byte == 92) refl

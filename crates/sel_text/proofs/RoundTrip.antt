@@ -1,20 +1,15 @@
 -- What is printed is parsed again.
 use Rattle.std.proofs.Common.{◌≡◌, ℕ, ◌≤◌, ◌<◌, true, List, [], Option, Some, None, Ok, Err, ap, sym, subst, ◌∙◌, IfErr, IfOk, IsTrue, Result}
-use Rattle.sel_text.proofs.Common.{list_all, IfErr-weaker, shape_of, depth, rows, type_of, Shape, Value, Column, ArrowDataType, fits, RowsFit, spelled, IsLimitOrMemoryError, text_of, type_text, widths_written}
+use Rattle.sel_text.proofs.Common.{list_all, shape_of, depth, rows, type_of, Shape, Value, Column, ArrowDataType, fits, RowsFit, spelled, IsLimitOrMemoryError, text_of, type_text, widths_written}
 use Rattle.sel_text.specs.declared.text_error.TextError.{TextError}
 use Rattle.sel_text.specs.declared.text_error.TextError.TheVariants.{Limit}
 use Rattle.sel_text.proofs.OneType.{one_type}
-use Rattle.sel_text.proofs.Spelled.{type_spelled}
-use Rattle.sel_text.proofs.SpelledRows.{rows_spelled}
+use Rattle.sel_text.proofs.SpelledRows.{rows_spelled, type_spelled}
 use Rattle.sel_text.proofs.Told.{texts_tell}
 
 abbrev bytes_of : Option (List ℕ) → List ℕ
 bytes_of None = []
 bytes_of (Some bytes) = bytes
-
-both_ok : {T E : Type 0} (r : Result T E) (P Q R : T → Type 0) → ((x : T) → P x → Q x → R x) → IfOk r P → IfOk r Q → IfOk r R
-both_ok (Ok x) P Q R f p q = f x p q
-both_ok (Err e) P Q R f p q = tt
 
 -- ---- the type
 
@@ -22,24 +17,16 @@ both_ok (Err e) P Q R f p q = tt
 pub type_told : (s printed : Shape) (source text : List ℕ) → widths_written s ≡ true → printed ≡ s → source ≡ text → text ≡ type_text printed → spelled source ≡ Some (type_text s)
 type_told s printed source text written same is prints = ap spelled (is ∙ prints ∙ ap type_text same) ∙ type_spelled s written
 
-module _ (s : Shape) (source : List ℕ) (written : widths_written s ≡ true) (told : spelled source ≡ Some (type_text s)) (r : Result ArrowDataType TextError) where
-  pub type_again : IfOk r (λ dtype. spelled source ≡ Some (type_text (shape_of dtype))) → IfOk r (λ dtype. IsTrue (widths_written (shape_of dtype))) → IfOk r (λ dtype. shape_of dtype ≡ s)
-  type_again text widths =
-      both_ok r (λ dtype. spelled source ≡ Some (type_text (shape_of dtype))) (λ dtype. IsTrue (widths_written (shape_of dtype))) (λ dtype. shape_of dtype ≡ s)
-      (λ dtype back width. one_type (shape_of dtype) s width written (ap bytes_of (sym back ∙ told))) text widths
-
-  pub levels_again : IfOk r (λ dtype. shape_of dtype ≡ s) → IfOk r (λ dtype. depth (shape_of dtype) ≤ 64) → IfOk r (λ _. depth s ≤ 64)
-  levels_again same levels =
-      both_ok r (λ dtype. shape_of dtype ≡ s) (λ dtype. depth (shape_of dtype) ≤ 64) (λ _. depth s ≤ 64) (λ dtype is few. subst (λ t. depth t ≤ 64) is few) same levels
-
-  pub type_refused : IfErr r (λ error. (shape : Shape) → IsTrue (widths_written shape) → spelled source ≡ Some (type_text shape) → IsLimitOrMemoryError error) → IfErr r IsLimitOrMemoryError
-  type_refused refused =
-      IfErr-weaker r (λ error. (shape : Shape) → IsTrue (widths_written shape) → spelled source ≡ Some (type_text shape) → IsLimitOrMemoryError error) IsLimitOrMemoryError (λ error one. one s written told) refused
-
-  pub type_limit : IfErr r (λ error. error ≡ Limit → (shape : Shape) → IsTrue (widths_written shape) → spelled source ≡ Some (type_text shape) → 64 < depth shape) → IfErr r (λ error. error ≡ Limit → 64 < depth s)
-  type_limit limit =
-      IfErr-weaker r (λ error. error ≡ Limit → (shape : Shape) → IsTrue (widths_written shape) → spelled source ≡ Some (type_text shape) → 64 < depth shape) (λ error. error ≡ Limit → 64 < depth s)
-      (λ error one is. one is s written told) limit
+-- The type that is parsed from a text is the only one with that text.
+pub type_back : (s : Shape) (source : List ℕ) → widths_written s ≡ true → spelled source ≡ Some (type_text s) → (r : Result ArrowDataType TextError) →
+    IfOk r (λ dtype. spelled source ≡ Some (type_text (shape_of dtype))) → IfOk r (λ dtype. IsTrue (widths_written (shape_of dtype))) → IfOk r (λ dtype. depth (shape_of dtype) ≤ 64) →
+    IfErr r (λ error. (shape : Shape) → IsTrue (widths_written shape) → spelled source ≡ Some (type_text shape) → IsLimitOrMemoryError error) →
+    IfErr r (λ error. error ≡ Limit → (shape : Shape) → IsTrue (widths_written shape) → spelled source ≡ Some (type_text shape) → 64 < depth shape) →
+    IfOk r (λ dtype. shape_of dtype ≡ s) × IfOk r (λ _. depth s ≤ 64) × IfErr r IsLimitOrMemoryError × IfErr r (λ error. error ≡ Limit → 64 < depth s)
+type_back s source written told (Ok dtype) text width levels refused limit =
+    let same = one_type (shape_of dtype) s width written (ap bytes_of (sym text ∙ told)) in
+    (same, subst (λ t. depth t ≤ 64) same levels, tt, tt)
+type_back s source written told (Err error) text width levels refused limit = (tt, tt, refused s written told, λ is. limit is s written told)
 
 -- ---- the rows
 

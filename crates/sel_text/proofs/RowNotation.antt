@@ -1,10 +1,11 @@
 -- The text of rows that fit a type is in the notation of rows.
 use Rattle.std.proofs.Common.{◌≡◌, ◌<◌, ℕ, ℤ, pos, negsuc, suc, zero, ◌/◌, ◌%◌, ◌^◌, Bool, true, false, List, [], ◌∷◌, ◌++◌, length, map, get_or, refl, ap, sym, ◌∙◌, append_assoc, append-nil, arith, lit<, Some, subst}
-use Rattle.sel_text.proofs.Common.{⊤, Option, codes, nat_lt, not, ◌&&◌, ◌==◌, if◌then◌else◌, digit_char, decimal, signed_decimal, mag, flat_map, join_with_byte, list_all, IsUtf8, AllDigits, nat_tests, decimal_digit, decimal_is_IsNumeral_wide, IsUtf8-from_is_utf8, and_first, and_second, Shape, Shapes, no_shapes, next_shape, is_struct_shape, of_large_binary, of_binary_view, of_utf8_view, Value as RowValue, Null, Truth, Number, Bytes, Items, Tuple, Values, no_values, next_value, listed, all_fit, are_bytes, fields_fit, fits, fits_bytes, fits_count, after_byte, changed, closes, closing, goes_on, innermost, is_lower, is_row_notation, is_some_and, is_mark, is_space, bytes_text, escaped, hex_byte, hex_text, item_shape, item_texts, part_shapes, part_texts, quoted, text_of, value_text, is_between, Bracket, Square, Round, Child, Fields, Change, Keep, Next, Text}
+use Rattle.sel_text.proofs.Common.{bracketed, parenthesized, Option, codes, nat_lt, not, ◌&&◌, ◌==◌, if◌then◌else◌, digit_char, decimal, signed_decimal, mag, flat_map, join_with_byte, list_all, IsUtf8, AllDigits, nat_tests, decimal_digit, decimal_is_IsNumeral_wide, IsUtf8-from_is_utf8, and_first, and_second, Shape, of_large_binary, of_binary_view, of_utf8_view, Value as RowValue, are_bytes, fits, fits_bytes, after_byte, changed, closes, closing, goes_on, innermost, is_lower, is_row_notation, is_some_and, is_mark, is_space, bytes_text, escaped, hex_byte, hex_text, quoted, text_of, value_text, is_between, Bracket, Square, Round, Child, Fields, Change, Keep, Next, Text}
+use Rattle.sel_text.proofs.Commas.{after, inside, joined_inside}
 use Rattle.sel_text.proofs.Ends.{few_digits, first_digit}
 use Rattle.sel_text.proofs.StringNotation.{letters_lead}
-use Rattle.sel_text.proofs.Told.{small_number}
 use Rattle.sel_text.proofs.TypeNotation.{digit_between, step_to}
+use Rattle.sel_text.proofs.ValueTexts.{Each, rows_have}
 use Rattle.sel_text.specs.declared.notation.Next.TheVariants.{FirstValue, Value, After, Negative, Digit, HexFirst, HexSecond, Quoted}
 
 -- Before a mark, a text is a value. It begins with a byte that is no white space and closes nothing.
@@ -17,6 +18,10 @@ record Reads (text : List ℕ) : Type 0 where
   text_is : text ≡ first ∷ rest
   begins : begins_value first ≡ true
   read : (brackets : List Bracket) (mark : ℕ) (more : List ℕ) → is_mark mark ≡ true → goes_on Value brackets (text ++ (mark ∷ more)) ≡ goes_on After brackets (mark ∷ more)
+
+reads : (first : ℕ) (rest : List ℕ) → begins_value first ≡ true →
+    ((brackets : List Bracket) (mark : ℕ) (more : List ℕ) → is_mark mark ≡ true → goes_on Value brackets (first ∷ (rest ++ (mark ∷ more))) ≡ goes_on After brackets (mark ∷ more)) → Reads (first ∷ rest)
+reads first rest begins read = record { first = first; rest = rest; text_is = refl; begins = begins; read = read }
 
 -- ---- numbers
 
@@ -34,29 +39,16 @@ digits_read (c ∷ ds) brackets mark more all is =
 -- Digits without a leading zero.
 whole_reads : (ds : List ℕ) → 0 < length ds → AllDigits 10 ds → 48 < get_or ds 0 0 → Reads ds
 whole_reads [] some all lead = absurd (omega arith)
-whole_reads (c ∷ ds) some all lead = record {
-  first = c;
-  rest = ds;
-  text_is = refl;
-  begins = grind (arith, nat_tests, all.0);
-  read = λ brackets mark more is. step_to Value Digit Keep brackets c (ds ++ (mark ∷ more)) (grind (arith, nat_tests, all.0, lead)) ∙ digits_read ds brackets mark more all.1 is;
-}
+whole_reads (c ∷ ds) some all lead =
+    reads c ds (grind (arith, nat_tests, all.0)) (λ brackets mark more is. step_to Value Digit Keep brackets c (ds ++ (mark ∷ more)) (grind (arith, nat_tests, all.0, lead)) ∙ digits_read ds brackets mark more all.1 is)
 
 below_reads : (ds : List ℕ) → 0 < length ds → AllDigits 10 ds → 48 < get_or ds 0 0 → Reads (45 ∷ ds)
 below_reads [] some all lead = absurd (omega arith)
-below_reads (c ∷ ds) some all lead = record {
-  first = 45;
-  rest = c ∷ ds;
-  text_is = refl;
-  begins = refl;
-  read = λ brackets mark more is. step_to Negative Digit Keep brackets c (ds ++ (mark ∷ more)) (grind (arith, nat_tests, all.0, lead)) ∙ digits_read ds brackets mark more all.1 is;
-}
-
-zero_reads : Reads (48 ∷ [])
-zero_reads = record { first = 48; rest = []; text_is = refl; begins = refl; read = λ brackets mark more is. refl }
+below_reads (c ∷ ds) some all lead =
+    reads 45 (c ∷ ds) refl (λ brackets mark more is. step_to Negative Digit Keep brackets c (ds ++ (mark ∷ more)) (grind (arith, nat_tests, all.0, lead)) ∙ digits_read ds brackets mark more all.1 is)
 
 number_reads : (z : ℤ) → mag z < 2 ^ 128 → Reads (signed_decimal z)
-number_reads (pos zero) small = subst Reads (sym (decimal_digit 0 (lit< tt))) zero_reads
+number_reads (pos zero) small = subst Reads (sym (decimal_digit 0 (lit< tt))) (reads 48 [] refl (λ brackets mark more is. refl))
 number_reads (pos (suc n)) small =
     let few = few_digits (suc n) (omega (arith, small)) in
     let numeral = (decimal_is_IsNumeral_wide (suc n) few).0 in
@@ -69,23 +61,18 @@ number_reads (negsuc n) small =
 -- ---- words, strings and bytes in hexadecimal
 
 null_reads : Reads (codes "null")
-null_reads = record { first = 110; rest = 117 ∷ 108 ∷ 108 ∷ []; text_is = refl; begins = refl; read = λ brackets mark more is. refl }
+null_reads = reads 110 (117 ∷ 108 ∷ 108 ∷ []) refl (λ brackets mark more is. refl)
 
 truth_reads : (t : Bool) → Reads (if t then codes "true" else codes "false")
-truth_reads true = record { first = 116; rest = 114 ∷ 117 ∷ 101 ∷ []; text_is = refl; begins = refl; read = λ brackets mark more is. refl }
-truth_reads false = record { first = 102; rest = 97 ∷ 108 ∷ 115 ∷ 101 ∷ []; text_is = refl; begins = refl; read = λ brackets mark more is. refl }
+truth_reads true = reads 116 (114 ∷ 117 ∷ 101 ∷ []) refl (λ brackets mark more is. refl)
+truth_reads false = reads 102 (97 ∷ 108 ∷ 115 ∷ 101 ∷ []) refl (λ brackets mark more is. refl)
 
 quoted_reads : (bytes : List ℕ) → IsUtf8 bytes → Reads (quoted bytes)
-quoted_reads bytes u = record {
-  first = 34;
-  rest = flat_map escaped bytes ++ 34 ∷ [];
-  text_is = refl;
-  begins = refl;
-  read = λ brackets mark more is.
-      ap (goes_on (Quoted Text) brackets) (append_assoc (flat_map escaped bytes) (34 ∷ []) (mark ∷ more))
-      ∙ ap (λ text. goes_on (Quoted Text) brackets (flat_map escaped text ++ (34 ∷ mark ∷ more))) (sym u.1.1)
-      ∙ letters_lead u.0 u.1.0 brackets (34 ∷ mark ∷ more);
-}
+quoted_reads bytes u =
+    reads 34 (flat_map escaped bytes ++ 34 ∷ []) refl (λ brackets mark more is.
+    ap (goes_on (Quoted Text) brackets) (append_assoc (flat_map escaped bytes) (34 ∷ []) (mark ∷ more))
+    ∙ ap (λ text. goes_on (Quoted Text) brackets (flat_map escaped text ++ (34 ∷ mark ∷ more))) (sym u.1.1)
+    ∙ letters_lead u.0 u.1.0 brackets (34 ∷ mark ∷ more))
 
 lower_digit : (d : ℕ) → d < 16 → is_lower (digit_char d) ≡ true
 lower_digit d small = grind (arith, nat_tests, small)
@@ -102,14 +89,9 @@ hex_read (b ∷ bytes) brackets more all =
     ∙ hex_read bytes brackets more (and_second (nat_lt b 256) (are_bytes bytes) all)
 
 hex_reads : (bytes : List ℕ) → are_bytes bytes ≡ true → Reads (hex_text bytes)
-hex_reads bytes all = record {
-  first = 104;
-  rest = 34 ∷ flat_map hex_byte bytes ++ 34 ∷ [];
-  text_is = refl;
-  begins = refl;
-  read = λ brackets mark more is.
-      ap (goes_on HexFirst brackets) (append_assoc (flat_map hex_byte bytes) (34 ∷ []) (mark ∷ more)) ∙ hex_read bytes brackets (mark ∷ more) all;
-}
+hex_reads bytes all =
+    reads 104 (34 ∷ flat_map hex_byte bytes ++ 34 ∷ []) refl (λ brackets mark more is.
+    ap (goes_on HexFirst brackets) (append_assoc (flat_map hex_byte bytes) (34 ∷ []) (mark ∷ more)) ∙ hex_read bytes brackets (mark ∷ more) all)
 
 bytes_read : (s : Shape) (bytes : List ℕ) → fits_bytes s bytes ≡ true → Reads (bytes_text s bytes)
 bytes_read of_large_binary bytes fit = hex_reads bytes fit
@@ -118,20 +100,6 @@ bytes_read of_utf8_view bytes fit = quoted_reads bytes (IsUtf8-from_is_utf8 byte
 bytes_read s bytes fit = absurd cc
 
 -- ---- values in brackets
-
--- This is so for each of several texts.
-abbrev EachReads : List (List ℕ) → Type 0
-EachReads [] = ⊤
-EachReads (text ∷ texts) = Reads text × EachReads texts
-
--- Each text after a comma.
-abbrev pub after_commas : List (List ℕ) → List ℕ
-after_commas [] = []
-after_commas (text ∷ texts) = 44 ∷ text ++ after_commas texts
-
-joined : (text : List ℕ) (texts : List (List ℕ)) → join_with_byte 44 (text ∷ texts) ≡ text ++ after_commas texts
-joined text [] = sym (append-nil text)
-joined text (next ∷ texts) = ap (λ more. text ++ (44 ∷ more)) (joined next texts)
 
 -- Brackets of values.
 abbrev pub holds_values : Bracket → Bool
@@ -153,23 +121,21 @@ closing_mark Square = refl
 closing_mark bracket = refl
 
 -- What follows a value begins with a mark.
-marked : (texts : List (List ℕ)) (bracket : Bracket) (more : List ℕ) → (mark : ℕ) × (rest : List ℕ) × (after_commas texts ++ (closing bracket ∷ more) ≡ mark ∷ rest) × (is_mark mark ≡ true)
+marked : (texts : List (List ℕ)) (bracket : Bracket) (more : List ℕ) → (mark : ℕ) × (rest : List ℕ) × (after (closing bracket) texts more ≡ mark ∷ rest) × (is_mark mark ≡ true)
 marked [] bracket more = (closing bracket, more, refl, closing_mark bracket)
-marked (text ∷ texts) bracket more = (44, (text ++ after_commas texts) ++ (closing bracket ∷ more), refl, refl)
+marked (text ∷ texts) bracket more = (44, text ++ after (closing bracket) texts more, refl, refl)
 
 read_before : (text : List ℕ) → Reads text → (brackets : List Bracket) (texts : List (List ℕ)) (bracket : Bracket) (more : List ℕ) →
-    goes_on Value brackets (text ++ (after_commas texts ++ (closing bracket ∷ more))) ≡ goes_on After brackets (after_commas texts ++ (closing bracket ∷ more))
+    goes_on Value brackets (text ++ after (closing bracket) texts more) ≡ goes_on After brackets (after (closing bracket) texts more)
 read_before text reads brackets texts bracket more =
     let m = marked texts bracket more in
     ap (λ behind. goes_on Value brackets (text ++ behind)) m.2 ∙ reads.read brackets m.0 m.1 m.3 ∙ ap (goes_on After brackets) (sym m.2)
 
-commas_read : (texts : List (List ℕ)) → EachReads texts → (bracket : Bracket) (brackets : List Bracket) (more : List ℕ) → holds_values bracket ≡ true →
-    goes_on After (bracket ∷ brackets) (after_commas texts ++ (closing bracket ∷ more)) ≡ goes_on After brackets more
+commas_read : (texts : List (List ℕ)) → Each Reads texts → (bracket : Bracket) (brackets : List Bracket) (more : List ℕ) → holds_values bracket ≡ true →
+    goes_on After (bracket ∷ brackets) (after (closing bracket) texts more) ≡ goes_on After brackets more
 commas_read [] each bracket brackets more holds = closed bracket brackets more
 commas_read (text ∷ texts) each bracket brackets more holds =
-    comma bracket brackets ((text ++ after_commas texts) ++ (closing bracket ∷ more)) holds
-    ∙ ap (goes_on Value (bracket ∷ brackets)) (append_assoc text (after_commas texts) (closing bracket ∷ more))
-    ∙ read_before text each.0 (bracket ∷ brackets) texts bracket more ∙ commas_read texts each.1 bracket brackets more holds
+    comma bracket brackets (text ++ after (closing bracket) texts more) holds ∙ read_before text each.0 (bracket ∷ brackets) texts bracket more ∙ commas_read texts each.1 bracket brackets more holds
 
 -- The first value after an opening bracket.
 closes_none : (bracket : Bracket) (c : ℕ) → begins_value c ≡ true → closes (Some bracket) c ≡ false
@@ -187,55 +153,29 @@ first_read text reads bracket brackets more =
     ∙ ap (is_some_and (λ (step : Next × Change). goes_on step.0 (changed step.1 (bracket ∷ brackets)) (reads.rest ++ more))) (first_step bracket reads.first reads.begins)
     ∙ ap (λ t. goes_on Value (bracket ∷ brackets) (t ++ more)) (sym reads.text_is)
 
-all_read : (texts : List (List ℕ)) → EachReads texts → (bracket : Bracket) (brackets : List Bracket) (more : List ℕ) → holds_values bracket ≡ true →
-    goes_on FirstValue (bracket ∷ brackets) (join_with_byte 44 texts ++ (closing bracket ∷ more)) ≡ goes_on After brackets more
-all_read [] each bracket brackets more holds = none bracket holds
-  where
-    none : (bracket : Bracket) → holds_values bracket ≡ true → goes_on FirstValue (bracket ∷ brackets) (closing bracket ∷ more) ≡ goes_on After brackets more
-    none Square holds = refl
-    none bracket holds = cc
+all_read : (texts : List (List ℕ)) → Each Reads texts → (bracket : Bracket) (brackets : List Bracket) (more : List ℕ) → holds_values bracket ≡ true →
+    goes_on FirstValue (bracket ∷ brackets) (inside (closing bracket) texts more) ≡ goes_on After brackets more
+all_read [] each Square brackets more holds = refl
+all_read [] each bracket brackets more holds = cc
 all_read (text ∷ texts) each bracket brackets more holds =
-    ap (λ t. goes_on FirstValue (bracket ∷ brackets) (t ++ (closing bracket ∷ more))) (joined text texts)
-    ∙ ap (goes_on FirstValue (bracket ∷ brackets)) (append_assoc text (after_commas texts) (closing bracket ∷ more))
-    ∙ first_read text each.0 bracket brackets (after_commas texts ++ (closing bracket ∷ more))
-    ∙ read_before text each.0 (bracket ∷ brackets) texts bracket more ∙ commas_read texts each.1 bracket brackets more holds
+    first_read text each.0 bracket brackets (after (closing bracket) texts more) ∙ read_before text each.0 (bracket ∷ brackets) texts bracket more ∙ commas_read texts each.1 bracket brackets more holds
 
 bracketed_reads : (opening : ℕ) (bracket : Bracket) (texts : List (List ℕ)) → begins_value opening ≡ true → holds_values bracket ≡ true →
-    ((brackets : List Bracket) (more : List ℕ) → goes_on Value brackets (opening ∷ more) ≡ goes_on FirstValue (bracket ∷ brackets) more) → EachReads texts → Reads (opening ∷ join_with_byte 44 texts ++ closing bracket ∷ [])
-bracketed_reads opening bracket texts begins holds opens each = record {
-  first = opening;
-  rest = join_with_byte 44 texts ++ closing bracket ∷ [];
-  text_is = refl;
-  begins = begins;
-  read = λ brackets mark more is.
-      opens brackets ((join_with_byte 44 texts ++ closing bracket ∷ []) ++ (mark ∷ more))
-      ∙ ap (goes_on FirstValue (bracket ∷ brackets)) (append_assoc (join_with_byte 44 texts) (closing bracket ∷ []) (mark ∷ more)) ∙ all_read texts each bracket brackets (mark ∷ more) holds;
-}
+    ((brackets : List Bracket) (more : List ℕ) → goes_on Value brackets (opening ∷ more) ≡ goes_on FirstValue (bracket ∷ brackets) more) → Each Reads texts → Reads (opening ∷ join_with_byte 44 texts ++ closing bracket ∷ [])
+bracketed_reads opening bracket texts begins holds opens each =
+    reads opening (join_with_byte 44 texts ++ closing bracket ∷ []) begins (λ brackets mark more is.
+    opens brackets ((join_with_byte 44 texts ++ closing bracket ∷ []) ++ (mark ∷ more))
+    ∙ ap (goes_on FirstValue (bracket ∷ brackets)) (joined_inside (closing bracket) texts (mark ∷ more)) ∙ all_read texts each bracket brackets (mark ∷ more) holds)
 
--- ---- values
+list_reads : (texts : List (List ℕ)) → Each Reads texts → Reads (bracketed texts)
+list_reads texts each = bracketed_reads 91 Square texts refl refl (λ brackets more. refl) each
 
-mutual
-  value_reads : (v : RowValue) (s : Shape) → fits s v ≡ true → Reads (value_text s v)
-  value_reads Null s fit = null_reads
-  value_reads (Truth t) s fit = truth_reads t
-  value_reads (Number z) s fit = number_reads z (small_number s z fit)
-  value_reads (Bytes bytes) s fit = bytes_read s bytes fit
-  value_reads (Items vs) s fit = bracketed_reads 91 Square (item_texts (item_shape s) vs) refl refl (λ brackets more. refl) (items_read vs (item_shape s) (and_second (fits_count s (length (listed vs))) (all_fit (item_shape s) vs) fit))
-  value_reads (Tuple vs) s fit = bracketed_reads 40 Round (part_texts (part_shapes s) vs) refl refl (λ brackets more. refl) (parts_read vs (part_shapes s) (and_second (is_struct_shape s) (fields_fit (part_shapes s) vs) fit))
-
-  items_read : (vs : Values) (s : Shape) → all_fit s vs ≡ true → EachReads (item_texts s vs)
-  items_read no_values s fit = tt
-  items_read (next_value v vs) s fit = (value_reads v s (and_first (fits s v) (all_fit s vs) fit), items_read vs s (and_second (fits s v) (all_fit s vs) fit))
-
-  parts_read : (vs : Values) (ss : Shapes) → fields_fit ss vs ≡ true → EachReads (part_texts ss vs)
-  parts_read no_values ss fit = tt
-  parts_read (next_value v vs) no_shapes fit = tt
-  parts_read (next_value v vs) (next_shape s ss) fit = (value_reads v s (and_first (fits s v) (fields_fit ss vs) fit), parts_read vs ss (and_second (fits s v) (fields_fit ss vs) fit))
-
-rows_read : (s : Shape) (vs : List RowValue) → list_all (fits s) vs ≡ true → EachReads (map (value_text s) vs)
-rows_read s [] fit = tt
-rows_read s (v ∷ vs) fit = (value_reads v s (and_first (fits s v) (list_all (fits s) vs) fit), rows_read s vs (and_second (fits s v) (list_all (fits s) vs) fit))
+tuple_reads : (texts : List (List ℕ)) → Each Reads texts → Reads (parenthesized texts)
+tuple_reads texts each = bracketed_reads 40 Round texts refl refl (λ brackets more. refl) each
 
 -- The text of rows is in the notation.
 pub rows_in_notation : (s : Shape) (vs : List RowValue) → list_all (fits s) vs ≡ true → is_row_notation (text_of s vs) ≡ true
-rows_in_notation s vs fit = all_read (map (value_text s) vs) (rows_read s vs fit) Square [] [] refl
+rows_in_notation s vs fit =
+    let texts = map (value_text s) vs in
+    ap (goes_on FirstValue (Square ∷ [])) (sym (append-nil (join_with_byte 44 texts ++ 93 ∷ [])) ∙ joined_inside 93 texts [])
+    ∙ all_read texts (rows_have Reads null_reads truth_reads number_reads bytes_read list_reads tuple_reads s vs fit) Square [] [] refl

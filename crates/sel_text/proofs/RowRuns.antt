@@ -1,6 +1,9 @@
 -- Rows that are repeated, and the rows that an iterator over them has left.
-use Rattle.std.proofs.Common.{◌≡◌, Bor, ℕ, zero, suc, ◌+◌, ◌-◌, ◌*◌, ◌<◌, ◌≤◌, List, [], ◌∷◌, ◌++◌, length, map, take, drop, get_or, replicate, refl, ap, sym, ◌∙◌, arith, append_assoc}
-use Rattle.sel_text.proofs.Common.{flat_map, slice_range, append-nil, replicate-append-replicate, length-map, map-append, take_all, take_more, Value, Null, block_in, item_value, rows_read, all_items, repeated, rows_repeated, Item}
+use Rattle.std.proofs.Common.{◌≡◌, Bor, ℕ, zero, suc, ◌+◌, ◌-◌, ◌*◌, ◌<◌, ◌≤◌, List, [], ◌∷◌, ◌++◌, length, map, take, drop, get_or, replicate, refl, ap, sym, ◌∙◌, arith, append_assoc, length-append, length-drop}
+use Rattle.sel_text.proofs.Common.{flat_map, slice_range, append-nil, drop_more, length-replicate, replicate-append-replicate, length-map, map-append, take_all, take_more, Value, Null, block_in, item_value, rows_read, all_items, repeated, rows_repeated, Item}
+use Rattle.std.proofs.Math.ListN.{get_or-append}
+use Rattle.std.proofs.Math.Seq.{drop-append-add}
+use Rattle.std.proofs.lemmas.List.{get_or-replicate}
 use Rattle.std.proofs.lemmas.List.Concat.{flat_map-append}
 use Rattle.sel_text.specs.declared.row_runs.RowRun.{RowRun}
 
@@ -17,18 +20,14 @@ rows_with runs run =
     ap rows_read (flat_map-append (λ (r : RowRun). replicate r.times r.item) runs (run ∷ []) ∙ ap (λ l. all_items runs ++ l) (append-nil (replicate run.times run.item)))
     ∙ map-append value (all_items runs) (replicate run.times run.item) ∙ ap (λ l. rows_repeated runs ++ l) (map_same value run.times run.item)
 
-pub rows_more : (runs : List RowRun) (i : ℕ) (run : RowRun) → i < length runs → run ≡ get_or runs i run → rows_repeated (take (i + 1) runs) ≡ rows_repeated (take i runs) ++ replicate run.times (item_value run.item.now)
-rows_more runs i run inside is = ap rows_repeated (take_more runs i run inside ∙ ap (λ r. take i runs ++ r ∷ []) (sym is)) ∙ rows_with (take i runs) run
+pub rows_more : (runs : List RowRun) (i : ℕ) (run : RowRun) → i < length runs → run ≡ get_or runs i run →
+    (get_or runs i run ≡ get_or runs i run) × (rows_repeated (take (i + 1) runs) ≡ rows_repeated (take i runs) ++ replicate run.times (item_value run.item.now))
+rows_more runs i run inside is = (refl, ap rows_repeated (take_more runs i run inside ∙ ap (λ r. take i runs ++ r ∷ []) (sym is)) ∙ rows_with (take i runs) run)
 
 pub count_rows : (runs : List RowRun) → length (rows_repeated runs) ≡ length (all_items runs)
 count_rows runs = length-map (all_items runs) (λ (item : Bor Item). item_value item.now)
 
 -- ---- the rows that are left
-
-none_left : {A : Type 0} (xs : List A) (k : ℕ) → xs ≡ [] → drop k xs ≡ []
-none_left [] zero is = refl
-none_left [] (suc k) is = refl
-none_left (x ∷ xs) k is = cc
 
 -- The next of the entries that are left, from entry k on.
 pub record IsNext {A : Type 0} (xs : List A) (k : ℕ) (x : A) (rest : List A) : Type 0 where
@@ -37,27 +36,21 @@ pub record IsNext {A : Type 0} (xs : List A) (k : ℕ) (x : A) (rest : List A) :
   pub others : rest ≡ drop (k + 1) xs
 
 pub next_of : {A : Type 0} (xs : List A) (k : ℕ) (x : A) (rest : List A) → drop k xs ≡ x ∷ rest → IsNext xs k x rest
-next_of [] k x rest e = absurd (let none = sym (none_left [] k refl) ∙ e in cc)
-next_of (y ∷ ys) zero x rest e = record { inside = omega arith; is = cc; others = cc }
-next_of (y ∷ ys) (suc k) x rest e =
-    let below = next_of ys k x rest e in
-    let inside = below.inside in
-    let step : suc (k + 1) ≡ suc k + 1 = omega arith in
-    record { inside = omega (arith, inside); is = below.is; others = below.others ∙ ap (λ n. drop n (y ∷ ys)) step }
+next_of xs k x rest e =
+    let inside : k < length xs = omega (arith, length-drop k xs, ap length e) in
+    let split = sym (drop_more xs k x inside) ∙ e in
+    record { inside = inside; is = cc; others = cc }
 
 past_run : {A : Type 0} (t used : ℕ) (x : A) (xs : List A) → t ≤ used → drop used (replicate t x ++ xs) ≡ drop (used - t) xs
-past_run zero used x xs few = ap (λ n. drop n xs) (let n : used ≡ used - 0 = omega arith in n)
-past_run (suc t) zero x xs few = absurd (omega (arith, few))
-past_run (suc t) (suc used) x xs few =
-    let n : used - t ≡ suc used - suc t = omega (arith, few) in
-    past_run t used x xs (omega (arith, few)) ∙ ap (λ m. drop m xs) n
+past_run t used x xs few =
+    let count : used ≡ length (replicate t x) + (used - t) = omega (arith, length-replicate t x) in
+    ap (λ n. drop n (replicate t x ++ xs)) count ∙ drop-append-add (replicate t x) xs (used - t)
 
 in_run : {A : Type 0} (t used : ℕ) (x : A) (xs : List A) → used < t → drop used (replicate t x ++ xs) ≡ x ∷ drop (used + 1) (replicate t x ++ xs)
-in_run zero used x xs more = absurd (omega (arith, more))
-in_run (suc t) zero x xs more = refl
-in_run (suc t) (suc used) x xs more =
-    let step : suc (used + 1) ≡ suc used + 1 = omega arith in
-    in_run t used x xs (omega (arith, more)) ∙ ap (λ n. x ∷ drop n (x ∷ (replicate t x ++ xs))) step
+in_run t used x xs more =
+    let some : used < length (replicate t x) = rw length-replicate more in
+    let inside : used < length (replicate t x ++ xs) = omega (arith, some, length-append (replicate t x) xs) in
+    drop_more (replicate t x ++ xs) used x inside ∙ ap (λ y. y ∷ drop (used + 1) (replicate t x ++ xs)) (get_or-append (replicate t x) xs x used some ∙ get_or-replicate t used x x more)
 
 -- After a run that is used up.
 pub left_past : (runs : List RowRun) (d e : RowRun) (used : ℕ) → 0 < length runs → (get_or runs 0 d).times ≤ used →
@@ -74,7 +67,7 @@ left_in [] d e used some more = absurd (omega (arith, some))
 left_in (r ∷ runs) d e used some more = in_run r.times used r.item (all_items runs) more
 
 pub some_runs : (runs : List RowRun) (used : ℕ) → 0 < length (drop used (all_items runs)) → 0 < length runs
-some_runs [] used some = absurd (let none = ap length (none_left (all_items []) used refl) in omega (arith, some, none))
+some_runs [] used some = absurd (omega (arith, some, length-drop used (all_items [])))
 some_runs (r ∷ runs) used some = omega arith
 
 -- ---- repeated rows of fixed-size lists
@@ -87,12 +80,12 @@ pub joined_same : {A B : Type 0} (f : A → List B) (n : ℕ) (x : A) → flat_m
 joined_same f zero x = refl
 joined_same f (suc n) x = ap (λ l. f x ++ l) (joined_same f n x) ∙ sym (repeated_front n (f x))
 
-replicate_more : {A : Type 0} (m n : ℕ) (x : A) → replicate (m + n) x ≡ replicate m x ++ replicate n x
-replicate_more m n x = sym (replicate-append-replicate m n x)
-
 -- The entries of null rows are nulls.
 pub null_blocks : (size times : ℕ) (v : Value) → block_in size v ≡ replicate size Null → flat_map (block_in size) (replicate times v) ≡ replicate (times * size) Null
 null_blocks size zero v is = ap (λ n. replicate n Null) (let n : 0 ≡ 0 * size = omega arith in n)
 null_blocks size (suc times) v is =
     let count : size + times * size ≡ suc times * size = omega arith in
-    ap (λ l. l ++ flat_map (block_in size) (replicate times v)) is ∙ ap (λ l. replicate size Null ++ l) (null_blocks size times v is) ∙ sym (replicate_more size (times * size) Null) ∙ ap (λ n. replicate n Null) count
+    ap (λ l. l ++ flat_map (block_in size) (replicate times v)) is ∙ ap (λ l. replicate size Null ++ l) (null_blocks size times v is) ∙ replicate-append-replicate size (times * size) Null ∙ ap (λ n. replicate n Null) count
+
+-- How the rows of runs grow.
+pub ruleset runs_more = (rows_with, rows_more, map_same, map-append, flat_map-append, joined_same, null_blocks)

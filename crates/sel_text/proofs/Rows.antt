@@ -1,6 +1,6 @@
 -- Rows that are not null, by their type.
-use Rattle.std.proofs.Common.{◌≡◌, ◌≢◌, ℕ, ℤ, Bool, true, false, true≢false, List, ◌++◌, [], length, drop, append-nil, refl, ap, sym, ◌∙◌, codes}
-use Rattle.sel_text.proofs.Common.{signed_decimal, Shape, Shapes, of_large_list, of_fixed_size_list, of_struct, is_struct_shape, Value, Null, Truth, Number, Bytes, Items, Tuple, Values, listed, values_of, and_first, and_second, NoDigit, all_fit, fields_fit, fits_bytes, fits_count, fits_number, is_boolean_shape, bracketed, bytes_text, item_shape, item_texts, parenthesized, part_shapes, part_texts, text_of, bool_text}
+use Rattle.std.proofs.Common.{◌≡◌, ◌≢◌, ℕ, true, List, ◌++◌, [], length, drop, append-nil, refl, ap, sym, subst, ◌∙◌, codes}
+use Rattle.sel_text.proofs.Common.{false≢true, Shape, Shapes, of_large_list, of_fixed_size_list, of_struct, Value, Null, Items, Tuple, Values, listed, values_of, and_first, and_second, all_fit, fields_fit, fits_count, bracketed, item_texts, parenthesized, part_texts, text_of}
 use Rattle.sel_text.specs.Readings.{BeginsWith}
 use Rattle.sel_text.proofs.Printed.{listed_texts}
 use Rattle.sel_text.proofs.Told.{unlike}
@@ -13,39 +13,31 @@ Reads R s text = (v : Value) (more : List ℕ) → BeginsWith s v text more → 
 abbrev pub NotNull : List ℕ → Type 0
 NotNull text = (rest : List ℕ) → text ≢ codes "null" ++ rest
 
--- What has to be shown, for each kind of value.
-module _ (R : Value → List ℕ → Type 0) (s : Shape) (text : List ℕ) (filled : NotNull text)
-    (truths : (b : Bool) (more : List ℕ) → is_boolean_shape s ≡ true → text ≡ bool_text b ++ more → R (Truth b) more)
-    (numbers : (z : ℤ) (more : List ℕ) → fits_number s z ≡ true → NoDigit more → text ≡ signed_decimal z ++ more → R (Number z) more)
-    (bytes : (bs more : List ℕ) → fits_bytes s bs ≡ true → text ≡ bytes_text s bs ++ more → R (Bytes bs) more)
-    (lists : (vs : Values) (more : List ℕ) → fits_count s (length (listed vs)) ≡ true → all_fit (item_shape s) vs ≡ true → text ≡ bracketed (item_texts (item_shape s) vs) ++ more → R (Items vs) more)
-    (tuples : (vs : Values) (more : List ℕ) → is_struct_shape s ≡ true → fields_fit (part_shapes s) vs ≡ true → text ≡ parenthesized (part_texts (part_shapes s) vs) ++ more → R (Tuple vs) more) where
-  pub row_read : Reads R s text
-  row_read Null more begins = absurd (filled more begins.whole)
-  row_read (Truth b) more begins = truths b more begins.fit begins.whole
-  row_read (Number z) more begins = numbers z more begins.fit begins.end begins.whole
-  row_read (Bytes bs) more begins = bytes bs more begins.fit begins.whole
-  row_read (Items vs) more begins =
-      lists vs more (and_first (fits_count s (length (listed vs))) (all_fit (item_shape s) vs) begins.fit) (and_second (fits_count s (length (listed vs))) (all_fit (item_shape s) vs) begins.fit) begins.whole
-  row_read (Tuple vs) more begins =
-      tuples vs more (and_first (is_struct_shape s) (fields_fit (part_shapes s) vs) begins.fit) (and_second (is_struct_shape s) (fields_fit (part_shapes s) vs) begins.fit) begins.whole
+module _ (R : Value → List ℕ → Type 0) (text : List ℕ) (filled : NotNull text) (t : Shape) where
+  pub list_row : (s : Shape) → of_large_list s ≡ t → ((vs : Values) (more : List ℕ) → all_fit s vs ≡ true → text ≡ bracketed (item_texts s vs) ++ more → R (Items vs) more) → Reads R t text
+  list_row s same read = subst (λ t. Reads R t text) same row
+    where
+      row : Reads R (of_large_list s) text
+      row Null more begins = absurd (filled more begins.whole)
+      row (Items vs) more begins = read vs more begins.fit begins.whole
+      row v more begins = absurd (false≢true begins.fit)
 
-never : {A : Type 0} → false ≡ true → A
-never is = absurd (true≢false (sym is))
+  pub block_row : (s : Shape) (size : ℕ) → of_fixed_size_list s size ≡ t →
+      ((vs : Values) (more : List ℕ) → fits_count (of_fixed_size_list s size) (length (listed vs)) ≡ true → all_fit s vs ≡ true → text ≡ bracketed (item_texts s vs) ++ more → R (Items vs) more) → Reads R t text
+  block_row s size same read = subst (λ t. Reads R t text) same row
+    where
+      row : Reads R (of_fixed_size_list s size) text
+      row Null more begins = absurd (filled more begins.whole)
+      row (Items vs) more begins = read vs more (and_first _ _ begins.fit) (and_second _ _ begins.fit) begins.whole
+      row v more begins = absurd (false≢true begins.fit)
 
-module _ (R : Value → List ℕ → Type 0) (text : List ℕ) (filled : NotNull text) where
-  pub list_row : (s : Shape) → ((vs : Values) (more : List ℕ) → all_fit s vs ≡ true → text ≡ bracketed (item_texts s vs) ++ more → R (Items vs) more) → Reads R (of_large_list s) text
-  list_row s read =
-      row_read R (of_large_list s) text filled (λ b more is whole. never is) (λ z more is end whole. never is) (λ bs more is whole. never is) (λ vs more is fit whole. read vs more fit whole) (λ vs more is fit whole. never is)
-
-  pub block_row : (s : Shape) (size : ℕ) → ((vs : Values) (more : List ℕ) → fits_count (of_fixed_size_list s size) (length (listed vs)) ≡ true → all_fit s vs ≡ true → text ≡ bracketed (item_texts s vs) ++ more → R (Items vs) more) →
-      Reads R (of_fixed_size_list s size) text
-  block_row s size read =
-      row_read R (of_fixed_size_list s size) text filled (λ b more is whole. never is) (λ z more is end whole. never is) (λ bs more is whole. never is) (λ vs more is fit whole. read vs more is fit whole) (λ vs more is fit whole. never is)
-
-  pub tuple_row : (ss : Shapes) → ((vs : Values) (more : List ℕ) → fields_fit ss vs ≡ true → text ≡ parenthesized (part_texts ss vs) ++ more → R (Tuple vs) more) → Reads R (of_struct ss) text
-  tuple_row ss read =
-      row_read R (of_struct ss) text filled (λ b more is whole. never is) (λ z more is end whole. never is) (λ bs more is whole. never is) (λ vs more is fit whole. never is) (λ vs more is fit whole. read vs more fit whole)
+  pub tuple_row : (ss : Shapes) → of_struct ss ≡ t → ((vs : Values) (more : List ℕ) → fields_fit ss vs ≡ true → text ≡ parenthesized (part_texts ss vs) ++ more → R (Tuple vs) more) → Reads R t text
+  tuple_row ss same read = subst (λ t. Reads R t text) same row
+    where
+      row : Reads R (of_struct ss) text
+      row Null more begins = absurd (filled more begins.whole)
+      row (Tuple vs) more begins = read vs more begins.fit begins.whole
+      row v more begins = absurd (false≢true begins.fit)
 
 -- A text that begins with `null` begins with no other value.
 pub null_read : (s : Shape) (v : Value) (text rest more : List ℕ) → text ≡ codes "null" ++ rest → BeginsWith s v text more → (Null ≡ v) × (rest ≡ more)

@@ -1,7 +1,8 @@
 -- Values that equal rows except in null slots.
-use Rattle.std.proofs.Common.{◌≡◌, ℕ, zero, suc, ℤ, ◌+◌, ◌<◌, Bool, true, false, true≢false, List, [], ◌∷◌, ◌++◌, length, map, take, get_or, refl, ap, sym, ◌∙◌, subst, arith, if◌then◌else◌}
+use Rattle.std.proofs.Common.{◌≡◌, ℕ, ◌+◌, ◌<◌, Bool, true, List, [], ◌∷◌, ◌++◌, length, map, take, get_or, refl, ap, sym, ◌∙◌, subst, arith, if◌then◌else◌}
 use Rattle.std.specs.Borrow.{Bor}
-use Rattle.sel_text.proofs.Common.{list_all, length-map, map-append, map_more, take_more, hidden, Shape, of_boolean, of_large_binary, of_binary_view, of_utf8_view, is_struct_shape, Value, Null, Truth, Number, Bytes, Items, Tuple, is_valid, listed, and_first, and_second, fits, fits_count, fits_number, is_boolean_shape, all_fit, fields_fit, item_value, rows_read, ShowsRows, is_view_shape, bytes_stored, bool_stored, item_shape, part_shapes, NullSlots, Item}
+use Rattle.std.proofs.lemmas.Simd.{map-map}
+use Rattle.sel_text.proofs.Common.{false≢true, all_at, list_all-map, list_all, length-map, map-append, map_more, take_more, hidden, Shape, of_boolean, of_large_binary, of_binary_view, of_utf8_view, Value, Null, Truth, Bytes, is_valid, and_first, and_second, fits, item_value, rows_read, ShowsRows, is_view_shape, bytes_stored, bool_stored, NullSlots, Item}
 
 -- The first row is shown, and so are the others.
 each_shown : (row : Value) (rows : List Value) (v : Value) (vs : List Value) → ShowsRows (row ∷ rows) (v ∷ vs) → ((if is_valid row then v else Null) ≡ row) × ShowsRows rows vs
@@ -17,39 +18,36 @@ never_none : (row : Value) (rows : List Value) → ShowsRows (row ∷ rows) [] �
 never_none Null rows s = s
 never_none row rows s = s
 
--- Under the validity of the rows, the values are the rows.
-hidden_shown : (rows plain : List Value) → ShowsRows rows plain → hidden (map is_valid rows) plain ≡ rows
-hidden_shown [] [] s = refl
-hidden_shown [] (v ∷ vs) s = absurd s
-hidden_shown (row ∷ rows) [] s = absurd (never_none row rows s)
-hidden_shown (row ∷ rows) (v ∷ vs) s =
-    let both = each_shown row rows v vs s in
-    ap (λ x. x ∷ hidden (map is_valid rows) vs) both.0 ∙ ap (λ l. row ∷ l) (hidden_shown rows vs both.1)
-
--- Without a validity they are the rows if no row is null.
-shown_all : (rows plain : List Value) → list_all (λ b. b) (map is_valid rows) ≡ true → ShowsRows rows plain → plain ≡ rows
-shown_all [] [] all s = refl
-shown_all [] (v ∷ vs) all s = absurd s
-shown_all (row ∷ rows) [] all s = absurd (never_none row rows s)
-shown_all (row ∷ rows) (v ∷ vs) all s =
-    let both = each_shown row rows v vs s in
-    let valid = and_first (is_valid row) (list_all (λ b. b) (map is_valid rows)) all in
-    let first : v ≡ row = ap (λ b. if b then v else Null) (sym valid) ∙ both.0 in
-    ap (λ x. x ∷ vs) first ∙ ap (λ l. row ∷ l) (shown_all rows vs (and_second (is_valid row) (list_all (λ b. b) (map is_valid rows)) all) both.1)
-
 shown_length : (rows plain : List Value) → ShowsRows rows plain → length plain ≡ length rows
 shown_length [] [] s = refl
 shown_length [] (v ∷ vs) s = absurd s
 shown_length (row ∷ rows) [] s = absurd (never_none row rows s)
 shown_length (row ∷ rows) (v ∷ vs) s = let rest = shown_length rows vs (each_shown row rows v vs s).1 in omega (arith, rest)
 
+-- Under the validity of the rows, the values are the rows.
+hidden_shown : (rows plain : List Value) → ShowsRows rows plain → hidden (map is_valid rows) plain ≡ rows
+hidden_shown [] [] s = refl
+hidden_shown (row ∷ rows) (v ∷ vs) s =
+    let both = each_shown row rows v vs s in
+    ap (λ x. x ∷ hidden (map is_valid rows) vs) both.0 ∙ ap (λ l. row ∷ l) (hidden_shown rows vs both.1)
+hidden_shown rows plain s = absurd (omega (arith, shown_length rows plain s))
+
+-- Without a validity they are the rows if no row is null.
+shown_all : (rows plain : List Value) → list_all (λ b. b) (map is_valid rows) ≡ true → ShowsRows rows plain → plain ≡ rows
+shown_all [] [] all s = refl
+shown_all (row ∷ rows) (v ∷ vs) all s =
+    let both = each_shown row rows v vs s in
+    let valid = and_first (is_valid row) (list_all (λ b. b) (map is_valid rows)) all in
+    let first : v ≡ row = ap (λ b. if b then v else Null) (sym valid) ∙ both.0 in
+    ap (λ x. x ∷ vs) first ∙ ap (λ l. row ∷ l) (shown_all rows vs (and_second (is_valid row) (list_all (λ b. b) (map is_valid rows)) all) both.1)
+shown_all rows plain all s = absurd (omega (arith, shown_length rows plain s))
+
 shown_append : (rows plain others more : List Value) → ShowsRows rows plain → ShowsRows others more → ShowsRows (rows ++ others) (plain ++ more)
 shown_append [] [] others more s t = t
-shown_append [] (v ∷ vs) others more s t = absurd s
-shown_append (row ∷ rows) [] others more s t = absurd (never_none row rows s)
 shown_append (row ∷ rows) (v ∷ vs) others more s t =
     let both = each_shown row rows v vs s in
     show_next row v (rows ++ others) (vs ++ more) (λ valid. sym both.0 ∙ ap (λ b. if b then v else Null) valid) (shown_append rows vs others more both.1 t)
+shown_append rows plain others more s t = absurd (omega (arith, shown_length rows plain s))
 
 -- ---- the parsed rows
 
@@ -57,24 +55,17 @@ shown_append (row ∷ rows) (v ∷ vs) others more s t =
 abbrev pub valid_items : List (Bor Item) → List Bool
 valid_items items = map (λ item. is_valid (item_value item.now)) items
 
-valid_rows : (items : List (Bor Item)) → valid_items items ≡ map is_valid (rows_read items)
-valid_rows [] = refl
-valid_rows (item ∷ items) = ap (λ l. is_valid (item_value item.now) ∷ l) (valid_rows items)
-
 pub items_hidden : (items : List (Bor Item)) (valid : List Bool) → valid ≡ valid_items items → (plain : List Value) → ShowsRows (rows_read items) plain → hidden valid plain ≡ rows_read items
-items_hidden items valid is plain s = ap (λ l. hidden l plain) (is ∙ valid_rows items) ∙ hidden_shown (rows_read items) plain s
+items_hidden items valid is plain s = ap (λ l. hidden l plain) (is ∙ sym (map-map is_valid (λ (item : Bor Item). item_value item.now) items)) ∙ hidden_shown (rows_read items) plain s
 
 pub items_shown : (items : List (Bor Item)) (valid : List Bool) → valid ≡ valid_items items → list_all (λ b. b) valid ≡ true → (plain : List Value) → ShowsRows (rows_read items) plain → plain ≡ rows_read items
-items_shown items valid is all plain s = shown_all (rows_read items) plain (ap (list_all (λ b. b)) (sym (is ∙ valid_rows items)) ∙ all) s
+items_shown items valid is all plain s = shown_all (rows_read items) plain (ap (list_all (λ b. b)) (sym (is ∙ sym (map-map is_valid (λ (item : Bor Item). item_value item.now) items))) ∙ all) s
 
 -- A row of a type fits the type.
 pub item_fits : (s : Shape) (items : List (Bor Item)) (i : ℕ) (item : Bor Item) → list_all (fits s) (rows_read items) ≡ true → i < length items → item ≡ get_or items i item → fits s (item_value item.now) ≡ true
-item_fits s items i item fit inside is = ap (λ x. fits s (item_value x.now)) is ∙ go items i fit inside
-  where
-    go : (xs : List (Bor Item)) (k : ℕ) → list_all (fits s) (rows_read xs) ≡ true → k < length xs → fits s (item_value (get_or xs k item).now) ≡ true
-    go [] k fit inside = absurd (omega (arith, inside))
-    go (x ∷ xs) zero fit inside = and_first (fits s (item_value x.now)) (list_all (fits s) (rows_read xs)) fit
-    go (x ∷ xs) (suc k) fit inside = go xs k (and_second (fits s (item_value x.now)) (list_all (fits s) (rows_read xs)) fit) (omega (arith, inside))
+item_fits s items i item fit inside is =
+    let row = λ (item : Bor Item). item_value item.now in
+    ap (λ x. fits s (row x)) is ∙ all_at (λ x. fits s (row x)) items i item (sym (list_all-map (fits s) row items) ∙ fit) inside
 
 -- One more row.
 pub shown_more : {A : Type 0} (value : A → Value) (items : List (Bor Item)) (i : ℕ) (item : Bor Item) (values grown : List A) (y : A) → i < length items → item ≡ get_or items i item →
@@ -96,38 +87,32 @@ shown_count value items values s = sym (length-map values value) ∙ shown_lengt
 
 -- ---- booleans
 
-no_truth : {A : Type 0} → false ≡ true → A
-no_truth is = absurd (true≢false (sym is))
-
 pub truths_shown : (beneath : NullSlots) (items : List (Bor Item)) → list_all (fits of_boolean) (rows_read items) ≡ true → ShowsRows (rows_read items) (map Truth (map (λ item. bool_stored beneath (item_value item.now)) items))
 truths_shown beneath [] fit = tt
-truths_shown beneath (item ∷ items) fit =
-    let row = item_value item.now in
-    let first = and_first (fits of_boolean row) (list_all (fits of_boolean) (rows_read items)) fit in
-    let rest = and_second (fits of_boolean row) (list_all (fits of_boolean) (rows_read items)) fit in
-    show_next row (Truth (bool_stored beneath row)) (rows_read items) (map Truth (map (λ item. bool_stored beneath (item_value item.now)) items)) (same row first) (truths_shown beneath items rest)
+truths_shown beneath (item ∷ items) fit = show_next (item_value item.now) _ _ _ (same (item_value item.now) (and_first _ _ fit)) (truths_shown beneath items (and_second _ _ fit))
   where
     same : (row : Value) → fits of_boolean row ≡ true → is_valid row ≡ true → row ≡ Truth (bool_stored beneath row)
-    same Null fit valid = no_truth valid
+    same Null fit valid = absurd (false≢true valid)
     same (Truth b) fit valid = refl
-    same row fit valid = no_truth fit
+    same row fit valid = absurd (false≢true fit)
 
 -- ---- bytes
 
--- A type of bytes is of no other kind.
-pub record IsOfBytes (s : Shape) : Type 0 where
-  pub truths : is_boolean_shape s ≡ false
-  pub numbers : (z : ℤ) → fits_number s z ≡ false
-  pub counts : (n : ℕ) → fits_count s n ≡ false
-  pub tuples : is_struct_shape s ≡ false
+-- Each row of the type that is not null is of bytes.
+abbrev pub IsOfBytes : Shape → Type 0
+IsOfBytes s = (row : Value) → fits s row ≡ true → is_valid row ≡ true → (bytes : List ℕ) × (row ≡ Bytes bytes)
 
 pub of_binary : IsOfBytes of_large_binary
-of_binary = record { truths = refl; numbers = λ z. refl; counts = λ n. refl; tuples = refl }
+of_binary Null fit valid = absurd (false≢true valid)
+of_binary (Bytes bytes) fit valid = (bytes, refl)
+of_binary row fit valid = absurd (false≢true fit)
 
 pub of_views : (s : Shape) → is_view_shape s ≡ true → IsOfBytes s
-of_views of_binary_view has = record { truths = refl; numbers = λ z. refl; counts = λ n. refl; tuples = refl }
-of_views of_utf8_view has = record { truths = refl; numbers = λ z. refl; counts = λ n. refl; tuples = refl }
-of_views s has = no_truth has
+of_views s view Null fit valid = absurd (false≢true valid)
+of_views s view (Bytes bytes) fit valid = (bytes, refl)
+of_views of_binary_view view row fit valid = absurd (false≢true fit)
+of_views of_utf8_view view row fit valid = absurd (false≢true fit)
+of_views s view row fit valid = absurd (false≢true view)
 
 -- The bytes that are stored for an item.
 abbrev pub stored_in : NullSlots → Bor Item → List ℕ
@@ -142,19 +127,10 @@ stored_count beneath items = length-map items (stored_in beneath) ∙ sym (rows_
 
 pub bytes_shown : (s : Shape) → IsOfBytes s → (beneath : NullSlots) (items : List (Bor Item)) → list_all (fits s) (rows_read items) ≡ true → ShowsRows (rows_read items) (map Bytes (stored_bytes beneath items))
 bytes_shown s of beneath [] fit = tt
-bytes_shown s of beneath (item ∷ items) fit =
-    let row = item_value item.now in
-    let first = and_first (fits s row) (list_all (fits s) (rows_read items)) fit in
-    let rest = and_second (fits s row) (list_all (fits s) (rows_read items)) fit in
-    show_next row (Bytes (bytes_stored beneath row)) (rows_read items) (map Bytes (stored_bytes beneath items)) (same row first) (bytes_shown s of beneath items rest)
+bytes_shown s of beneath (item ∷ items) fit = show_next (item_value item.now) (Bytes (stored_in beneath item)) _ _ same (bytes_shown s of beneath items (and_second _ _ fit))
   where
-    same : (row : Value) → fits s row ≡ true → is_valid row ≡ true → row ≡ Bytes (bytes_stored beneath row)
-    same Null fit valid = no_truth valid
-    same (Truth b) fit valid = no_truth (sym of.truths ∙ fit)
-    same (Number z) fit valid = no_truth (sym (of.numbers z) ∙ fit)
-    same (Bytes bs) fit valid = refl
-    same (Items es) fit valid = no_truth (sym (of.counts (length (listed es))) ∙ and_first (fits_count s (length (listed es))) (all_fit (item_shape s) es) fit)
-    same (Tuple es) fit valid = no_truth (sym of.tuples ∙ and_first (is_struct_shape s) (fields_fit (part_shapes s) es) fit)
+    same : is_valid (item_value item.now) ≡ true → item_value item.now ≡ Bytes (stored_in beneath item)
+    same valid = let is = (of (item_value item.now) (and_first _ _ fit) valid).1 in is ∙ ap (λ row. Bytes (bytes_stored beneath row)) (sym is)
 
 -- One more row.
 pub stored_more : (beneath : NullSlots) (items : List (Bor Item)) (i : ℕ) (item : Bor Item) (bytes : List ℕ) → i < length items → item ≡ get_or items i item → bytes ≡ bytes_stored beneath (item_value item.now) →

@@ -1,12 +1,40 @@
--- The text of rows is its own canonical spelling.
+-- The text of a type, and that of rows, is its own canonical spelling.
 use Rattle.std.proofs.Common.{◌≢◌, ◌≤◌, ◌≡◌, ℕ, suc, ℤ, pos, negsuc, ◌+◌, ◌*◌, ◌/◌, ◌%◌, ◌<◌, ◌^◌, Bool, true, false, List, [], ◌∷◌, ◌++◌, length, map, Some, refl, ap, sym, ◌∙◌, arith, append_assoc, append-nil}
-use Rattle.sel_text.proofs.Common.{◌==◌, ⊤, codes, encode_utf8, nat_lt, if◌then◌else◌, option_map, option_and_then, digit_char, digit_value, is_digit, decimal, signed_decimal, mag, flat_map, join_with_byte, list_all, nat_tests, decimal_is_IsNumeral_wide, digit_value-digit_char, encode_ascii, Shape, Shapes, no_shapes, next_shape, is_struct_shape, Value, Null, Truth, Number, Bytes, Items, Tuple, Values, no_values, next_value, listed, and_first, and_second, all_fit, fields_fit, fits, fits_count, escape_at, escape_spelled, is_high, is_low, is_mark, spelled, spelled_from, unit_at, unit_escape, escaped, hex_byte, hex_text, is_text_shape, item_shape, item_texts, part_shapes, part_texts, quoted, text_of, value_text, Place, PlaceWord as Word, Prefix, InString as Quoted, InHex as Hexadecimal}
+use Rattle.sel_text.proofs.Common.{cond_both, ◌==◌, codes, encode_utf8, nat_lt, if◌then◌else◌, option_map, option_and_then, digit_char, digit_value, is_digit, decimal, signed_decimal, mag, flat_map, join_with_byte, list_all, nat_tests, decimal_is_IsNumeral_wide, digit_value-digit_char, encode_ascii, AllDigits, not, ◌&&◌, Shape, Shapes, no_shapes, next_shape, of_large_list, of_fixed_size_list, of_struct, Value, both, and_first, and_second, fits, fits_bytes, escape_at, escape_spelled, is_mark, is_space, spelled, spelled_from, unit_at, unit_escape, escaped, hex_byte, hex_text, is_text_shape, bytes_text, type_text, type_texts, widths_written, all_widths_written, quoted, text_of, value_text, Place, Between, PlaceWord as Word, Prefix, InString as Quoted, InHex as Hexadecimal}
 use Rattle.sel_text.proofs.Decoded.{no_quote}
 use Rattle.sel_text.proofs.Ends.{few_digits}
 use Rattle.sel_text.proofs.Escapes.{each_escape}
-use Rattle.sel_text.proofs.Spelled.{after_plain, digits_plain, is_plain_byte, step_plain}
 use Rattle.sel_text.proofs.Spellings.{appended, begins}
-use Rattle.sel_text.proofs.Told.{small_number}
+use Rattle.sel_text.proofs.ValueTexts.{Each, rows_have}
+
+-- ---- bytes that are spelled as they are
+
+-- A byte that is no white space, and begins no string and no bytes in hexadecimal.
+abbrev is_plain_byte : ℕ → Bool
+is_plain_byte byte = not (is_space byte) && not (byte == 34) && not (byte == 104)
+
+others : (byte : ℕ) → is_plain_byte byte ≡ true → (is_space byte ≡ false) × ((byte == 34) ≡ false) × ((byte == 104) ≡ false)
+others byte plain = (grind (arith, nat_tests, plain), grind (arith, nat_tests, plain), grind (arith, nat_tests, plain))
+
+-- The state after a plain byte.
+abbrev after_plain : Bool → Place
+after_plain mark = if mark then Between else Word
+
+pick : (mark : Bool) (byte : ℕ) (rest : List ℕ) →
+    option_and_then (λ (next : Place × ℕ). option_map (λ more. (byte ∷ []) ++ more) (spelled_from next.0 next.1 rest)) (if mark then Some (Between, 0) else Some (Word, 0)) ≡ option_map (λ more. byte ∷ more) (spelled_from (after_plain mark) 0 rest)
+pick true byte rest = refl
+pick false byte rest = refl
+
+step_plain : (m : Bool) (byte : ℕ) (rest : List ℕ) → is_plain_byte byte ≡ true → spelled_from (after_plain m) 0 (byte ∷ rest) ≡ option_map (λ more. byte ∷ more) (spelled_from (after_plain (is_mark byte)) 0 rest)
+step_plain true byte rest plain = let other = others byte plain in rw (other.0, other.1, other.2) (pick (is_mark byte) byte rest)
+step_plain false byte rest plain = let other = others byte plain in rw (other.0, other.1, other.2) (pick (is_mark byte) byte rest)
+
+plain_digit : (c : ℕ) → digit_value c < 10 → is_plain_byte c ≡ true
+plain_digit c small = grind (arith, nat_tests, small)
+
+digits_plain : (ds : List ℕ) → AllDigits 10 ds → list_all is_plain_byte ds ≡ true
+digits_plain [] all = refl
+digits_plain (c ∷ cs) all = both (is_plain_byte c) (list_all is_plain_byte cs) (plain_digit c all.0) (digits_plain cs all.1)
 
 -- ---- texts that are spelled as they are
 
@@ -76,15 +104,8 @@ unit_read b rest low =
     let value : digit_value 48 * 4096 + digit_value 48 * 256 + digit_value (digit_char (b / 16)) * 16 + digit_value (digit_char (b % 16)) ≡ b = let zero_digit : digit_value 48 ≡ 0 = refl in omega (arith, high, few, zero_digit) in
     rw (first, second) (ap Some value)
 
-no_surrogate : (b : ℕ) → b < 32 → (is_high b ≡ false) × (is_low b ≡ false)
-no_surrogate b low = (grind (arith, nat_tests, low), grind (arith, nat_tests, low))
-
 unit_kept : (b : ℕ) (rest : List ℕ) → b < 32 → unit_escape rest b ≡ Some (b, 5)
-unit_kept b rest low =
-    let none = no_surrogate b low in
-    let high = none.0 in
-    let few = none.1 in
-    rw (high, few) refl
+unit_kept b rest low = grind (arith, nat_tests, low)
 
 control_read : (b : ℕ) (rest : List ℕ) → b < 32 → escape_at (117 ∷ 48 ∷ 48 ∷ digit_char (b / 16) ∷ digit_char (b % 16) ∷ rest) ≡ Some (b, 5)
 control_read b rest low =
@@ -111,10 +132,7 @@ string_passes : (bytes : List ℕ) → Passes Quoted Quoted (flat_map escaped by
 string_passes [] = none_passes Quoted
 string_passes (b ∷ bytes) = joined_passes Quoted Quoted Quoted (escaped b) (flat_map escaped bytes) (byte_passes b) (string_passes bytes)
 
--- A quote ends a string, or begins one.
-end_passes : Passes Quoted Word (34 ∷ [])
-end_passes = record { passed = λ rest. refl }
-
+-- A quote begins a string, or ends one.
 begin_passes : (m : Bool) → Passes (after_plain m) Quoted (34 ∷ [])
 begin_passes true = record { passed = λ rest. refl }
 begin_passes false = record { passed = λ rest. refl }
@@ -122,7 +140,7 @@ begin_passes false = record { passed = λ rest. refl }
 string_keeps : (bytes : List ℕ) → Keeps (quoted bytes)
 string_keeps bytes m = (
   false,
-  joined_passes (after_plain m) Quoted Word (34 ∷ []) (flat_map escaped bytes ++ 34 ∷ []) (begin_passes m) (joined_passes Quoted Quoted Word (flat_map escaped bytes) (34 ∷ []) (string_passes bytes) end_passes),
+  joined_passes (after_plain m) Quoted Word (34 ∷ []) (flat_map escaped bytes ++ 34 ∷ []) (begin_passes m) (joined_passes Quoted Quoted Word (flat_map escaped bytes) (34 ∷ []) (string_passes bytes) (record { passed = λ rest. refl })),
 )
 
 -- ---- bytes in hexadecimal
@@ -147,13 +165,10 @@ prefix_passes false = record { passed = λ rest. refl }
 hex_begins : (m : Bool) → Passes (after_plain m) Hexadecimal (104 ∷ 34 ∷ [])
 hex_begins m = joined_passes (after_plain m) Prefix Hexadecimal (104 ∷ []) (34 ∷ []) (prefix_passes m) (record { passed = λ rest. refl })
 
-hex_ends : Passes Hexadecimal Word (34 ∷ [])
-hex_ends = record { passed = λ rest. refl }
-
 hex_keeps : (bytes : List ℕ) → Keeps (hex_text bytes)
 hex_keeps bytes m = (
   false,
-  joined_passes (after_plain m) Hexadecimal Word (104 ∷ 34 ∷ []) (flat_map hex_byte bytes ++ 34 ∷ []) (hex_begins m) (joined_passes Hexadecimal Hexadecimal Word (flat_map hex_byte bytes) (34 ∷ []) (hex_passes bytes) hex_ends),
+  joined_passes (after_plain m) Hexadecimal Word (104 ∷ 34 ∷ []) (flat_map hex_byte bytes ++ 34 ∷ []) (hex_begins m) (joined_passes Hexadecimal Hexadecimal Word (flat_map hex_byte bytes) (34 ∷ []) (hex_passes bytes) (record { passed = λ rest. refl })),
 )
 
 -- ---- values
@@ -163,54 +178,47 @@ number_keeps (pos n) small = plains_keep (decimal n) (digits_plain (decimal n) (
 number_keeps (negsuc n) small =
     joined_keeps (45 ∷ []) (decimal (suc n)) (plain_keeps 45 refl) (plains_keep (decimal (suc n)) (digits_plain (decimal (suc n)) ((decimal_is_IsNumeral_wide (suc n) (few_digits (suc n) (omega (arith, small)))).0.1)))
 
-bytes_keep : (t : Bool) (bytes : List ℕ) → Keeps (if t then quoted bytes else hex_text bytes)
-bytes_keep true bytes = string_keeps bytes
-bytes_keep false bytes = hex_keeps bytes
+bytes_keep : (s : Shape) (bytes : List ℕ) → fits_bytes s bytes ≡ true → Keeps (bytes_text s bytes)
+bytes_keep s bytes fit = cond_both (is_text_shape s) _ _ Keeps (λ _. string_keeps bytes) (λ _. hex_keeps bytes)
 
 truth_keeps : (t : Bool) → Keeps (if t then codes "true" else codes "false")
 truth_keeps true = plains_keep (codes "true") refl
 truth_keeps false = plains_keep (codes "false") refl
 
--- This is so for each of several texts.
-abbrev EachKeeps : List (List ℕ) → Type 0
-EachKeeps [] = ⊤
-EachKeeps (text ∷ texts) = Keeps text × EachKeeps texts
-
-commas_keep : (texts : List (List ℕ)) → EachKeeps texts → Keeps (join_with_byte 44 texts)
+commas_keep : (texts : List (List ℕ)) → Each Keeps texts → Keeps (join_with_byte 44 texts)
 commas_keep [] each = none_keeps
 commas_keep (x ∷ []) each = each.0
 commas_keep (x ∷ y ∷ texts) each =
     joined_keeps x (44 ∷ join_with_byte 44 (y ∷ texts)) each.0 (joined_keeps (44 ∷ []) (join_with_byte 44 (y ∷ texts)) (plain_keeps 44 refl) (commas_keep (y ∷ texts) each.1))
 
-between_keeps : (first last : ℕ) (texts : List (List ℕ)) → is_plain_byte first ≡ true → is_plain_byte last ≡ true → EachKeeps texts → Keeps (first ∷ join_with_byte 44 texts ++ last ∷ [])
+between_keeps : (first last : ℕ) (texts : List (List ℕ)) → is_plain_byte first ≡ true → is_plain_byte last ≡ true → Each Keeps texts → Keeps (first ∷ join_with_byte 44 texts ++ last ∷ [])
 between_keeps first last texts begins ends each =
     joined_keeps (first ∷ []) (join_with_byte 44 texts ++ last ∷ []) (plain_keeps first begins) (joined_keeps (join_with_byte 44 texts) (last ∷ []) (commas_keep texts each) (plain_keeps last ends))
 
 mutual
-  value_keeps : (v : Value) (s : Shape) → fits s v ≡ true → Keeps (value_text s v)
-  value_keeps Null s fit = plains_keep (codes "null") refl
-  value_keeps (Truth t) s fit = truth_keeps t
-  value_keeps (Number z) s fit = number_keeps z (small_number s z fit)
-  value_keeps (Bytes bytes) s fit = bytes_keep (is_text_shape s) bytes
-  value_keeps (Items vs) s fit = between_keeps 91 93 (item_texts (item_shape s) vs) refl refl (items_keep vs (item_shape s) (and_second (fits_count s (length (listed vs))) (all_fit (item_shape s) vs) fit))
-  value_keeps (Tuple vs) s fit = between_keeps 40 41 (part_texts (part_shapes s) vs) refl refl (parts_keep vs (part_shapes s) (and_second (is_struct_shape s) (fields_fit (part_shapes s) vs) fit))
+  type_keeps : (s : Shape) → widths_written s ≡ true → Keeps (type_text s)
+  type_keeps (of_large_list s) written = joined_keeps (codes "list") _ (plains_keep (codes "list") refl) (between_keeps 60 62 (type_text s ∷ []) refl refl (type_keeps s written, tt))
+  type_keeps (of_fixed_size_list s size) written =
+      joined_keeps (codes "fixed") _ (plains_keep (codes "fixed") refl)
+      (between_keeps 60 62 (decimal size ∷ type_text s ∷ []) refl refl
+      (number_keeps (pos size) (grind (arith, nat_tests, and_first (nat_lt size (2 ^ 64)) _ written)), (type_keeps s (and_second _ _ written), tt)))
+  type_keeps (of_struct ss) written = joined_keeps (codes "struct") _ (plains_keep (codes "struct") refl) (between_keeps 60 62 (type_texts ss) refl refl (types_keep ss written))
+  type_keeps s written = plains_keep (type_text s) refl
 
-  items_keep : (vs : Values) (s : Shape) → all_fit s vs ≡ true → EachKeeps (item_texts s vs)
-  items_keep no_values s fit = tt
-  items_keep (next_value v vs) s fit = (value_keeps v s (and_first (fits s v) (all_fit s vs) fit), items_keep vs s (and_second (fits s v) (all_fit s vs) fit))
+  types_keep : (ss : Shapes) → all_widths_written ss ≡ true → Each Keeps (type_texts ss)
+  types_keep no_shapes written = tt
+  types_keep (next_shape s ss) written = (type_keeps s (and_first _ _ written), types_keep ss (and_second _ _ written))
 
-  parts_keep : (vs : Values) (ss : Shapes) → fields_fit ss vs ≡ true → EachKeeps (part_texts ss vs)
-  parts_keep no_values ss fit = tt
-  parts_keep (next_value v vs) no_shapes fit = tt
-  parts_keep (next_value v vs) (next_shape s ss) fit = (value_keeps v s (and_first (fits s v) (fields_fit ss vs) fit), parts_keep vs ss (and_second (fits s v) (fields_fit ss vs) fit))
+kept_spelled : (text : List ℕ) → Keeps text → spelled text ≡ Some text
+kept_spelled text kept = ap spelled (sym (append-nil text)) ∙ (kept true).1.passed [] ∙ ap Some (append-nil text)
 
-rows_keep : (s : Shape) (vs : List Value) → list_all (fits s) vs ≡ true → EachKeeps (map (value_text s) vs)
-rows_keep s [] fit = tt
-rows_keep s (v ∷ vs) fit = (value_keeps v s (and_first (fits s v) (list_all (fits s) vs) fit), rows_keep s vs (and_second (fits s v) (list_all (fits s) vs) fit))
+-- The text of a type whose list sizes have 64 bits is its own canonical spelling.
+pub type_spelled : (s : Shape) → widths_written s ≡ true → spelled (type_text s) ≡ Some (type_text s)
+type_spelled s written = kept_spelled (type_text s) (type_keeps s written)
 
 -- The text of rows that fit a type is its own canonical spelling.
 pub rows_spelled : (s : Shape) (vs : List Value) → list_all (fits s) vs ≡ true → spelled (text_of s vs) ≡ Some (text_of s vs)
 rows_spelled s vs fit =
-    let text = text_of s vs in
-    let kept = between_keeps 91 93 (map (value_text s) vs) refl refl (rows_keep s vs fit) true in
-    ap spelled (sym (append-nil text)) ∙ kept.1.passed [] ∙ ap Some (append-nil text)
+    let list = λ (texts : List (List ℕ)) (each : Each Keeps texts). between_keeps 91 93 texts refl refl each in
+    let tuple = λ (texts : List (List ℕ)) (each : Each Keeps texts). between_keeps 40 41 texts refl refl each in
+    kept_spelled (text_of s vs) (list (map (value_text s) vs) (rows_have Keeps (plains_keep (codes "null") refl) truth_keeps number_keeps bytes_keep list tuple s vs fit))

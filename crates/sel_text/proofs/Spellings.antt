@@ -1,5 +1,5 @@
 -- The canonical spelling of a text, byte by byte.
-use Rattle.std.proofs.Common.{◌≡◌, ℕ, ◌+◌, ◌<◌, List, [], ◌∷◌, ◌++◌, length, drop, take, ◌-◌, get_or, ap, refl, sym, ◌∙◌, append_assoc, Some, None, subst, add-one, suc, zero, Option, option_map, option_and_then}
+use Rattle.std.proofs.Common.{◌≡◌, ℕ, ◌+◌, ◌<◌, List, [], ◌++◌, length, drop, take, ◌-◌, get_or, ap, refl, sym, ◌∙◌, append_assoc, Some, None, subst, add-one, suc, zero, Option, option_map, option_and_then}
 use Rattle.sel_text.proofs.Common.{drop_more, take_rest, byte_spelled, next_place, spelled, spelled_from, Place}
 
 -- The spelling of the whole text is the bytes so far, followed by the spelling of the rest.
@@ -14,43 +14,16 @@ pub appended : (a b : List ℕ) (o : Option (List ℕ)) → option_map (λ more.
 appended a b None = refl
 appended a b (Some x) = ap Some (append_assoc a b x)
 
--- A byte of an escape is passed.
-pub passed : (text bytes : List ℕ) (place : Place) (skipped i : ℕ) → i < length text → Spells text bytes place (suc skipped) i → Spells text bytes place skipped (i + 1)
-passed text bytes place skipped i inside is =
-    sym (ap (λ rest. option_map (λ more. bytes ++ more) (spelled_from place (suc skipped) rest)) (drop_more text i 0 inside)) ∙ is
-
--- A byte begins a piece.
-piece : (place : Place) (byte : ℕ) (rest : List ℕ) (next : Place × ℕ) → next_place place byte rest ≡ Some next →
-    spelled_from place zero (byte ∷ rest) ≡ option_map (λ more. byte_spelled place byte rest ++ more) (spelled_from next.0 next.1 rest)
-piece place byte rest next is = ap (option_and_then (λ next. option_map (λ more. byte_spelled place byte rest ++ more) (spelled_from next.0 next.1 rest))) is
-
-pub read : (text bytes : List ℕ) (place : Place) (i : ℕ) (next : Place × ℕ) → i < length text → next_place place (get_or text i 0) (drop (i + 1) text) ≡ Some next →
-    Spells text bytes place zero i → Spells text (bytes ++ byte_spelled place (get_or text i 0) (drop (i + 1) text)) next.0 next.1 (i + 1)
-read text bytes place i next inside told is =
-    appended bytes _ _ ∙ ap (option_map (λ more. bytes ++ more)) (sym (piece place _ _ next told))
-    ∙ sym (ap (λ rest. option_map (λ more. bytes ++ more) (spelled_from place zero rest)) (drop_more text i 0 inside)) ∙ is
-
 -- No token continues so.
-pub fails : (text bytes : List ℕ) (place : Place) (i : ℕ) → i < length text → next_place place (get_or text i 0) (drop (i + 1) text) ≡ None →
-    Spells text bytes place zero i → spelled text ≡ None
-fails text bytes place i inside told is =
-    sym is ∙ ap (λ rest. option_map (λ more. bytes ++ more) (spelled_from place zero rest)) (drop_more text i 0 inside)
-    ∙ ap (λ next. option_map (λ more. bytes ++ more) (option_and_then (λ next. option_map (λ more. byte_spelled place (get_or text i 0) (drop (i + 1) text) ++ more) (spelled_from next.0 next.1 (drop (i + 1) text))) next)) told
-
--- The same over the bytes of a text.
-pub read_of : (text source bytes grown : List ℕ) (place : Place) (i byte : ℕ) (rest : List ℕ) (next : Place) (count skipped : ℕ) → source ≡ text → i < length source → byte ≡ get_or source i 0 → rest ≡ take (length source - (i + 1)) (drop (i + 1) source) → skipped ≡ 0 →
-    Some (next, count) ≡ next_place place byte rest → Spells text bytes place skipped i → grown ≡ bytes ++ byte_spelled place byte rest → Spells text grown next count (i + 1)
-read_of text source bytes grown place i byte rest next count skipped same inside first others none told is grows =
-    let all = others ∙ take_rest source (i + 1) in
-    rw grows (rw (first, all) (rw same
-    (read text bytes place i (next, count) (rw (← same) inside) (rw (← same, ← all, ← first) (sym told)) (subst (λ n. Spells text bytes place n i) none is))))
-
 pub fails_of : (text source bytes : List ℕ) (place : Place) (i byte : ℕ) (rest : List ℕ) (skipped : ℕ) → source ≡ text → i < length source → byte ≡ get_or source i 0 → rest ≡ take (length source - (i + 1)) (drop (i + 1) source) → skipped ≡ 0 →
     None ≡ next_place place byte rest → Spells text bytes place skipped i → spelled text ≡ None
 fails_of text source bytes place i byte rest skipped same inside first others none told is =
     let all = others ∙ take_rest source (i + 1) in
-    fails text bytes place i (rw (← same) inside) (rw (← same, ← all, ← first) (sym told)) (subst (λ n. Spells text bytes place n i) none is)
+    let stops : next_place place (get_or text i 0) (drop (i + 1) text) ≡ None = rw (← same, ← all, ← first) (sym told) in
+    sym (subst (λ n. Spells text bytes place n i) none is) ∙ ap (λ rest. option_map (λ more. bytes ++ more) (spelled_from place zero rest)) (drop_more text i 0 (rw (← same) inside))
+    ∙ ap (λ next. option_map (λ more. bytes ++ more) (option_and_then (λ next. option_map (λ more. byte_spelled place (get_or text i 0) (drop (i + 1) text) ++ more) (spelled_from next.0 next.1 (drop (i + 1) text))) next)) stops
 
+-- A byte of an escape is passed.
 pub passed_of : (text source bytes : List ℕ) (place : Place) (skipped left i : ℕ) → source ≡ text → i < length source → skipped ≡ left + 1 → Spells text bytes place skipped i → Spells text bytes place left (i + 1)
 passed_of text source bytes place skipped left i same inside more is =
-    passed text bytes place left i (rw (← same) inside) (subst (λ n. Spells text bytes place n i) (more ∙ add-one left) is)
+    ap (λ rest. option_map (λ more. bytes ++ more) (spelled_from place (suc left) rest)) (sym (drop_more text i 0 (rw (← same) inside))) ∙ subst (λ n. Spells text bytes place n i) (more ∙ add-one left) is

@@ -1,8 +1,9 @@
 -- Characters of strings in the notation of rows.
-use Rattle.std.proofs.Common.{◌≡◌, ◌≤◌, ◌<◌, ℕ, ◌+◌, ◌/◌, ◌%◌, Bool, true, false, cond, List, [], ◌∷◌, ◌++◌, refl, ap, sym, ◌∙◌, append_assoc, append-nil, arith, Some, None, subst, inl, inr, ◌⊎◌, option_map, nat_lt, ◌==◌, encode_utf8, if◌then◌else◌}
+use Rattle.std.proofs.Common.{◌≡◌, ◌≢◌, ◌≤◌, ◌<◌, ℕ, ◌+◌, ◌/◌, ◌%◌, Bool, true, List, [], ◌∷◌, ◌++◌, refl, ap, sym, ◌∙◌, append_assoc, append-nil, arith, Some, None, subst, inl, inr, ◌⊎◌, option_map, encode_utf8, if◌then◌else◌}
+use Rattle.std.proofs.lemmas.Bool.{cases_eq, cases_lt}
 use Rattle.sel_text.proofs.Common.{digit_char, flat_map, nat_tests, flat_map-append, encode_ascii, and_first, and_second, goes_on, escaped, hex_byte, after_string_byte, escape_byte, is_between, is_hexadecimal, text_byte, Bracket, Keep, Next, Quoted, Within, Text, Escape, UnitFirst, LastThree, LastTwo, LastOne, ByteOne, ByteTwo, ByteThree, AfterE0, AfterEd, AfterF0, AfterF4}
 use lib.Utf8.{encode, encodes, next, scalar, scalars, scalar_cases}
-use Rattle.sel_text.proofs.Escapes.{each_escape, high_letter}
+use Rattle.sel_text.proofs.Escapes.{each_escape, encoded, high_letter}
 use Rattle.sel_text.proofs.TypeNotation.{step_to}
 
 -- A byte of a string leads on.
@@ -59,31 +60,24 @@ last_two_lead a b low_a high_a low_b high_b = leads_byte ByteTwo ByteOne Text a 
 abbrev pub Begins : ℕ → ℕ → Within → Type 0
 Begins first second after = (middle : Within) × (text_byte first ≡ Some (Quoted middle)) × (after_string_byte middle second ≡ Some (Quoted after))
 
+-- Two first bytes have second bytes of their own.
+begins : (first second e f : ℕ) (by_e by_f other after : Within) → text_byte e ≡ Some (Quoted by_e) → text_byte f ≡ Some (Quoted by_f) → (first ≢ e → first ≢ f → text_byte first ≡ Some (Quoted other)) →
+    (first ≡ e → after_string_byte by_e second ≡ Some (Quoted after)) → (first ≡ f → after_string_byte by_f second ≡ Some (Quoted after)) → after_string_byte other second ≡ Some (Quoted after) → Begins first second after
+begins first second e f by_e by_f other after at_e at_f at_other then_e then_f then_other =
+    elim (cases_eq first e) [
+      | inl same ↦ (by_e, rw same at_e, then_e same)
+      | inr not ↦ elim (cases_eq first f) [ inl same ↦ (by_f, rw same at_f, then_f same) | inr apart ↦ (other, at_other not apart, then_other) ]
+    ]
+
 three_begin : (first second : ℕ) → 224 ≤ first → first ≤ 239 → 128 ≤ second → second ≤ 191 → (first ≡ 224 → 160 ≤ second) → (first ≡ 237 → second ≤ 159) → Begins first second ByteOne
-three_begin first second least most low high e0 ed = go (first == 224) (first == 237) refl refl
-  where
-    go : (a b : Bool) → (first == 224) ≡ a → (first == 237) ≡ b → Begins first second ByteOne
-    go true b is _ =
-        let same : first ≡ 224 = grind (arith, nat_tests, is) in
-        (AfterE0, rw same refl, between_step AfterE0 ByteOne second 160 191 refl (e0 same) high)
-    go false true not is =
-        let same : first ≡ 237 = grind (arith, nat_tests, is) in
-        (AfterEd, rw same refl, between_step AfterEd ByteOne second 128 159 refl low (ed same))
-    go false false not other =
-        (ByteTwo, grind (arith, nat_tests, not, other, least, most), between_step ByteTwo ByteOne second 128 191 refl low high)
+three_begin first second least most low high e0 ed =
+    begins first second 224 237 AfterE0 AfterEd ByteTwo ByteOne refl refl (λ not other. grind (arith, nat_tests, not, other, least, most))
+    (λ is. between_step AfterE0 ByteOne second 160 191 refl (e0 is) high) (λ is. between_step AfterEd ByteOne second 128 159 refl low (ed is)) (between_step ByteTwo ByteOne second 128 191 refl low high)
 
 four_begin : (first second : ℕ) → 240 ≤ first → first ≤ 244 → 128 ≤ second → second ≤ 191 → (first ≡ 240 → 144 ≤ second) → (first ≡ 244 → second ≤ 143) → Begins first second ByteTwo
-four_begin first second least most low high f0 f4 = go (first == 240) (first == 244) refl refl
-  where
-    go : (a b : Bool) → (first == 240) ≡ a → (first == 244) ≡ b → Begins first second ByteTwo
-    go true b is _ =
-        let same : first ≡ 240 = grind (arith, nat_tests, is) in
-        (AfterF0, rw same refl, between_step AfterF0 ByteTwo second 144 191 refl (f0 same) high)
-    go false true not is =
-        let same : first ≡ 244 = grind (arith, nat_tests, is) in
-        (AfterF4, rw same refl, between_step AfterF4 ByteTwo second 128 143 refl low (f4 same))
-    go false false not other =
-        (ByteThree, grind (arith, nat_tests, not, other, least, most), between_step ByteThree ByteTwo second 128 191 refl low high)
+four_begin first second least most low high f0 f4 =
+    begins first second 240 244 AfterF0 AfterF4 ByteThree ByteTwo refl refl (λ not other. grind (arith, nat_tests, not, other, least, most))
+    (λ is. between_step AfterF0 ByteTwo second 144 191 refl (f0 is) high) (λ is. between_step AfterF4 ByteTwo second 128 143 refl low (f4 is)) (between_step ByteThree ByteTwo second 128 191 refl low high)
 
 two_first : (b : ℕ) → 194 ≤ b → b ≤ 223 → text_byte b ≡ Some (Quoted ByteOne)
 two_first b least most = grind (arith, nat_tests, least, most)
@@ -113,30 +107,14 @@ four_lead c least is =
     let begin = four_begin (240 + c / 262144) second (omega arith) (omega (arith, below)) (omega arith) (omega arith) (λ f0. omega (arith, f0, least)) (λ f4. omega (arith, f4, below)) in
     leads_byte Text begin.0 Text (240 + c / 262144) _ begin.1 (leads_byte begin.0 ByteTwo Text second _ begin.2 (last_two_lead (next (c / 64)) (next c) (omega arith) (omega arith) (omega arith) (omega arith)))
 
-encode_leads : (c : ℕ) → 128 ≤ c → scalar c ≡ true → Leads Text Text (encode c)
-unfolding encode
-encode_leads c high is = go (nat_lt c 128) (nat_lt c 2048) (nat_lt c 65536) refl refl refl
-  where
-    go : (x y z : Bool) → nat_lt c 128 ≡ x → nat_lt c 2048 ≡ y → nat_lt c 65536 ≡ z →
-        Leads Text Text (cond x (c ∷ []) (cond y ((192 + c / 64) ∷ next c ∷ []) (cond z ((224 + c / 4096) ∷ next (c / 64) ∷ next c ∷ []) ((240 + c / 262144) ∷ next (c / 4096) ∷ next (c / 64) ∷ next c ∷ []))))
-    go true y z low _ _ =
-        let small : c < 128 = grind (arith, nat_tests, low) in
-        absurd (omega (arith, high, small))
-    go false true z _ two _ = two_lead c high (grind (arith, nat_tests, two))
-    go false false true _ two three = three_lead c (grind (arith, nat_tests, two)) (grind (arith, nat_tests, three)) is
-    go false false false _ _ three = four_lead c (grind (arith, nat_tests, three)) is
-
 -- A character as it is printed.
 pub letter_leads : (c : ℕ) → scalar c ≡ true → (brackets : List Bracket) (more : List ℕ) → goes_on (Quoted Text) brackets (flat_map escaped (encode_utf8 c) ++ more) ≡ goes_on (Quoted Text) brackets more
-letter_leads c is brackets more = go (nat_lt c 128) refl
-  where
-    go : (b : Bool) → nat_lt c 128 ≡ b → goes_on (Quoted Text) brackets (flat_map escaped (encode_utf8 c) ++ more) ≡ goes_on (Quoted Text) brackets more
-    go true low =
-        let small : c < 128 = grind (arith, nat_tests, low) in
-        ap (λ text. goes_on (Quoted Text) brackets (text ++ more)) (ap (flat_map escaped) (encode_ascii c small) ∙ append-nil (escaped c)) ∙ (ascii_leads c small).led brackets more
-    go false low =
-        let high : 128 ≤ c = grind (arith, nat_tests, low) in
-        ap (λ text. goes_on (Quoted Text) brackets (text ++ more)) (high_letter c high) ∙ (encode_leads c high is).led brackets more
+letter_leads c is brackets more =
+    elim (cases_lt c 128) [
+      | inl small ↦ ap (λ text. goes_on (Quoted Text) brackets (text ++ more)) (ap (flat_map escaped) (encode_ascii c small) ∙ append-nil (escaped c)) ∙ (ascii_leads c small).led brackets more
+      | inr high ↦ ap (λ text. goes_on (Quoted Text) brackets (text ++ more)) (high_letter c high)
+          ∙ (encoded (Leads Text Text) c high (two_lead c high) (λ two three. three_lead c two three is) (λ four. four_lead c four is)).led brackets more
+    ]
 
 -- The characters of a string.
 pub letters_lead : (cs : List ℕ) → scalars cs ≡ true → (brackets : List Bracket) (more : List ℕ) → goes_on (Quoted Text) brackets (flat_map escaped (encodes cs) ++ more) ≡ goes_on (Quoted Text) brackets more
@@ -162,26 +140,10 @@ ascii_starts =
     (λ low. backslash_starts _) (λ low. backslash_starts _) (λ low. backslash_starts _) (λ low. backslash_starts _) (λ low. backslash_starts _) (λ low. backslash_starts _) (λ low. backslash_starts _)
     (λ b control n8 n9 n10 n12 n13 low. backslash_starts _) (λ b high quote backslash low. (b, [], refl, inl low))
 
-encode_starts : (c : ℕ) → 128 ≤ c → Starts (encode c)
-unfolding encode
-encode_starts c high = go (nat_lt c 128) (nat_lt c 2048) (nat_lt c 65536) refl
-  where
-    go : (x y z : Bool) → nat_lt c 128 ≡ x →
-        Starts (cond x (c ∷ []) (cond y ((192 + c / 64) ∷ next c ∷ []) (cond z ((224 + c / 4096) ∷ next (c / 64) ∷ next c ∷ []) ((240 + c / 262144) ∷ next (c / 4096) ∷ next (c / 64) ∷ next c ∷ []))))
-    go true y z low =
-        let small : c < 128 = grind (arith, nat_tests, low) in
-        absurd (omega (arith, high, small))
-    go false true z low = (192 + c / 64, next c ∷ [], refl, inr (omega arith))
-    go false false true low = (224 + c / 4096, next (c / 64) ∷ next c ∷ [], refl, inr (omega arith))
-    go false false false low = (240 + c / 262144, next (c / 4096) ∷ next (c / 64) ∷ next c ∷ [], refl, inr (omega arith))
-
 pub starts : (c : ℕ) → scalar c ≡ true → Starts (flat_map escaped (encode_utf8 c))
-starts c is = go (nat_lt c 128) refl
-  where
-    go : (b : Bool) → nat_lt c 128 ≡ b → Starts (flat_map escaped (encode_utf8 c))
-    go true low =
-        let small : c < 128 = grind (arith, nat_tests, low) in
-        subst Starts (sym (ap (flat_map escaped) (encode_ascii c small) ∙ append-nil (escaped c))) (ascii_starts c small)
-    go false low =
-        let high : 128 ≤ c = grind (arith, nat_tests, low) in
-        subst Starts (sym (high_letter c high)) (encode_starts c high)
+starts c is =
+    elim (cases_lt c 128) [
+      | inl small ↦ subst Starts (sym (ap (flat_map escaped) (encode_ascii c small) ∙ append-nil (escaped c))) (ascii_starts c small)
+      | inr high ↦ subst Starts (sym (high_letter c high))
+          (encoded Starts c high (λ two. (192 + c / 64, _, refl, inr (omega arith))) (λ two three. (224 + c / 4096, _, refl, inr (omega arith))) (λ four. (240 + c / 262144, _, refl, inr (omega arith))))
+    ]

@@ -1,34 +1,14 @@
 -- Row text determines its value.
 use Rattle.std.proofs.Common.{◌≡◌, ◌≢◌, ℕ, ℤ, pos, negsuc, ◌^◌, ◌≤◌, ◌<◌, Bool, true, false, List, [], ◌∷◌, ◌++◌, length, get_or, drop, refl, ap, sym, ◌∙◌, arith, append_assoc, ◌==◌, nat_lt, if◌then◌else◌}
-use Rattle.sel_text.proofs.Common.{digit_value, decimal, mag, flat_map, join_with_byte, list_all, AllDigits, nat_tests, decimal_is_IsNumeral_wide, Shape, Shapes, no_shapes, next_shape, of_int8, Value, Null, Truth, Number, Bytes, Items, Tuple, Values, no_values, next_value, values_of, both, and_first, and_second, fits, all_fit, fields_fit, fits_number, bracketed, hex_byte, escaped, hex_text, quoted, is_text_shape, bytes_text, item_shape, part_shapes, item_texts, part_texts, value_text, text_of, NoDigit}
+use Rattle.sel_text.proofs.Common.{cond_both, digit_value, decimal, mag, flat_map, join_with_byte, list_all, AllDigits, nat_tests, decimal_is_IsNumeral_wide, Shape, Shapes, no_shapes, next_shape, of_int8, Value, Null, Truth, Number, Bytes, Items, Tuple, Values, no_values, next_value, values_of, both, and_first, and_second, fits, all_fit, fields_fit, fits_number, bracketed, hex_byte, escaped, hex_text, quoted, is_text_shape, bytes_text, item_shape, part_shapes, item_texts, part_texts, value_text, text_of, NoDigit}
 use Rattle.sel_text.specs.Laws.{TextDeterminesRows}
+use Rattle.sel_text.proofs.Commas.{after, inside, joined_inside}
 use Rattle.sel_text.proofs.Ends.{few_digits}
 use Rattle.sel_text.proofs.Decoded.{signed_apart, hex_apart, escaped_apart}
 use Rattle.sel_text.proofs.Equalities.{list_of_back}
 use Rattle.sel_text.proofs.Printed.{listed_texts}
 
 -- ---- row texts after an opening bracket
-
--- The row texts from the second on, each after a comma, then the closing bracket and a rest.
-abbrev pub after : ℕ → List (List ℕ) → List ℕ → List ℕ
-after close [] r = close ∷ r
-after close (x ∷ xs) r = 44 ∷ x ++ after close xs r
-
--- All row texts, separated by commas, then the closing bracket and a rest.
-abbrev pub inside : ℕ → List (List ℕ) → List ℕ → List ℕ
-inside close [] r = close ∷ r
-inside close (x ∷ xs) r = x ++ after close xs r
-
-joined_after : (close : ℕ) (x : List ℕ) (xs : List (List ℕ)) (r : List ℕ) → (join_with_byte 44 (x ∷ xs) ++ close ∷ []) ++ r ≡ x ++ after close xs r
-joined_after close x [] r = append_assoc x (close ∷ []) r
-joined_after close x (y ∷ xs) r =
-    append_assoc (x ++ (44 ∷ join_with_byte 44 (y ∷ xs))) (close ∷ []) r
-    ∙ append_assoc x (44 ∷ join_with_byte 44 (y ∷ xs)) (close ∷ r)
-    ∙ ap (λ l. x ++ (44 ∷ l)) (sym (append_assoc (join_with_byte 44 (y ∷ xs)) (close ∷ []) r) ∙ joined_after close y xs r)
-
-pub joined_inside : (close : ℕ) (xs : List (List ℕ)) (r : List ℕ) → (join_with_byte 44 xs ++ close ∷ []) ++ r ≡ inside close xs r
-joined_inside close [] r = refl
-joined_inside close (x ∷ xs) r = joined_after close x xs r
 
 pub after_no_digit : (close : ℕ) (xs : List (List ℕ)) (r : List ℕ) → 10 ≤ digit_value close → NoDigit (after close xs r)
 after_no_digit close [] r past = past
@@ -76,11 +56,7 @@ starts s (Number (pos n)) r fit =
     let small = small_number s (pos n) fit in
     let is = decimal_is_IsNumeral_wide n (few_digits n (omega (arith, small))) in
     first_digit (decimal n) r is.0.0 is.0.1
-starts s (Bytes bytes) r fit = go (is_text_shape s)
-  where
-    go : (t : Bool) → kind_of (get_or ((if t then quoted bytes else hex_text bytes) ++ r) 0 0) ≡ 3
-    go true = refl
-    go false = refl
+starts s (Bytes bytes) r fit = cond_both (is_text_shape s) _ _ (λ text. kind_of (get_or (text ++ r) 0 0) ≡ 3) (λ _. refl) (λ _. refl)
 starts s (Truth true) r fit = refl
 starts s (Truth false) r fit = refl
 starts s v r fit = refl

@@ -1,6 +1,8 @@
 -- The text of a type is in the notation of types, also with white space between its tokens.
-use Rattle.std.proofs.Common.{◌≡◌, ◌≢◌, ◌<◌, ℕ, ◌^◌, Bool, true, false, List, [], ◌∷◌, ◌++◌, length, get_or, refl, ap, sym, ◌∙◌, append_assoc, append-nil, arith, Some, Option, nat_lt, ◌==◌}
-use Rattle.sel_text.proofs.Common.{digit_value, decimal, join_with_byte, AllDigits, nat_tests, and_first, and_second, Shape, Shapes, no_shapes, next_shape, of_large_list, of_fixed_size_list, of_struct, after_byte, changed, goes_on, innermost, is_some_and, is_type_notation, is_between, type_text, type_texts, widths_written, all_widths_written, Bracket, Child, Fields, Change, Keep, Next, FirstName, Name, Size, SizeDigit, After}
+use Rattle.std.proofs.Common.{◌≡◌, inl, inr, ◌≢◌, ◌<◌, ℕ, ◌^◌, true, List, [], ◌∷◌, ◌++◌, length, get_or, refl, ap, sym, ◌∙◌, append_assoc, append-nil, arith, Some, Option, nat_lt}
+use Rattle.std.proofs.lemmas.Bool.{cases_eq}
+use Rattle.sel_text.proofs.Common.{digit_value, decimal, AllDigits, nat_tests, and_first, and_second, Shape, Shapes, no_shapes, next_shape, of_large_list, of_fixed_size_list, of_struct, after_byte, changed, goes_on, innermost, is_some_and, is_type_notation, is_between, type_text, type_texts, widths_written, all_widths_written, Bracket, Child, Fields, Change, Keep, Next, FirstName, Name, Size, SizeDigit, After}
+use Rattle.sel_text.proofs.Commas.{after, inside, joined_inside}
 use Rattle.sel_text.proofs.Ends.{numeral_has}
 
 -- ---- a text of a type is in the notation
@@ -13,46 +15,30 @@ step_to next after change brackets byte more told = ap (is_some_and (λ (step : 
 pub digit_between : (c : ℕ) → digit_value c < 10 → is_between c 48 57 ≡ true
 digit_between c small = grind (arith, nat_tests, small)
 
-further_digit : (top : Option Bracket) (c : ℕ) → digit_value c < 10 → after_byte SizeDigit top c ≡ Some (SizeDigit, Keep)
-further_digit top c small = rw (digit_between c small) refl
-
 digits_read : (ds more : List ℕ) (brackets : List Bracket) → AllDigits 10 ds → goes_on SizeDigit brackets (ds ++ (44 ∷ more)) ≡ goes_on Name brackets more
 digits_read [] more brackets all = refl
 digits_read (c ∷ ds) more brackets all =
-    step_to SizeDigit SizeDigit Keep brackets c (ds ++ (44 ∷ more)) (further_digit (innermost brackets) c all.0) ∙ digits_read ds more brackets all.1
+    step_to SizeDigit SizeDigit Keep brackets c (ds ++ (44 ∷ more)) (rw (digit_between c all.0) refl) ∙ digits_read ds more brackets all.1
 
 first_digit : (c : ℕ) → digit_value c < 10 → c ≢ 48 → (top : Option Bracket) → after_byte Size top c ≡ Some (SizeDigit, Keep)
 first_digit c small some top = grind (arith, nat_tests, small)
 
 size_read : (ds more : List ℕ) (brackets : List Bracket) → 0 < length ds → AllDigits 10 ds → (get_or ds 0 0 ≡ 48 → length ds ≡ 1) → goes_on Size brackets (ds ++ (44 ∷ more)) ≡ goes_on Name brackets more
 size_read [] more brackets some all zeros = absurd (omega arith)
-size_read (c ∷ ds) more brackets some all zeros = go (c == 48) refl
+size_read (c ∷ ds) more brackets some all zeros =
+    elim (cases_eq c 48) [
+      | inl same ↦ let none = no_more ds (omega (arith, zeros same)) in rw (same, none) refl
+      | inr not ↦ step_to Size SizeDigit Keep brackets c (ds ++ (44 ∷ more)) (first_digit c all.0 not (innermost brackets)) ∙ digits_read ds more brackets all.1
+    ]
   where
-    go : (b : Bool) → (c == 48) ≡ b → goes_on Size brackets ((c ∷ ds) ++ (44 ∷ more)) ≡ goes_on Name brackets more
-    go true is =
-        let zero_digit : c ≡ 48 = grind (arith, nat_tests, is) in
-        alone ds zero_digit (omega (arith, zeros zero_digit))
-      where
-        alone : (ds : List ℕ) → c ≡ 48 → length ds ≡ 0 → goes_on Size brackets ((c ∷ ds) ++ (44 ∷ more)) ≡ goes_on Name brackets more
-        alone [] zero_digit none = rw zero_digit refl
-        alone (d ∷ ds) zero_digit none = absurd (omega (arith, none))
-    go false is =
-        let some : c ≢ 48 = grind (arith, nat_tests, is) in
-        step_to Size SizeDigit Keep brackets c (ds ++ (44 ∷ more)) (first_digit c all.0 some (innermost brackets)) ∙ digits_read ds more brackets all.1
+    no_more : (ds : List ℕ) → length ds ≡ 0 → ds ≡ []
+    no_more [] none = refl
+    no_more (d ∷ ds) none = absurd (omega (arith, none))
 
 -- The first type in a bracket of fields.
 first_name : (s : Shape) (brackets : List Bracket) (more : List ℕ) → goes_on FirstName (Fields ∷ brackets) (type_text s ++ more) ≡ goes_on Name (Fields ∷ brackets) (type_text s ++ more)
 first_name (of_large_list s) brackets more = refl
 first_name s brackets more = refl
-
--- Each type after a comma.
-abbrev pub comma_texts : Shapes → List ℕ
-comma_texts no_shapes = []
-comma_texts (next_shape s ss) = 44 ∷ type_text s ++ comma_texts ss
-
-joined : (s : Shape) (ss : Shapes) → join_with_byte 44 (type_text s ∷ type_texts ss) ≡ type_text s ++ comma_texts ss
-joined s no_shapes = sym (append-nil (type_text s))
-joined s (next_shape t ss) = ap (λ more. type_text s ++ (44 ∷ more)) (joined t ss)
 
 mutual
   pub type_read : (s : Shape) → widths_written s ≡ true → (brackets : List Bracket) (more : List ℕ) → goes_on Name brackets (type_text s ++ more) ≡ goes_on After brackets more
@@ -65,24 +51,18 @@ mutual
       ∙ size_read (decimal size) (type_text s ++ (62 ∷ more)) (Child ∷ brackets) has.0 has.1 has.2
       ∙ type_read s (and_second (nat_lt size (2 ^ 64)) (widths_written s) written) (Child ∷ brackets) (62 ∷ more)
   type_read (of_struct ss) written brackets more =
-      ap (goes_on FirstName (Fields ∷ brackets)) (append_assoc (join_with_byte 44 (type_texts ss)) (62 ∷ []) more) ∙ types_read ss written brackets more
+      ap (goes_on FirstName (Fields ∷ brackets)) (joined_inside 62 (type_texts ss) more) ∙ types_read ss written brackets more
   type_read s written brackets more = refl
 
   -- Further types, up to the closing bracket.
-  commas_read : (ss : Shapes) → all_widths_written ss ≡ true → (brackets : List Bracket) (more : List ℕ) → goes_on After (Fields ∷ brackets) (comma_texts ss ++ (62 ∷ more)) ≡ goes_on After brackets more
+  commas_read : (ss : Shapes) → all_widths_written ss ≡ true → (brackets : List Bracket) (more : List ℕ) → goes_on After (Fields ∷ brackets) (after 62 (type_texts ss) more) ≡ goes_on After brackets more
   commas_read no_shapes written brackets more = refl
-  commas_read (next_shape s ss) written brackets more =
-      ap (goes_on Name (Fields ∷ brackets)) (append_assoc (type_text s) (comma_texts ss) (62 ∷ more))
-      ∙ type_read s (and_first (widths_written s) (all_widths_written ss) written) (Fields ∷ brackets) (comma_texts ss ++ (62 ∷ more))
-      ∙ commas_read ss (and_second (widths_written s) (all_widths_written ss) written) brackets more
+  commas_read (next_shape s ss) written brackets more = type_read s (and_first _ _ written) (Fields ∷ brackets) (after 62 (type_texts ss) more) ∙ commas_read ss (and_second _ _ written) brackets more
 
-  types_read : (ss : Shapes) → all_widths_written ss ≡ true → (brackets : List Bracket) (more : List ℕ) → goes_on FirstName (Fields ∷ brackets) (join_with_byte 44 (type_texts ss) ++ (62 ∷ more)) ≡ goes_on After brackets more
+  types_read : (ss : Shapes) → all_widths_written ss ≡ true → (brackets : List Bracket) (more : List ℕ) → goes_on FirstName (Fields ∷ brackets) (inside 62 (type_texts ss) more) ≡ goes_on After brackets more
   types_read no_shapes written brackets more = refl
   types_read (next_shape s ss) written brackets more =
-      ap (λ text. goes_on FirstName (Fields ∷ brackets) (text ++ (62 ∷ more))) (joined s ss)
-      ∙ ap (goes_on FirstName (Fields ∷ brackets)) (append_assoc (type_text s) (comma_texts ss) (62 ∷ more)) ∙ first_name s brackets (comma_texts ss ++ (62 ∷ more))
-      ∙ type_read s (and_first (widths_written s) (all_widths_written ss) written) (Fields ∷ brackets) (comma_texts ss ++ (62 ∷ more))
-      ∙ commas_read ss (and_second (widths_written s) (all_widths_written ss) written) brackets more
+      first_name s brackets (after 62 (type_texts ss) more) ∙ type_read s (and_first _ _ written) (Fields ∷ brackets) (after 62 (type_texts ss) more) ∙ commas_read ss (and_second _ _ written) brackets more
 
 -- The text of a type is in the notation.
 pub type_in_notation : (s : Shape) → widths_written s ≡ true → is_type_notation (type_text s) ≡ true

@@ -46,40 +46,15 @@ plain_told a s text rest more plain one other =
     plain_of (of_struct ss) plain = plain
     plain_of s plain = plain
 
--- The kind of a type by its children: none, or those of a list, a fixed-size list or a struct.
-abbrev kind : Shape → ℕ
-kind (of_large_list s) = 1
-kind (of_fixed_size_list s n) = 2
-kind (of_struct ss) = 3
-kind s = 0
-
-kind_kept : (s : Shape) → kind (without_children s) ≡ kind s
-kind_kept (of_struct ss) = refl
-kind_kept s = refl
-
-kind_told : (s : Shape) (text more : List ℕ) → text ≡ type_text s ++ more → kind s ≡ kind (begun text)
-kind_told s text more is = sym (ap (λ l. kind (begun l)) is ∙ ap kind (begins s more) ∙ kind_kept s)
-
-a_block : (s : Shape) → kind s ≡ 2 → (child : Shape) × (size : ℕ) × (s ≡ of_fixed_size_list child size)
-a_block (of_fixed_size_list s n) is = (s, n, refl)
-a_block s is = absurd (omega (arith, is))
-
-a_tuple : (s : Shape) → kind s ≡ 3 → (parts : Shapes) × (s ≡ of_struct parts)
-a_tuple (of_struct ss) is = (ss, refl)
-a_tuple s is = absurd (omega (arith, is))
-
 pub blocks_told : (s : Shape) (text more : List ℕ) → codes "fixed" ++ text ≡ type_text s ++ more →
     (child : Shape) × (size : ℕ) × (s ≡ of_fixed_size_list child size) × (text ≡ 60 ∷ (decimal size ++ (44 ∷ (type_text child ++ (62 ∷ more)))))
-blocks_told s text more is =
-    let found = a_block s (kind_told s (codes "fixed" ++ text) more is) in
-    let one = is ∙ ap (λ x. type_text x ++ more) found.2 in
-    (found.0, found.1, found.2, ap (drop 5) one ∙ ap (λ l. 60 ∷ l) (append_assoc (decimal found.1 ++ (44 ∷ type_text found.0)) (62 ∷ []) more ∙ append_assoc (decimal found.1) (44 ∷ type_text found.0) (62 ∷ more)))
+blocks_told (of_fixed_size_list child size) text more is =
+    (child, size, refl, ap (drop 5) is ∙ ap (λ l. 60 ∷ l) (append_assoc (decimal size ++ (44 ∷ type_text child)) (62 ∷ []) more ∙ append_assoc (decimal size) (44 ∷ type_text child) (62 ∷ more)))
+blocks_told s text more is = let first = ap (λ l. get_or l 0 0) is in absurd (omega (arith, first))
 
 pub tuples_told : (s : Shape) (text more : List ℕ) → codes "struct" ++ text ≡ type_text s ++ more → (parts : Shapes) × (s ≡ of_struct parts) × (text ≡ angled (type_texts parts) ++ more)
-tuples_told s text more is =
-    let found = a_tuple s (kind_told s (codes "struct" ++ text) more is) in
-    let one = is ∙ ap (λ x. type_text x ++ more) found.1 in
-    (found.0, found.1, ap (drop 6) one)
+tuples_told (of_struct parts) text more is = (parts, refl, ap (drop 6) is)
+tuples_told s text more is = let first = ap (λ l. get_or l 0 0) is in absurd (omega (arith, first))
 
 -- Nor does one that begins with `i` or `u` and no bit width.
 pub no_signed : (text : List ℕ) → ((rest : List ℕ) → text ≢ codes "8" ++ rest) → ((rest : List ℕ) → text ≢ codes "16" ++ rest) → ((rest : List ℕ) → text ≢ codes "32" ++ rest) → ((rest : List ℕ) → text ≢ codes "64" ++ rest) → ((rest : List ℕ) → text ≢ codes "128" ++ rest) →

@@ -1,11 +1,9 @@
 -- Rows of a column exceed no limit.
-use Rattle.std.proofs.Common.{◌≡◌, ℕ, ◌+◌, ◌≤◌, ◌<◌, Bool, true, false, true≢false, List, [], ◌∷◌, ◌++◌, length, map, take, get_or, refl, ap, sym, ◌∙◌, arith, subst, ◌||◌, ◌&&◌, ◌==◌, ◌*◌, nat_le, ℤ}
-use Rattle.sel_text.proofs.Common.{nat_tests, covers, is_few, rows, row_count, well_formed, all_well_formed, is_rising, last_offset, rows_between, Shape, shapes_of, of_int8, of_int16, of_int32, of_int64, of_int128, of_uint8, of_uint16, of_uint32, of_uint64, of_uint128, Value, ArrayRef, Column, NullColumn, Boolean, Int8, Int16, Int32, Int64, Int128, UInt8, UInt16, UInt32, UInt64, UInt128, LargeBinary, BinaryView, Utf8View, LargeList', FixedSizeList', Struct', and_first, and_second, length-map, length-take, map_more, max_rows, shape_of, ArrowDataType, fits_number, any_exceeds_limit, exceeds_limit, exceeds_max, part_in, NullSlots}
+use Rattle.std.proofs.Common.{◌≡◌, ℕ, ◌+◌, ◌≤◌, ◌<◌, true, false, List, [], ◌∷◌, ◌++◌, length, map, take, get_or, refl, ap, ◌∙◌, arith, subst, ℤ}
+use Rattle.std.proofs.lemmas.Bool.{le-ltb}
+use Rattle.sel_text.proofs.Common.{or_from, or_parts, nat_tests, rows, row_count, well_formed, Shape, shapes_of, of_int8, Value, ArrayRef, Column, NullColumn, Boolean, Int8, Int16, Int32, Int64, Int128, UInt8, UInt16, UInt32, UInt64, UInt128, LargeBinary, BinaryView, Utf8View, length-map, length-take, map_more, max_rows, shape_of, ArrowDataType, fits_number, any_exceeds_limit, exceeds_limit, exceeds_max, part_in, NullSlots}
 use Rattle.sel_arrow.proofs.NestedRows.{length-rows, has_blocks}
 use Rattle.sel_arrow.specs.declared.fixed_size_list.FixedSizeListArray.{FixedSizeListArray}
-
-few_of : (n : ℕ) → is_few n ≡ true → n ≤ max_rows
-few_of n e = grind (arith, nat_tests, e)
 
 count_few : (c : Column) → well_formed c ≡ true → row_count c ≤ max_rows
 count_few (NullColumn column) formed = column.rows_fit
@@ -23,18 +21,7 @@ count_few (UInt128 column) formed = column.rows_fit
 count_few (LargeBinary column) formed = column.rows_fit
 count_few (BinaryView column) formed = column.rows_fit
 count_few (Utf8View column) formed = column.bytes.rows_fit
-count_few (LargeList' offsets p values validity) formed =
-    few_of (rows_between offsets) (and_second (is_rising offsets) (is_few (rows_between offsets))
-    (and_first (is_rising offsets && is_few (rows_between offsets)) (nat_le (last_offset offsets) (row_count values))
-    (and_first (is_rising offsets && is_few (rows_between offsets) && nat_le (last_offset offsets) (row_count values)) (covers validity (rows_between offsets)) (and_first _ (well_formed values) formed))))
-count_few (FixedSizeList' size len p values validity) formed =
-    few_of len (and_first (is_few len) (is_few size)
-    (and_first (is_few len && is_few size) (row_count values == len * size)
-    (and_first (is_few len && is_few size && (row_count values == len * size)) (covers validity len) (and_first _ (well_formed values) formed))))
-count_few (Struct' len n fields validity) formed = few_of len (and_first (is_few len) (covers validity len) (and_first _ (all_well_formed len fields) formed))
-
-not_past : (n : ℕ) → n ≤ max_rows → exceeds_max n ≡ false
-not_past n few = grind (arith, nat_tests, few)
+count_few c formed = grind (arith, nat_tests, formed)
 
 -- The rows of a column are not too many.
 pub rows_few : (array : ArrayRef) (vs : List Value) → rows array.column ≡ vs → exceeds_max (length vs) ≡ false
@@ -42,42 +29,26 @@ rows_few array vs are =
     let count = length-rows array.column in
     let few = count_few array.column array.formed in
     let same = ap length are in
-    not_past (length vs) (omega (arith, count, few, same))
-
-pub neither : (a b : Bool) → a ≡ false → b ≡ false → (a || b) ≡ false
-neither a b none other = ap (λ x. x || b) none ∙ other
+    le-ltb max_rows (length vs) (omega (arith, count, few, same))
 
 -- Rows of an integer type exceed a limit only if they are too many.
 pub numbers_within : (b : NullSlots) (s : Shape) (z : ℤ) (vs : List Value) → fits_number s z ≡ true → exceeds_max (length vs) ≡ false → exceeds_limit b s vs ≡ false
 numbers_within b of_int8 z vs number few = few
-numbers_within b of_int16 z vs number few = few
-numbers_within b of_int32 z vs number few = few
-numbers_within b of_int64 z vs number few = few
-numbers_within b of_int128 z vs number few = few
-numbers_within b of_uint8 z vs number few = few
-numbers_within b of_uint16 z vs number few = few
-numbers_within b of_uint32 z vs number few = few
-numbers_within b of_uint64 z vs number few = few
-numbers_within b of_uint128 z vs number few = few
-numbers_within b s z vs number few = absurd (true≢false (sym number))
+numbers_within b s z vs number few = first_of (cc, search few)
 
 -- The list size of a column of fixed-size lists is not too large.
 pub width_few : (array : FixedSizeListArray) → exceeds_max array.size ≡ false
-width_few array = let has = has_blocks array.size array.len array.values.value array.validity array.formed in not_past array.size has.narrow
-
-either_none : (a b : Bool) → (a || b) ≡ false → (a ≡ false) × (b ≡ false)
-either_none true b none = absurd (true≢false none)
-either_none false b none = (refl, none)
+width_few array = let has = has_blocks array.size array.len array.values.value array.validity array.formed in le-ltb max_rows array.size has.narrow
 
 -- One more field exceeds no limit, so none of the fields does.
 one_within : (b : NullSlots) (xs : List Shape) (s : Shape) (place n : ℕ) (vs : List Value) → place + length xs ≡ n → any_exceeds_limit b (shapes_of xs) place vs ≡ false → exceeds_limit b s (map (part_in n) vs) ≡ false → any_exceeds_limit b (shapes_of (xs ++ s ∷ [])) place vs ≡ false
 one_within b [] s place n vs at none one =
     let here : n ≡ place = omega (arith, at) in
-    neither (exceeds_limit b s (map (part_in place) vs)) false (subst (λ m. exceeds_limit b s (map (part_in m) vs) ≡ false) here one) refl
+    or_from (exceeds_limit b s (map (part_in place) vs)) false (subst (λ m. exceeds_limit b s (map (part_in m) vs) ≡ false) here one) refl
 one_within b (x ∷ xs) s place n vs at none one =
-    let both = either_none (exceeds_limit b x (map (part_in place) vs)) (any_exceeds_limit b (shapes_of xs) (place + 1) vs) none in
+    let both = or_parts (exceeds_limit b x (map (part_in place) vs)) (any_exceeds_limit b (shapes_of xs) (place + 1) vs) none in
     let next : (place + 1) + length xs ≡ n = omega (arith, at) in
-    neither (exceeds_limit b x (map (part_in place) vs)) (any_exceeds_limit b (shapes_of (xs ++ s ∷ [])) (place + 1) vs) both.0 (one_within b xs s (place + 1) n vs next both.1 one)
+    or_from (exceeds_limit b x (map (part_in place) vs)) (any_exceeds_limit b (shapes_of (xs ++ s ∷ [])) (place + 1) vs) both.0 (one_within b xs s (place + 1) n vs next both.1 one)
 
 pub fields_within : (b : NullSlots) (dtypes : List ArrowDataType) (dtype : ArrowDataType) (k : ℕ) (vs : List Value) → k < length dtypes → dtype ≡ get_or dtypes k dtype →
     any_exceeds_limit b (shapes_of (map shape_of (take k dtypes))) 0 vs ≡ false → exceeds_limit b (shape_of dtype) (map (part_in k) vs) ≡ false → any_exceeds_limit b (shapes_of (map shape_of (take (k + 1) dtypes))) 0 vs ≡ false

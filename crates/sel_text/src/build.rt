@@ -372,6 +372,7 @@ fn entries_between<'a, 'b: 'a>(
 }
 
 /// Appends the entries of a list, or those for a null slot. Fails only with `OutOfMemory`.
+#[tactic(auto, using(crate::proofs::ItemRows::entries_read))]
 fn push_below<'a, 'b: 'a>(
     entries: &mut Vec<&'a Item>,
     item: &'b Item,
@@ -472,6 +473,7 @@ fn block_child(
 
 /// Returns the concatenated entries of the lists, with a run of `size` nulls for each null row.
 /// Fails only with `OutOfMemory`.
+#[tactic(auto, using(crate::proofs::RowRuns::runs_more))]
 fn entries_of<'a, 'b: 'a>(
     alloc: Global,
     items: &[RowRun<'b>],
@@ -493,6 +495,7 @@ fn entries_of<'a, 'b: 'a>(
 
 /// Appends the entries of a list, or `size` nulls for a null row, as often as the row is repeated.
 /// Fails only with `OutOfMemory`.
+#[tactic(auto, using(crate::proofs::RowRuns::runs_more))]
 fn push_blocks<'a, 'b: 'a>(
     entries: &mut Vec<RowRun<'a>>,
     run: &RowRun<'b>,
@@ -515,6 +518,7 @@ fn push_blocks<'a, 'b: 'a>(
 }
 
 /// Returns the entries of a list, or none for any other row.
+#[tactic(auto, using(crate::proofs::ItemRows::block_read))]
 fn list_of(item: &Item) -> Option<&[Item]>
     ensures list { IfSome result (λ list. (size : ℕ) →
         block_in size (item_value item.now) ≡ map item_value list.now) }
@@ -646,6 +650,7 @@ fn push_fields(
 
 /// Returns the entry of each struct row at index `place`, or `other` for a null row. Fails only
 /// with `OutOfMemory`.
+#[tactic(auto, using(crate::proofs::RowRuns::runs_more))]
 fn parts_at<'a, 'b: 'a>(
     alloc: Global,
     items: &[RowRun<'b>],
@@ -666,7 +671,7 @@ fn parts_at<'a, 'b: 'a>(
 }
 
 /// Returns the entry of a struct row at index `place`, or `other` if the row is null.
-#[tactic(auto, using(crate::proofs::ItemParts::part_there, crate::proofs::ItemParts::part_none))]
+#[tactic(auto, using(crate::proofs::ItemRows::part_there, crate::proofs::ItemRows::part_none))]
 fn part_at<'a, 'b: 'a>(item: &'b Item, place: usize, other: &'a Item) -> &'a Item
     ensures { item_value other.now ≡ Null →
         item_value result.now ≡ part_in place (item_value item.now) }

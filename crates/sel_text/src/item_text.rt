@@ -217,6 +217,7 @@ fn push_binary(bytes: &[u8], text: &mut String) -> Result<bool, AllocError>
 }
 
 /// Appends a string in quotes to `text`; `false` if the bytes are no UTF-8.
+#[tactic(auto, using(crate::proofs::ItemTexts::strings))]
 fn push_string(bytes: &[u8], text: &mut String) -> Result<bool, AllocError>
     ensures fit { IfOk result (λ fit. fit ≡ is_utf8 bytes.now) }
     ensures text { IfOk result (λ fit. IsTrue fit → string_bytes text.new ≡

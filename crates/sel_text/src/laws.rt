@@ -25,7 +25,7 @@ pub fn law_column_types_are_written()
 /// The text of a type is its own canonical spelling: `parse_dtype` accepts the output of
 /// `print_dtype`, unless the type is nested too deeply or memory is exhausted, and returns the same
 /// type if its list sizes fit in 64 bits.
-#[tactic(auto, using(crate::proofs::Spelled::type_spelled))]
+#[tactic(auto, using(crate::proofs::SpelledRows::type_spelled))]
 pub fn law_type_text_is_spelled()
     ensures { TypeTextIsSpelled }
 {}

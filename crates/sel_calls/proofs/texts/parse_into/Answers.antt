@@ -3,8 +3,7 @@ use Rattle.sel_calls.proofs.Common.{shape_of, Shape, exceeds_limit, depth, nat_t
 use Rattle.sel_calls.specs.Parsed.{IsRowsText}
 use Rattle.sel_text.specs.TextErrors.{HasFittingRows}
 use Rattle.sel_text.specs.declared.build.NullSlots.TheVariants.{Zeros}
-use Rattle.sel_text.proofs.Making.{or_second}
-use Rattle.sel_text.proofs.Within.{neither}
+use Rattle.std.proofs.lemmas.Bool.{or_from, or_right}
 use Rattle.sel_text.proofs.OneType.{one_spelled}
 use Rattle.sel_calls.proofs.texts.parse_into.Goals as goal
 
@@ -40,11 +39,11 @@ returns-in-Err-made c =
       accepted = λ shape values named texts.
           let same : shape_of c.in-Ok.dtype ≡ shape = one_spelled c.args.name.now (shape_of c.in-Ok.dtype) shape c.in-Ok.ensures.narrow named.0 c.in-Ok.ensures.text named.2 in
           let short = c.in-Err-made.ensures.refused values (subst (λ s. IsRowsText s values c.args.text.now) (sym same) texts) in
-          or_second _ _ (c.rows_error_status.ensures.short short);
+          or_right _ _ (c.rows_error_status.ensures.short short);
       limit = λ limit shape values named texts.
           let same : shape_of c.in-Ok.dtype ≡ shape = one_spelled c.args.name.now (shape_of c.in-Ok.dtype) shape c.in-Ok.ensures.narrow named.0 c.in-Ok.ensures.text named.2 in
           let past = c.in-Err-made.ensures.limit (c.rows_error_status.ensures.limit limit) values (subst (λ s. IsRowsText s values c.args.text.now) (sym same) texts) in
-          or_second (nat_lt 64 (depth shape)) (exceeds_limit Zeros shape values) (subst (λ s. exceeds_limit Zeros s values ≡ true) same past);
+          or_right (nat_lt 64 (depth shape)) (exceeds_limit Zeros shape values) (subst (λ s. exceeds_limit Zeros s values ≡ true) same past);
       type_error = search rules;
       row_error = search rules;
       misfit = search rules;
@@ -70,7 +69,7 @@ returns-in-Ok-made c =
           let levels : depth shape ≤ 64 = subst (λ s. depth s ≤ 64) same c.in-Ok.ensures.levels in
           let shallow : nat_lt 64 (depth shape) ≡ false = grind (arith, nat_tests, levels) in
           let fits = c.in-Ok-made.ensures.within values (subst (λ s. IsRowsText s values c.args.text.now) (sym same) texts) in
-          neither (nat_lt 64 (depth shape)) (exceeds_limit Zeros shape values) shallow (subst (λ s. exceeds_limit Zeros s values ≡ false) same fits);
+          or_from (nat_lt 64 (depth shape)) (exceeds_limit Zeros shape values) shallow (subst (λ s. exceeds_limit Zeros s values ≡ false) same fits);
       accepted = search rules;
       limit = search rules;
       type_error = search rules;

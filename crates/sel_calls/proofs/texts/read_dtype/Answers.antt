@@ -3,7 +3,7 @@ use Rattle.sel_calls.proofs.Common.{nat_tests, shape_of, exceeds_limit, depth}
 use Rattle.std.proofs.lemmas.Str.{IsUtf8-from_is_utf8}
 use Rattle.sel_text.specs.Spelling.{spelled}
 use Rattle.sel_text.specs.declared.build.NullSlots.TheVariants.{Zeros}
-use Rattle.sel_text.proofs.Making.{or_first, or_second}
+use Rattle.std.proofs.lemmas.Bool.{or_left, or_right}
 use Rattle.sel_text.proofs.OneType.{one_spelled}
 use Rattle.sel_calls.proofs.WideTypes.{wide_past}
 use Rattle.sel_calls.proofs.texts.read_dtype.Goals as goal
@@ -15,14 +15,14 @@ pub returns-in-Err-parse_dtype-clause-limit : goal.returns-in-Err-parse_dtype-cl
 returns-in-Err-parse_dtype-clause-limit c = λ limit shape values named.
     let read : c.in-Ok.text.now ≡ c.args.bytes.now = c.in-Ok.ensures.cases.0 in
     let deep : 64 < depth shape = c.in-Err-parse_dtype.ensures.limit limit shape named.0 (ap spelled read ∙ named.2) in
-    or_first (nat_lt 64 (depth shape)) (exceeds_limit Zeros shape values) (grind (arith, nat_tests, deep))
+    or_left (nat_lt 64 (depth shape)) (exceeds_limit Zeros shape values) (grind (arith, nat_tests, deep))
 
 pub returns-then-not-widths_fit-clause-limit : goal.returns-then-not-widths_fit-clause-limit
 returns-then-not-widths_fit-clause-limit c = λ limit shape values named.
     let read : c.in-Ok.text.now ≡ c.args.bytes.now = c.in-Ok.ensures.cases.0 in
     let same : shape_of c.in-Ok-parse_dtype.dtype ≡ shape = one_spelled c.in-Ok.text.now (shape_of c.in-Ok-parse_dtype.dtype) shape c.in-Ok-parse_dtype.ensures.widths named.0 c.in-Ok-parse_dtype.ensures.text (ap spelled read ∙ named.2) in
     let past = wide_past Zeros c.in-Ok-parse_dtype.dtype (sym c.widths_fit.ensures ∙ c.if-not-widths_fit.true) values in
-    or_second (nat_lt 64 (depth shape)) (exceeds_limit Zeros shape values) (subst (λ s. exceeds_limit Zeros s values ≡ true) same past)
+    or_right (nat_lt 64 (depth shape)) (exceeds_limit Zeros shape values) (subst (λ s. exceeds_limit Zeros s values ≡ true) same past)
 
 pub returns-in-Err-clause-limit : goal.returns-in-Err-clause-limit
 returns-in-Err-clause-limit c = λ limit shape values named. absurd (c.in-Err.ensures.cases.0 (IsUtf8-from_is_utf8 c.args.bytes.now named.1))

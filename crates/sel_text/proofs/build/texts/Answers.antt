@@ -1,7 +1,7 @@
 use Rattle.std.proofs.Common.{◌≡◌, true, length, ap, refl, ◌∙◌}
-use Rattle.sel_text.proofs.Common.{binview_rows, of_utf8_view, all_text, rows_repeated, rows, view_rows, all_placed_bytes, exceeds_max}
+use Rattle.sel_text.proofs.Common.{or_from, binview_rows, of_utf8_view, all_text, rows_repeated, rows, view_rows, all_placed_bytes, exceeds_max}
 use Rattle.sel_text.proofs.Refusals.{makes_told, never_broken, no_text_fault, texts_fit}
-use Rattle.sel_text.proofs.Within.{neither, rows_few}
+use Rattle.sel_text.proofs.Within.{rows_few}
 use Rattle.sel_text.proofs.build.texts.Goals as goal
 
 pub returns-in_err-try_new : goal.returns-in_err-try_new
@@ -21,4 +21,4 @@ returns c = λ fit.
     let are : rows c.into_ref.result.column ≡ rows_repeated items =
     c.into_ref.ensures.rows ∙ ap (λ v. view_rows v column.bytes.buffers column.bytes.validity) made.views ∙ ap (λ b. view_rows array.views b column.bytes.validity) made.buffers
     ∙ ap (view_rows array.views array.buffers) made.validity ∙ c.in_ok-views.ensures.views of_utf8_view refl fit in
-    (c.into_ref.ensures.dtype, are, neither (exceeds_max (length (rows_repeated items))) (exceeds_max (all_placed_bytes (rows_repeated items))) (rows_few c.into_ref.result (rows_repeated items) are) (c.in_ok-views.ensures.within of_utf8_view refl fit))
+    (c.into_ref.ensures.dtype, are, or_from (exceeds_max (length (rows_repeated items))) (exceeds_max (all_placed_bytes (rows_repeated items))) (rows_few c.into_ref.result (rows_repeated items) are) (c.in_ok-views.ensures.within of_utf8_view refl fit))

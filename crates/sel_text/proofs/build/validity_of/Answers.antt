@@ -1,17 +1,14 @@
-use Rattle.std.proofs.Common.{◌∷◌, [], ◌++◌, ap, sym, ◌∙◌, take, arith}
+use Rattle.std.proofs.Common.{ap, sym, ◌∙◌, arith}
 use Rattle.std.specs.Borrow.{Bor}
-use Rattle.sel_text.proofs.Common.{list_all, is_valid, item_value, Item, map_more, take_all, Bits, all_items}
+use Rattle.sel_text.proofs.Common.{list_all, is_valid, item_value, Item, push_more, take_all, Bits, all_items}
 use Rattle.sel_text.proofs.Shown.{items_hidden, items_shown, valid_items}
 use Rattle.sel_text.proofs.RowRuns.{count_rows, next_of}
 use Rattle.sel_text.proofs.build.validity_of.Goals as goal
 
 pub loop-preserved : goal.loop-preserved
 loop-preserved c =
-    let items = all_items c.args.items.now in
-    let next = next_of items c.loop.counter c.next.result _ (sym c.loop.invariant.0 ∙ c.next.ensures) in
-    let more = map_more (λ (item : Bor Item). is_valid (item_value item.now)) items c.loop.counter c.next.result next.inside in
-    let here = c.is_filled.ensures ∙ ap (λ (item : Bor Item). is_valid (item_value item.now)) next.is in
-    (next.others, c.in_ok-push.ensures.items ∙ ap (λ l. l ++ c.is_filled.result ∷ []) c.loop.invariant.1 ∙ ap (λ b. valid_items (take c.loop.counter items) ++ b ∷ []) here ∙ sym more)
+    let next = next_of (all_items c.args.items.now) c.loop.counter c.next.result _ (sym c.loop.invariant.0 ∙ c.next.ensures) in
+    (next.others, push_more (λ (item : Bor Item). is_valid (item_value item.now)) _ _ _ c.loop.counter c.next.result _ next.inside next.is c.is_filled.ensures c.in_ok-push.ensures.items c.loop.invariant.1)
 
 pub returns-then-all_true-clause-hides : goal.returns-then-all_true-clause-hides
 returns-then-all_true-clause-hides c =

@@ -49,10 +49,9 @@ returns-in_err-try_new-clause-limit c =
     let count : length views ≡ length (rows_read items) =
     ap length c.in_ok-views-2.ensures.items ∙ views_count store c.loop.views.items (stored_bytes c.args.beneath items) so ∙ stored_count c.args.beneath items in
     let placed = subst (λ v. IsTrue (all_placed (store ∷ []) v)) (sym c.in_ok-views-2.ensures.items) so.placed in
-    let covers = c.in_ok-validity_of.ensures.covers in
     let fallen = subst (λ b. IsFault (binview_fault views b validity) error) viewed c.in_err-try_new.ensures.refused in
     if_made c.from_residual-in_err-try_new.result error _ c.from_residual-in_err-try_new.ensures.1
-    (λ fault told. λ shape view fit. binview_told c.args.beneath shape (rows_read items) views (store ∷ []) validity error fault count refl placed covers fallen told)
+    (λ fault told. λ shape view fit. binview_told c.args.beneath shape (rows_read items) views (store ∷ []) validity error count refl placed c.in_ok-validity_of.ensures.covers fallen fault told)
 
 pub returns : goal.returns
 returns c =

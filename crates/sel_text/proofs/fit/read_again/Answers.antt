@@ -1,6 +1,6 @@
 use Rattle.sel_arrow.specs.Rows.{type_of}
 use Rattle.sel_text.proofs.ColumnTypes.{column_written}
-use Rattle.sel_text.proofs.RoundTrip.{levels_again, type_again, type_limit, type_refused, type_told}
+use Rattle.sel_text.proofs.RoundTrip.{type_back, type_told}
 use Rattle.sel_text.proofs.fit.read_again.Goals as goal
 
 pub returns-in-Ok-print_dtype : goal.returns-in-Ok-print_dtype
@@ -10,10 +10,5 @@ returns-in-Ok-print_dtype c =
     let read = c.parse_dtype in
     let written = column_written c.args.column.now c.requires in
     let told = type_told s _ text _ written c.in-Ok.ensures.dtype c.deref.ensures c.in-Ok-print_dtype.ensures.text in
-    let again = type_again s text written told read.result read.ensures.text read.ensures.widths in
-    record {
-      dtype = again;
-      levels = levels_again s text written told read.result again read.ensures.levels;
-      refused = type_refused s text written told read.result read.ensures.refused;
-      limit = type_limit s text written told read.result read.ensures.limit;
-    }
+    let back = type_back s text written told read.result read.ensures.text read.ensures.widths read.ensures.levels read.ensures.refused read.ensures.limit in
+    record { dtype = back.0; levels = back.1; refused = back.2; limit = back.3 }

@@ -1,10 +1,11 @@
 use Rattle.std.proofs.Common.{◌≡◌, ◌∙◌, ap, sym, subst, arith, ◌+◌, length, drop, map, Result, Ok, Err, IsErrAnd, MatchResult, eqb-true}
 use Rattle.sel_text.proofs.Common.{length-map, shape_of, of_large_list, of_fixed_size_list, of_struct, shapes_of, listed, item_value, IsMemoryFault, Fault, OutOfMemory}
 use Rattle.sel_arrow.proofs.Types.{struct_shape}
-use Rattle.sel_text.proofs.Entries.{IsLeft, HasParts, shapes_from, items_opened, no_items, some_items, item_begins, last_item, more_items, less_room, bracket_or_comma, not_ended, parts_opened, part_left, comma_before, part_begins, part_read, parts_end}
+use Rattle.sel_text.proofs.Commas.{bracket_or_comma}
+use Rattle.sel_text.proofs.Entries.{IsLeft, HasParts, shapes_from, items_opened, no_items, some_items, item_begins, last_item, more_items, less_room, not_ended, parts_opened, part_left, comma_before, part_begins, part_read, parts_end}
 use Rattle.sel_text.specs.declared.item.Item.TheVariants.{Items, Parts}
 use Rattle.sel_text.proofs.ItemRows.{item_more, items_value, parts_value}
-use Rattle.sel_text.proofs.Rows.{Reads, null_read, list_row, block_row, tuple_row}
+use Rattle.sel_text.proofs.Rows.{null_read, list_row, block_row, tuple_row}
 use Rattle.sel_text.proofs.item.+reading_rows.Goals as goal
 
 memory_error : {T : Type 0} (P : T → Type 0) (r : Result T Fault) → IsErrAnd r (λ fault. fault ≡ OutOfMemory) → MatchResult r P IsMemoryFault
@@ -16,18 +17,15 @@ read_item-returns-in-Some t c = λ value more begins. null_read (shape_of c.args
 
 pub read_item-returns-in-Ok-read_parts : goal.read_item-returns-in-Ok-read_parts
 read_item-returns-in-Ok-read_parts t c =
-    let shapes = shapes_of (map shape_of c.deref-in-Struct.result.now) in
-    let same : of_struct shapes ≡ shape_of c.args.dtype.now = ap (λ l. of_struct (shapes_of (map shape_of l))) c.deref-in-Struct.ensures.value ∙ sym (struct_shape c.args.dtype.now c.in-Struct.fields c.in-Struct.is) in
-    subst (λ s. Reads (λ v more. (item_value (Parts c.in-Ok-read_parts.parts) ≡ v) × (c.in-Ok-read_parts.rest.now ≡ more)) s c.args.bytes.now) same
-    (tuple_row (λ v more. (item_value (Parts c.in-Ok-read_parts.parts) ≡ v) × (c.in-Ok-read_parts.rest.now ≡ more)) c.args.bytes.now c.in_default.ensures shapes
-    (λ entries more fit is. let told = c.in-Ok-read_parts.ensures entries more fit is in (parts_value c.in-Ok-read_parts.parts entries told.0, told.1)))
+    let same = ap (λ l. of_struct (shapes_of (map shape_of l))) c.deref-in-Struct.ensures.value ∙ sym (struct_shape c.args.dtype.now c.in-Struct.fields c.in-Struct.is) in
+    tuple_row (λ v more. (item_value (Parts c.in-Ok-read_parts.parts) ≡ v) × (c.in-Ok-read_parts.rest.now ≡ more)) c.args.bytes.now c.in_default.ensures _ _ same
+    (λ entries more fit is. let told = c.in-Ok-read_parts.ensures entries more fit is in (parts_value c.in-Ok-read_parts.parts entries told.0, told.1))
 
 pub read_item-returns-in-Err-read_parts : goal.read_item-returns-in-Err-read_parts
 read_item-returns-in-Err-read_parts t c =
-    let shapes = shapes_of (map shape_of c.deref-in-Struct.result.now) in
-    let same : of_struct shapes ≡ shape_of c.args.dtype.now = ap (λ l. of_struct (shapes_of (map shape_of l))) c.deref-in-Struct.ensures.value ∙ sym (struct_shape c.args.dtype.now c.in-Struct.fields c.in-Struct.is) in
-    subst (λ s. Reads (λ v more. IsMemoryFault c.of_value.result) s c.args.bytes.now) same (tuple_row (λ v more. IsMemoryFault c.of_value.result) c.args.bytes.now c.in_default.ensures shapes
-    (λ entries more fit is. c.of_value.ensures (c.in-Err-read_parts.ensures entries more fit is)))
+    let same = ap (λ l. of_struct (shapes_of (map shape_of l))) c.deref-in-Struct.ensures.value ∙ sym (struct_shape c.args.dtype.now c.in-Struct.fields c.in-Struct.is) in
+    tuple_row (λ v more. IsMemoryFault c.of_value.result) c.args.bytes.now c.in_default.ensures _ _ same
+    (λ entries more fit is. c.of_value.ensures (c.in-Err-read_parts.ensures entries more fit is))
 
 pub read_items-returns-in-Some : goal.read_items-returns-in-Some
 read_items-returns-in-Some t c = λ entries more fit is.
@@ -84,31 +82,24 @@ read_parts-returns t c = λ entries more fit is. absurd (c.in-Err-expect.ensures
 
 pub read_item-returns-then-len-size : goal.read_item-returns-then-len-size
 read_item-returns-then-len-size t c =
-    let s = shape_of c.deref-in-FixedSizeList.result.now in
-    let size = c.in-FixedSizeList.size in
-    let same : of_fixed_size_list s size ≡ shape_of c.args.dtype.now = ap (λ d. of_fixed_size_list (shape_of d) size) c.deref-in-FixedSizeList.ensures ∙ sym (ap shape_of c.in-FixedSizeList.is) in
-    subst (λ s. Reads (λ v more. ⊥) s c.args.bytes.now) same (block_row (λ v more. ⊥) c.args.bytes.now c.in_default.ensures s size
+    let same = ap (λ d. of_fixed_size_list (shape_of d) c.in-FixedSizeList.size) c.deref-in-FixedSizeList.ensures ∙ sym (ap shape_of c.in-FixedSizeList.is) in
+    block_row (λ v more. ⊥) c.args.bytes.now c.in_default.ensures _ _ _ same
     (λ entries more count fit is.
     let long = sym (length-map c.in-Ok-read_items.items.items item_value) ∙ ap length (c.in-Ok-read_items.ensures entries more fit is).0 in
     let told = eqb-true _ _ count in
-    c.if-len-size.true (omega (arith, c.len.ensures, c.in-Ok-read_items.items.ok, long, told))))
+    c.if-len-size.true (omega (arith, c.len.ensures, c.in-Ok-read_items.items.ok, long, told)))
 
 pub read_item-returns-else-len-size : goal.read_item-returns-else-len-size
 read_item-returns-else-len-size t c =
-    let s = shape_of c.deref-in-FixedSizeList.result.now in
-    let size = c.in-FixedSizeList.size in
-    let same : of_fixed_size_list s size ≡ shape_of c.args.dtype.now = ap (λ d. of_fixed_size_list (shape_of d) size) c.deref-in-FixedSizeList.ensures ∙ sym (ap shape_of c.in-FixedSizeList.is) in
-    subst (λ s. Reads (λ v more. (item_value (Items c.in-Ok-read_items.items) ≡ v) × (c.in-Ok-read_items.rest.now ≡ more)) s c.args.bytes.now) same
-    (block_row (λ v more. (item_value (Items c.in-Ok-read_items.items) ≡ v) × (c.in-Ok-read_items.rest.now ≡ more)) c.args.bytes.now c.in_default.ensures s size
-    (λ entries more count fit is. let told = c.in-Ok-read_items.ensures entries more fit is in (items_value c.in-Ok-read_items.items entries told.0, told.1)))
+    let same = ap (λ d. of_fixed_size_list (shape_of d) c.in-FixedSizeList.size) c.deref-in-FixedSizeList.ensures ∙ sym (ap shape_of c.in-FixedSizeList.is) in
+    block_row (λ v more. (item_value (Items c.in-Ok-read_items.items) ≡ v) × (c.in-Ok-read_items.rest.now ≡ more)) c.args.bytes.now c.in_default.ensures _ _ _ same
+    (λ entries more count fit is. let told = c.in-Ok-read_items.ensures entries more fit is in (items_value c.in-Ok-read_items.items entries told.0, told.1))
 
 pub read_item-returns-in-Err-read_items : goal.read_item-returns-in-Err-read_items
 read_item-returns-in-Err-read_items t c =
-    let s = shape_of c.deref-in-FixedSizeList.result.now in
-    let size = c.in-FixedSizeList.size in
-    let same : of_fixed_size_list s size ≡ shape_of c.args.dtype.now = ap (λ d. of_fixed_size_list (shape_of d) size) c.deref-in-FixedSizeList.ensures ∙ sym (ap shape_of c.in-FixedSizeList.is) in
-    subst (λ s. Reads (λ v more. IsMemoryFault c.in-Err-read_items.fault) s c.args.bytes.now) same (block_row (λ v more. IsMemoryFault c.in-Err-read_items.fault) c.args.bytes.now c.in_default.ensures s size
-    (λ entries more count fit is. c.in-Err-read_items.ensures entries more fit is))
+    let same = ap (λ d. of_fixed_size_list (shape_of d) c.in-FixedSizeList.size) c.deref-in-FixedSizeList.ensures ∙ sym (ap shape_of c.in-FixedSizeList.is) in
+    block_row (λ v more. IsMemoryFault c.in-Err-read_items.fault) c.args.bytes.now c.in_default.ensures _ _ _ same
+    (λ entries more count fit is. c.in-Err-read_items.ensures entries more fit is)
 
 pub read_items-returns-in-Err-read_item : goal.read_items-returns-in-Err-read_item
 read_items-returns-in-Err-read_item t c = λ entries more fit is.
@@ -144,8 +135,6 @@ read_parts-returns-in-Ok-expect t c = λ entries more fit is.
 
 pub read_item-returns-in-Ok : goal.read_item-returns-in-Ok
 read_item-returns-in-Ok t c =
-    let s = shape_of c.deref.result.now in
-    let same : of_large_list s ≡ shape_of c.args.dtype.now = ap (λ d. of_large_list (shape_of d)) c.deref.ensures ∙ sym (ap shape_of c.in-LargeList.is) in
-    subst (λ s. Reads (λ v more. (item_value (Items c.in-Ok.items) ≡ v) × (c.in-Ok.rest.now ≡ more)) s c.args.bytes.now) same
-    (list_row (λ v more. (item_value (Items c.in-Ok.items) ≡ v) × (c.in-Ok.rest.now ≡ more)) c.args.bytes.now c.in_default.ensures s
-    (λ entries more fit is. let told = c.in-Ok.ensures entries more fit is in (items_value c.in-Ok.items entries told.0, told.1)))
+    let same = ap (λ d. of_large_list (shape_of d)) c.deref.ensures ∙ sym (ap shape_of c.in-LargeList.is) in
+    list_row (λ v more. (item_value (Items c.in-Ok.items) ≡ v) × (c.in-Ok.rest.now ≡ more)) c.args.bytes.now c.in_default.ensures _ _ same
+    (λ entries more fit is. let told = c.in-Ok.ensures entries more fit is in (items_value c.in-Ok.items entries told.0, told.1))

@@ -1,6 +1,7 @@
 use Rattle.std.proofs.Common.{arith, ap, sym, ◌∙◌, true≢false}
 use Rattle.sel_text.proofs.Common.{Number, fits_number}
-use Rattle.sel_text.proofs.Numbers.{digits_told, below_small, below_signed, below_kept}
+use Rattle.sel_text.proofs.Ends.{digits_told}
+use Rattle.sel_text.proofs.Numbers.{below_small, below_signed, below_kept}
 use Rattle.sel_text.proofs.item.read_negative.Goals as goal
 
 pub returns-in_default : goal.returns-in_default

@@ -1,9 +1,10 @@
-use Rattle.std.proofs.Common.{rules, ◌≡◌, ◌∙◌, ◌+◌, ◌<◌, ◌++◌, ◌∷◌, [], ap, sym, lit<, arith, take, map, length, length-take, get_or, true, false, string_bytes}
-use Rattle.sel_text.proofs.Common.{map_more, map-append, take_more, length-map, get_or-map, IfOk-weaker, shape_of, of_large_list, of_fixed_size_list, of_struct, shapes_of, Items, Null, Tuple, values_of, list_all, fits, fields_fit, item_value, item_shape, parenthesized, part_texts, text_of, value_text}
+use Rattle.std.proofs.Common.{rules, ◌≡◌, ◌∙◌, ◌+◌, ◌<◌, ◌++◌, ◌∷◌, [], ap, sym, lit<, arith, take, map, length, length-take, get_or, string_bytes}
+use Rattle.sel_text.proofs.Common.{list_all_at, map_more, map-append, take_more, length-map, get_or-map, IfOk-weaker, shape_of, of_large_list, of_fixed_size_list, of_struct, shapes_of, Items, Null, Tuple, values_of, list_all, fits, fields_fit, item_value, item_shape, parenthesized, part_texts, value_text}
 use Rattle.sel_arrow.proofs.Types.{struct_shape}
 use Rattle.sel_text.proofs.Equalities.{list_back}
-use Rattle.sel_text.proofs.ItemTexts.{list_is, tuple_is, all_fit_is, no_list, other_size, same_size, all_fails, all_grown, fields_fail, other_count, fields_more, parts_more, parts_count}
-use Rattle.sel_text.proofs.Printed.{opened_first, opened_more, list_text}
+use Rattle.sel_text.proofs.ItemRows.{list_is, tuple_is}
+use Rattle.sel_text.proofs.ItemTexts.{list_row, no_list, other_size, same_size, all_grown, fields_fail, other_count, fields_more, parts_more, parts_count}
+use Rattle.sel_text.proofs.Printed.{opened_first, opened_more}
 use Rattle.sel_text.proofs.item_text.+writing_items.Goals as goal
 use Rattle.sel_text.proofs.item_text.+writing_items.Goals.{push_list-then-k-gt0+in_ok-push-2, push_list-else-k-gt0, push_fields-then-k-gt0+in_ok-push-2, push_fields-else-k-gt0}
 
@@ -11,18 +12,12 @@ use Rattle.sel_text.proofs.item_text.+writing_items.Goals.{push_list-then-k-gt0+
 
 pub push_item-returns-in-LargeList : goal.push_item-returns-in-LargeList
 push_item-returns-in-LargeList t c =
-    let s = shape_of c.deref-in-LargeList.result.now in
-    let dtype = shape_of c.args.dtype.now in
-    let vs = map item_value c.in-Items.items.items in
-    let row = item_value c.args.item.now in
-    let same : of_large_list s ≡ dtype = ap (λ d. of_large_list (shape_of d)) c.deref-in-LargeList.ensures ∙ sym (ap shape_of c.in-LargeList.is) in
-    let value = list_is c.args.item.now c.in-Items.items c.in-Items.is in
-    let items = c.deref-in-LargeList-2.ensures.value in
-    let fits_row = ap (λ l. list_all (fits s) (map item_value l)) items ∙ sym (all_fit_is s vs) ∙ ap (λ t. fits t (Items (values_of vs))) same ∙ ap (fits dtype) (sym value) in
-    let text_row = ap (λ l. text_of s (map item_value l)) items ∙ list_text dtype s vs row (sym value) (ap item_shape (sym same)) in
+    let items = c.in-Items.items in
+    let same = ap (λ d. of_large_list (shape_of d)) c.deref-in-LargeList.ensures ∙ sym (ap shape_of c.in-LargeList.is) in
+    let row = list_row _ _ c.args.item.now items _ c.deref-in-LargeList-2.ensures.value c.in-Items.is (ap item_shape (sym same)) (ap (λ t. fits t (Items (values_of (map item_value items.items)))) same) in
     record {
-      fit = IfOk-weaker c.push_list.result _ _ (λ fit is. is ∙ fits_row) c.push_list.ensures.fit;
-      text = IfOk-weaker c.push_list.result _ _ (λ fit put is. put is ∙ ap (λ l. string_bytes c.args.text.now ++ l) text_row) c.push_list.ensures.text;
+      fit = IfOk-weaker c.push_list.result _ _ (λ fit is. is ∙ row.0) c.push_list.ensures.fit;
+      text = IfOk-weaker c.push_list.result _ _ (λ fit put is. put is ∙ ap (λ l. string_bytes c.args.text.now ++ l) row.1) c.push_list.ensures.text;
     }
 
 pub push_item-returns-then-len-size-clause-fit : goal.push_item-returns-then-len-size-clause-fit
@@ -36,21 +31,16 @@ push_item-returns-then-len-size-clause-fit t c =
 
 pub push_item-returns-else-len-size : goal.push_item-returns-else-len-size
 push_item-returns-else-len-size t c =
-    let s = shape_of c.deref-in-FixedSizeList.result.now in
-    let dtype = shape_of c.args.dtype.now in
+    let items = c.in-Items.items in
     let size = c.in-FixedSizeList.size in
-    let vs = map item_value c.in-Items.items.items in
-    let row = item_value c.args.item.now in
-    let same : of_fixed_size_list s size ≡ dtype = ap (λ d. of_fixed_size_list (shape_of d) size) c.deref-in-FixedSizeList.ensures ∙ sym (ap shape_of c.in-FixedSizeList.is) in
-    let value = list_is c.args.item.now c.in-Items.items c.in-Items.is in
-    let items = c.deref-in-FixedSizeList-2.ensures.value in
-    let count = ap length (list_back vs) ∙ length-map c.in-Items.items.items item_value in
-    let fits_row = ap (λ l. list_all (fits s) (map item_value l)) items ∙ sym (all_fit_is s vs)
-    ∙ same_size _ size _ (omega (arith, c.len.ensures, c.in-Items.items.ok, count, c.if-len-size.false)) ∙ ap (λ t. fits t (Items (values_of vs))) same ∙ ap (fits dtype) (sym value) in
-    let text_row = ap (λ l. text_of s (map item_value l)) items ∙ list_text dtype s vs row (sym value) (ap item_shape (sym same)) in
+    let vs = map item_value items.items in
+    let same = ap (λ d. of_fixed_size_list (shape_of d) size) c.deref-in-FixedSizeList.ensures ∙ sym (ap shape_of c.in-FixedSizeList.is) in
+    let count = ap length (list_back vs) ∙ length-map items.items item_value in
+    let fit = same_size _ size _ (omega (arith, c.len.ensures, items.ok, count, c.if-len-size.false)) ∙ ap (λ t. fits t (Items (values_of vs))) same in
+    let row = list_row _ _ c.args.item.now items _ c.deref-in-FixedSizeList-2.ensures.value c.in-Items.is (ap item_shape (sym same)) fit in
     record {
-      fit = IfOk-weaker c.push_list-in-FixedSizeList.result _ _ (λ fit is. is ∙ fits_row) c.push_list-in-FixedSizeList.ensures.fit;
-      text = IfOk-weaker c.push_list-in-FixedSizeList.result _ _ (λ fit put is. put is ∙ ap (λ l. string_bytes c.args.text.now ++ l) text_row) c.push_list-in-FixedSizeList.ensures.text;
+      fit = IfOk-weaker c.push_list-in-FixedSizeList.result _ _ (λ fit is. is ∙ row.0) c.push_list-in-FixedSizeList.ensures.fit;
+      text = IfOk-weaker c.push_list-in-FixedSizeList.result _ _ (λ fit put is. put is ∙ ap (λ l. string_bytes c.args.text.now ++ l) row.1) c.push_list-in-FixedSizeList.ensures.text;
     }
 
 pub push_item-returns-in_default : goal.push_item-returns-in_default
@@ -62,29 +52,27 @@ push_item-returns-in_default t c =
 
 pub push_list-returns-then-not-fit-clause-fit : goal.push_list-returns-then-not-fit-clause-fit
 push_list-returns-then-not-fit-clause-fit t c =
-    let s = shape_of c.args.dtype.now in
-    let item = c.index-items-k.result in
+    let items = c.args.items.now in
     let inside = c.loop-k-test.true in
-    let there : get_or (map item_value c.args.items.now) c.loop-k.k Null ≡ item_value item = get_or-map item_value c.args.items.now c.loop-k.k item Null inside ∙ ap item_value (sym c.index-items-k.is) in
-    all_fails (fits s) (map item_value c.args.items.now) c.loop-k.k Null (omega (arith, inside, length-map c.args.items.now item_value)) (ap (fits s) there ∙ sym c.in_ok-fit.ensures.fit ∙ c.if-not-fit.true)
+    let there = get_or-map item_value items c.loop-k.k c.index-items-k.result Null inside ∙ ap item_value (sym c.index-items-k.is) in
+    let fails = ap (fits (shape_of c.args.dtype.now)) there ∙ sym c.in_ok-fit.ensures.fit ∙ c.if-not-fit.true in
+    sym (list_all_at (fits (shape_of c.args.dtype.now)) (map item_value items) c.loop-k.k Null (rw length-map inside) fails)
 
 pub push_list-loop-k-preserved : goal.push_list-loop-k-preserved
 push_list-loop-k-preserved t c =
     let s = shape_of c.args.dtype.now in
-    let item = c.index-items-k.result in
     let xs = c.args.items.now in
     let k = c.loop-k.k in
-    let inside = c.loop-k-test.true in
-    let grown = map_more item_value xs k item inside ∙ ap (λ x. map item_value (take k xs) ++ item_value x ∷ []) (sym c.index-items-k.is) in
-    let there : get_or (map item_value xs) k Null ≡ item_value item = get_or-map item_value xs k item Null inside ∙ ap item_value (sym c.index-items-k.is) in
+    let before = map item_value (take k xs) in
+    let item = c.index-items-k.result in
+    let grown = map_more item_value xs k item c.loop-k-test.true ∙ ap (λ x. before ++ item_value x ∷ []) (sym c.index-items-k.is) in
     let fit = sym c.in_ok-fit.ensures.fit ∙ c.if-not-fit.false in
-    let texts : map (value_text s) (map item_value (take (k + 1) xs)) ≡ map (value_text s) (map item_value (take k xs)) ++ value_text s (item_value item) ∷ [] = ap (map (value_text s)) grown ∙ map-append (value_text s) (map item_value (take k xs)) (item_value item ∷ []) in
-    let count : length (map (value_text s) (map item_value (take k xs))) ≡ k = rw (length-map, length-map, length-take) (omega arith) in (
-      ap (list_all (fits s)) grown ∙ all_grown (fits s) (map item_value (take k xs)) (item_value item) c.loop-k.invariant.0 fit,
+    let texts = ap (map (value_text s)) grown ∙ map-append (value_text s) before (item_value item ∷ []) in
+    let count : length (map (value_text s) before) ≡ k = rw (length-map, length-map, length-take) (omega arith) in (
+      ap (list_all (fits s)) grown ∙ all_grown (fits s) before (item_value item) c.loop-k.invariant.0 fit,
       elim c.if-k-gt0.branch [
-        | push_list-then-k-gt0+in_ok-push-2 w ↦ opened_more _ _ _ _ 91 _ _ _ (omega (arith, count, w.if-k-gt0.true)) texts c.loop-k.invariant.1
-            (ap string_bytes w.text-is ∙ w.in_ok-push-2.ensures.bytes ∙ ap (λ r. string_bytes c.loop-k.text ++ r) (w.in_ok-push-2.ensures.ascii (lit< tt)))
-            (c.in_ok-fit.ensures.text c.if-not-fit.false)
+        | push_list-then-k-gt0+in_ok-push-2 w ↦ opened_more _ _ _ _ _ _ 91 _ _ _ (omega (arith, count, w.if-k-gt0.true)) texts c.loop-k.invariant.1
+            (ap string_bytes w.text-is) w.in_ok-push-2.ensures.bytes (w.in_ok-push-2.ensures.ascii (lit< tt)) (c.in_ok-fit.ensures.text c.if-not-fit.false)
         | push_list-else-k-gt0 w ↦ opened_first _ _ _ 91 _ _ _ (omega (arith, count, w.if-k-gt0.false)) texts (ap string_bytes w.text-is ∙ c.loop-k.invariant.1) (c.in_ok-fit.ensures.text c.if-not-fit.false)
       ],
     )
@@ -93,14 +81,14 @@ push_list-loop-k-preserved t c =
 
 pub push_item-returns-in-Struct : goal.push_item-returns-in-Struct
 push_item-returns-in-Struct t c =
-    let shapes = shapes_of (map shape_of c.deref-in-Struct.result.now) in
     let dtype = shape_of c.args.dtype.now in
+    let shapes = shapes_of (map shape_of c.deref-in-Struct.result.now) in
     let row = Tuple (values_of (map item_value c.in-Parts.parts.items)) in
-    let same : of_struct shapes ≡ dtype = ap (λ l. of_struct (shapes_of (map shape_of l))) c.deref-in-Struct.ensures.value ∙ sym (struct_shape c.args.dtype.now c.in-Struct.dtypes c.in-Struct.is) in
-    let value = tuple_is c.args.item.now c.in-Parts.parts c.in-Parts.is in
-    let parts = c.deref-in-Struct-2.ensures.value in
-    let fits_row = ap (λ l. fields_fit shapes (values_of (map item_value l))) parts ∙ ap (λ t. fits t row) same ∙ ap (fits dtype) (sym value) in
-    let text_row = ap (λ l. parenthesized (part_texts shapes (values_of (map item_value l)))) parts ∙ ap (λ t. value_text t row) same ∙ ap (value_text dtype) (sym value) in
+    let same = ap (λ l. of_struct (shapes_of (map shape_of l))) c.deref-in-Struct.ensures.value ∙ sym (struct_shape c.args.dtype.now c.in-Struct.dtypes c.in-Struct.is) in
+    let value = sym (tuple_is c.args.item.now c.in-Parts.parts c.in-Parts.is) in
+    let parts = ap (λ l. values_of (map item_value l)) c.deref-in-Struct-2.ensures.value in
+    let fits_row = ap (fields_fit shapes) parts ∙ ap (λ t. fits t row) same ∙ ap (fits dtype) value in
+    let text_row = ap (λ vs. parenthesized (part_texts shapes vs)) parts ∙ ap (λ t. value_text t row) same ∙ ap (value_text dtype) value in
     record {
       fit = IfOk-weaker c.push_fields.result _ _ (λ fit is. is ∙ fits_row) c.push_fields.ensures.fit;
       text = IfOk-weaker c.push_fields.result _ _ (λ fit put is. put is ∙ ap (λ l. string_bytes c.args.text.now ++ l) text_row) c.push_fields.ensures.text;
@@ -112,13 +100,14 @@ push_fields-returns-then-dtypes-parts-clause-fit t c =
 
 pub push_fields-returns-then-not-fit-clause-fit : goal.push_fields-returns-then-not-fit-clause-fit
 push_fields-returns-then-not-fit-clause-fit t c =
-    let part = c.index-parts-k.result in
+    let ds = c.args.dtypes.now in
+    let xs = c.args.parts.now in
+    let k = c.loop-k.k in
     let dtype = c.index-dtypes-k.result in
     let inside = c.loop-k-test.true in
-    let there : get_or (map item_value c.args.parts.now) c.loop-k.k Null ≡ item_value part = get_or-map item_value c.args.parts.now c.loop-k.k part Null inside ∙ ap item_value (sym c.index-parts-k.is) in
-    let fails : fits (shape_of (get_or c.args.dtypes.now c.loop-k.k dtype)) (get_or (map item_value c.args.parts.now) c.loop-k.k Null) ≡ false =
-    ap (λ v. fits (shape_of (get_or c.args.dtypes.now c.loop-k.k dtype)) v) there ∙ ap (λ d. fits (shape_of d) (item_value part)) (sym c.index-dtypes-k.is) ∙ sym c.in_ok-fit.ensures.fit ∙ c.if-not-fit.true in
-    fields_fail c.args.dtypes.now (map item_value c.args.parts.now) c.loop-k.k dtype Null (omega (arith, inside, c.if-dtypes-parts.false)) (omega (arith, inside, length-map c.args.parts.now item_value)) fails
+    let there = get_or-map item_value xs k c.index-parts-k.result Null inside ∙ ap item_value (sym c.index-parts-k.is) in
+    let fails = ap (fits (shape_of (get_or ds k dtype))) there ∙ ap (λ d. fits (shape_of d) (item_value c.index-parts-k.result)) (sym c.index-dtypes-k.is) ∙ sym c.in_ok-fit.ensures.fit ∙ c.if-not-fit.true in
+    fields_fail ds (map item_value xs) k dtype Null (omega (arith, inside, c.if-dtypes-parts.false)) (rw length-map inside) fails
 
 pub push_fields-loop-k-preserved : goal.push_fields-loop-k-preserved
 push_fields-loop-k-preserved t c =
@@ -141,9 +130,8 @@ push_fields-loop-k-preserved t c =
     let count = parts_count (take k ds) (map item_value (take k xs)) same ∙ long in (
       both ∙ fields_more (take k ds) (map item_value (take k xs)) dtype (item_value part) same c.loop-k.invariant.0 fit,
       elim c.if-k-gt0.branch [
-        | push_fields-then-k-gt0+in_ok-push-2 w ↦ opened_more _ _ _ _ 40 _ _ _ (omega (arith, count, w.if-k-gt0.true)) texts c.loop-k.invariant.1
-            (ap string_bytes w.text-is ∙ w.in_ok-push-2.ensures.bytes ∙ ap (λ r. string_bytes c.loop-k.text ++ r) (w.in_ok-push-2.ensures.ascii (lit< tt)))
-            (c.in_ok-fit.ensures.text c.if-not-fit.false)
+        | push_fields-then-k-gt0+in_ok-push-2 w ↦ opened_more _ _ _ _ _ _ 40 _ _ _ (omega (arith, count, w.if-k-gt0.true)) texts c.loop-k.invariant.1
+            (ap string_bytes w.text-is) w.in_ok-push-2.ensures.bytes (w.in_ok-push-2.ensures.ascii (lit< tt)) (c.in_ok-fit.ensures.text c.if-not-fit.false)
         | push_fields-else-k-gt0 w ↦ opened_first _ _ _ 40 _ _ _ (omega (arith, count, w.if-k-gt0.false)) texts (ap string_bytes w.text-is ∙ c.loop-k.invariant.1) (c.in_ok-fit.ensures.text c.if-not-fit.false)
       ],
     )

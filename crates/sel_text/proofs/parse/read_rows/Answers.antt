@@ -8,15 +8,12 @@ use Rattle.sel_text.proofs.parse.read_rows.Goals as goal
 
 pub returns-in-Err-clause-made : goal.returns-in-Err-clause-made
 returns-in-Err-clause-made c = λ values fit is.
-    let s = shape_of c.args.dtype.now in
-    told_wanting (exceeds_limit c.args.beneath s values) _ (c.no_limit.ensures.memory (c.in-Err.ensures (values_of values) [] (all_fits s values fit) (rows_text s values _ is)))
+    told_wanting _ _ (c.no_limit.ensures.memory (c.in-Err.ensures (values_of values) [] (all_fits _ values fit) (rows_text _ values _ is)))
 
 pub returns-then-not-is_empty-clause-made : goal.returns-then-not-is_empty-clause-made
 returns-then-not-is_empty-clause-made c = λ values fit is.
-    let s = shape_of c.args.dtype.now in
-    let told = c.in-Ok.ensures (values_of values) [] (all_fits s values fit) (rows_text s values _ is) in
-    let long = ap length told.1 in
-    true≢false (sym (c.is_empty.ensures ∙ ap (λ n. n == 0) long) ∙ c.if-not-is_empty.true)
+    let told = c.in-Ok.ensures (values_of values) [] (all_fits _ values fit) (rows_text _ values _ is) in
+    true≢false (sym (c.is_empty.ensures ∙ ap (λ rest. length rest == 0) told.1) ∙ c.if-not-is_empty.true)
 
 pub returns-in-Ok-build_rows-clause-made : goal.returns-in-Ok-build_rows-clause-made
 returns-in-Ok-build_rows-clause-made c = λ values fit is.

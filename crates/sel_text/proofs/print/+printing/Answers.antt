@@ -9,9 +9,8 @@ push_items-loop-i-preserved t c =
     let more = texts_more (value_text (type_of c.args.column.now)) (rows c.args.column.now) c.args.start c.loop-i.i Null (omega arith) (omega (arith, c.requires.inside)) in
     let count = texts_count (value_text (type_of c.args.column.now)) (rows c.args.column.now) c.args.start c.loop-i.i (omega (arith, c.requires.inside)) in
     elim c.if-i-start.branch [
-      | push_items-then-i-start+in_ok-push-2 w ↦ opened_more _ _ _ _ 91 _ _ _ (omega (arith, count, w.if-i-start.true)) more c.loop-i.invariant
-          (ap string_bytes w.text-is ∙ w.in_ok-push-2.ensures.bytes ∙ ap (λ r. string_bytes c.loop-i.text ++ r) (w.in_ok-push-2.ensures.ascii (lit< tt)))
-          c.in_ok-push_row.ensures
+      | push_items-then-i-start+in_ok-push-2 w ↦ opened_more _ _ _ _ _ _ 91 _ _ _ (omega (arith, count, w.if-i-start.true)) more c.loop-i.invariant
+          (ap string_bytes w.text-is) w.in_ok-push-2.ensures.bytes (w.in_ok-push-2.ensures.ascii (lit< tt)) c.in_ok-push_row.ensures
       | push_items-else-i-start w ↦ opened_first _ _ _ 91 _ _ _ (omega (arith, count, w.if-i-start.false)) more (ap string_bytes w.text-is ∙ c.loop-i.invariant) c.in_ok-push_row.ensures
     ]
 
@@ -21,9 +20,8 @@ push_parts-loop-k-preserved t c =
     let count : length (map (field_text c.args.place) (take c.loop-k.k c.args.fields.now)) ≡ c.loop-k.k = rw (length-map, length-take) (omega arith) in
     let row = c.in_ok-push_row.ensures ∙ ap (λ field. string_bytes c.if-k-gt0.text ++ field_text c.args.place field) c.index-fields-k.is in
     elim c.if-k-gt0.branch [
-      | push_parts-then-k-gt0+in_ok-push-2 w ↦ opened_more _ _ _ _ 40 _ _ _ (omega (arith, count, w.if-k-gt0.true)) more c.loop-k.invariant
-          (ap string_bytes w.text-is ∙ w.in_ok-push-2.ensures.bytes ∙ ap (λ r. string_bytes c.loop-k.text ++ r) (w.in_ok-push-2.ensures.ascii (lit< tt)))
-          row
+      | push_parts-then-k-gt0+in_ok-push-2 w ↦ opened_more _ _ _ _ _ _ 40 _ _ _ (omega (arith, count, w.if-k-gt0.true)) more c.loop-k.invariant
+          (ap string_bytes w.text-is) w.in_ok-push-2.ensures.bytes (w.in_ok-push-2.ensures.ascii (lit< tt)) row
       | push_parts-else-k-gt0 w ↦ opened_first _ _ _ 40 _ _ _ (omega (arith, count, w.if-k-gt0.false)) more (ap string_bytes w.text-is ∙ c.loop-k.invariant) row
     ]
 

@@ -1,8 +1,8 @@
 use Rattle.std.proofs.Common.{◌≡◌, ◌<◌, ◌≤◌, ◌++◌, ◌∷◌, [], true, length, drop, map, ap, sym, refl, subst, arith, ◌∙◌, length-append}
 use Rattle.sel_text.proofs.Common.{map-append, shape_of, next_shape, shapes_of, of_struct, of_fixed_size_list, angled, type_texts, deepest, depth, widths_written, all_widths_written}
 use Rattle.sel_arrow.proofs.Types.{shape_of-Struct}
-use Rattle.sel_text.proofs.Commas.{commas, comma_more, comma_last}
-use Rattle.sel_text.proofs.Fields.{IsLeft, behind_first, all_left, last_read, more_left, bracket_or_comma, left_narrow, no_types, some_types, block_narrow, field_told, grown_depth, grown_narrow}
+use Rattle.sel_text.proofs.Commas.{after, bracket_or_comma, commas, comma_more, comma_last}
+use Rattle.sel_text.proofs.Fields.{IsLeft, all_left, last_read, more_left, left_narrow, no_types, some_types, block_narrow, field_told, grown_depth, grown_narrow}
 use Rattle.sel_text.proofs.TypeTexts.{text_of_type, struct_behind}
 use Rattle.sel_text.proofs.TypesTold.{tuples_told, blocks_told}
 use Rattle.sel_text.proofs.read_type.+reading_types.Goals as goal
@@ -27,21 +27,21 @@ read_fields-returns-in-Some t c =
       widths = grown_narrow _ _ c.in-Ok.read.0 put c.loop.invariant.widths c.in-Ok.ensures.widths;
       whole = λ s ss more narrow is.
           let left = c.loop.invariant.left s ss more narrow is in
-          let told = c.in-Ok.ensures.whole left.first (behind_first left.others more) (left_narrow _ _ _ _ left) left.text in
+          let told = c.in-Ok.ensures.whole left.first (after 62 (type_texts left.others) more) (left_narrow _ _ _ _ left) left.text in
           last_read (next_shape s ss) c.loop.fields.items _ c.in-Ok.read.0 _ _ _ more left put told c.in-Some.ensures;
     }
 
 pub read_fields-returns-in-Err-clause-whole : goal.read_fields-returns-in-Err-clause-whole
 read_fields-returns-in-Err-clause-whole t c = λ s ss more narrow is.
     let left = c.loop.invariant.left s ss more narrow is in
-    let told = c.in-Err.ensures.whole left.first (behind_first left.others more) (left_narrow _ _ _ _ left) left.text in
+    let told = c.in-Err.ensures.whole left.first (after 62 (type_texts left.others) more) (left_narrow _ _ _ _ left) left.text in
     field_told (next_shape s ss) c.loop.fields.items c.loop.rest.now more left c.args.levels c.in-Err.fault c.requires told
 
 pub read_fields-returns-in_default-behind-clause-whole : goal.read_fields-returns-in_default-behind-clause-whole
 read_fields-returns-in_default-behind-clause-whole t c = λ s ss more narrow is.
     let left = c.loop.invariant.left s ss more narrow is in
-    let told = c.in-Ok.ensures.whole left.first (behind_first left.others more) (left_narrow _ _ _ _ left) left.text in
-    bracket_or_comma left.others c.in-Ok.read.1.now more told.1 c.in_default.ensures c.in_default-behind.ensures
+    let told = c.in-Ok.ensures.whole left.first (after 62 (type_texts left.others) more) (left_narrow _ _ _ _ left) left.text in
+    bracket_or_comma 62 (type_texts left.others) c.in-Ok.read.1.now more told.1 c.in_default.ensures c.in_default-behind.ensures
 
 pub read_fields-loop-preserved : goal.read_fields-loop-preserved
 read_fields-loop-preserved t c =
@@ -57,7 +57,7 @@ read_fields-loop-preserved t c =
       room = omega (arith, long, parts, c.loop.invariant.room);
       left = λ s ss more narrow is.
           let left = c.loop.invariant.left s ss more narrow is in
-          let told = c.in-Ok.ensures.whole left.first (behind_first left.others more) (left_narrow _ _ _ _ left) left.text in
+          let told = c.in-Ok.ensures.whole left.first (after 62 (type_texts left.others) more) (left_narrow _ _ _ _ left) left.text in
           more_left (next_shape s ss) c.loop.fields.items c.push.new.self.items c.in-Ok.read.0 c.loop.rest.now c.in-Ok.read.1.now c.in-Some-behind.next.now more left c.in_ok-push.ensures.items told c.in-Some-behind.ensures;
     }
 

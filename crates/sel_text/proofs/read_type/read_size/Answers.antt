@@ -1,7 +1,7 @@
 use Rattle.std.proofs.Common.{◌≡◌, ◌<◌, ◌^◌, ap, sym, ◌∙◌, ◌++◌, arith}
 use Rattle.sel_text.proofs.Common.{decimal, digits_value}
 use Rattle.sel_text.proofs.Decimals.{printed_back}
-use Rattle.sel_text.proofs.Ends.{numbers_told, value_told}
+use Rattle.sel_text.proofs.Ends.{digits_told, numbers_told}
 use Rattle.sel_text.proofs.read_type.read_size.Goals as goal
 
 pub returns-in-Ok : goal.returns-in-Ok
@@ -16,11 +16,11 @@ returns-in-Ok c =
 pub returns-in_default-clause-whole : goal.returns-in_default-clause-whole
 returns-in_default-clause-whole c = λ n more few end is.
     let read = c.in_ok-digits.ensures in
-    let value = value_told c.args.bytes.now c.in_ok-digits.digits.now c.in_ok-digits.rest.now read.parts read.digits read.end n more (omega (arith, few)) end is in
+    let value = (digits_told n c.args.bytes.now _ _ more (omega (arith, few)) read.parts read.digits read.end end is).0 in
     omega (arith, value, few, c.in_default.ensures)
 
 pub returns-in-Err-clause-whole : goal.returns-in-Err-clause-whole
 returns-in-Err-clause-whole c = λ n more few end is.
     let read = c.in_ok-digits.ensures in
-    let value = value_told c.args.bytes.now c.in_ok-digits.digits.now c.in_ok-digits.rest.now read.parts read.digits read.end n more (omega (arith, few)) end is in
+    let value = (digits_told n c.args.bytes.now _ _ more (omega (arith, few)) read.parts read.digits read.end end is).0 in
     omega (arith, value, few, c.in-Some.ensures, c.in-Err.ensures)

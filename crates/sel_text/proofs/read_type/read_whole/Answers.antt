@@ -8,5 +8,4 @@ returns-in-Err-clause-refused c = λ s few is. c.in-Err.ensures.whole s [] few (
 pub returns-then-not-is_empty-clause-refused : goal.returns-then-not-is_empty-clause-refused
 returns-then-not-is_empty-clause-refused c = λ s few is.
     let told = c.in-Ok.ensures.whole s [] few (is ∙ sym (append-nil (type_text s))) in
-    let long = ap length told.1 in
-    true≢false (sym (c.is_empty.ensures ∙ ap (λ n. n == 0) long) ∙ c.if-not-is_empty.true)
+    true≢false (sym (c.is_empty.ensures ∙ ap (λ rest. length rest == 0) told.1) ∙ c.if-not-is_empty.true)

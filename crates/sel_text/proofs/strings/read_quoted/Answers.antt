@@ -1,6 +1,7 @@
 use Rattle.std.proofs.Common.{true, sym, subst}
 use Rattle.sel_text.specs.Texts.{escaped}
-use Rattle.sel_text.proofs.Quotes.{IsLeft, all_left, none_left, has_next, one_read, escaped_unquoted, no_test}
+use Rattle.sel_text.proofs.Decoded.{unquoted}
+use Rattle.sel_text.proofs.Quotes.{IsLeft, all_left, none_left, has_next, one_read, no_test}
 use Rattle.sel_text.proofs.strings.read_quoted.Goals as goal
 
 pub loop-end-init : goal.loop-end-init
@@ -9,7 +10,7 @@ loop-end-init c = λ value more is.
 
 pub returns-in-Some : goal.returns-in-Some
 returns-in-Some c = record {
-  whole = λ value more is. none_left escaped (λ byte. true) value _ _ more _ escaped_unquoted (c.loop-end.invariant value more is) c.in-Some.ensures;
+  whole = λ value more is. none_left escaped (λ byte. true) value _ _ more _ unquoted (c.loop-end.invariant value more is) c.in-Some.ensures;
 }
 
 pub returns-in-Err : goal.returns-in-Err

@@ -11,9 +11,8 @@ push_dtypes-loop-k-preserved t c =
     let count : length (map text_of_type (take c.loop-k.k c.args.dtypes.now)) ≡ c.loop-k.k = rw (length-map, length-take) (omega arith) in
     let named = c.in_ok-push_dtype.ensures ∙ ap (λ dtype. string_bytes c.if-k-gt0.text ++ text_of_type dtype) c.index-dtypes-k.is in
     elim c.if-k-gt0.branch [
-      | push_dtypes-then-k-gt0+in_ok-push-2 w ↦ opened_more _ _ _ _ 60 _ _ _ (omega (arith, count, w.if-k-gt0.true)) more c.loop-k.invariant
-          (ap string_bytes w.text-is ∙ w.in_ok-push-2.ensures.bytes ∙ ap (λ r. string_bytes c.loop-k.text ++ r) (w.in_ok-push-2.ensures.ascii (lit< tt)))
-          named
+      | push_dtypes-then-k-gt0+in_ok-push-2 w ↦ opened_more _ _ _ _ _ _ 60 _ _ _ (omega (arith, count, w.if-k-gt0.true)) more c.loop-k.invariant
+          (ap string_bytes w.text-is) w.in_ok-push-2.ensures.bytes (w.in_ok-push-2.ensures.ascii (lit< tt)) named
       | push_dtypes-else-k-gt0 w ↦ opened_first _ _ _ 60 _ _ _ (omega (arith, count, w.if-k-gt0.false)) more (ap string_bytes w.text-is ∙ c.loop-k.invariant) named
     ]
 
