@@ -1,6 +1,7 @@
 -- Invariants of cloning the columns of handles one by one; each handle keeps its column.
 use Rattle.std.proofs.Common.{◌≡◌, ℕ, zero, suc, ◌+◌, ◌<◌, List, [], ◌∷◌, ◌++◌, length, take, get_or, map, refl, ap, sym, ◌∙◌, arith, add-one}
-use Rattle.std.proofs.Common.{All, None, subst}
+use Rattle.std.proofs.Common.{◌≤◌, set, All, None, subst, take_all}
+use Rattle.std.proofs.Math.Seq.{map-set_same}
 use Rattle.sel_ffi.proofs.Common.{length-map, HasColumn, Handle}
 use Rattle.sel_ffi.specs.Held.{Held}
 
@@ -33,3 +34,13 @@ lacks_at xs hs i d low kept none all = subst HasColumn (sym (told_at hs xs i d k
 -- Handles with the same columns are equally many.
 pub same_long : (hs xs : List Handle) → map (λ h. h.tree) hs ≡ map (λ h. h.tree) xs → length hs ≡ length xs
 same_long hs xs same = sym (length-map hs (λ (h : Handle). h.tree)) ∙ ap length same ∙ length-map xs (λ (h : Handle). h.tree)
+
+-- A handle that is put back with its column keeps the columns.
+pub kept_set : (hs xs : List Handle) (i : ℕ) (h d : Handle) → h.tree ≡ (get_or hs i d).tree → map (λ h. h.tree) hs ≡ map (λ h. h.tree) xs → map (λ h. h.tree) (set hs i h) ≡ map (λ h. h.tree) xs
+kept_set hs xs i h d same kept = map-set_same (λ (h : Handle). h.tree) hs i h d same ∙ kept
+
+-- If each of the first i has a column and there are no more, each has.
+pub all_full : (hs xs : List Handle) (i : ℕ) → map (λ h. h.tree) hs ≡ map (λ h. h.tree) xs → length hs ≤ i → All (λ h. HasColumn h.tree) (take i xs) → All (λ h. HasColumn h.tree) xs
+all_full hs xs i kept long full = subst (All (λ (h : Handle). HasColumn h.tree)) (take_all i xs (omega (arith, long, same_long hs xs kept))) full
+
+pub ruleset kept = (kept_set, all_full, lacks_at, same_long)

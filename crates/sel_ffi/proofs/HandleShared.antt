@@ -2,41 +2,18 @@
 --     empty_code, ..                their code
 --     empty, of_loose, into_loose   they meet their contracts. Assumes `Logic`
 use Rattle.std.proofs.Common.{◌≡◌, ℕ, List, [], ◌∷◌, ◌++◌, refl, sym, ap, ◌∙◌, subst, lit<}
-use mir.Syntax.{Sym, Ty, ty_ptr, ty_bool, Body, Fn, Callee, local, value_local, place, field, copy, int, w8, w64, rv_opd, op2, ptr_eq, aggregate, seq, assign, cond, return}
-use mir.Val.{Val, vptr, vcons, vnil}
-use seplogic.Ra.Ura.{Ura}
-use base.Logic.{SProp, ent, id⊢}
-use base.Fml.{ftrue}
-use contract.Monad.{fact}
-use contract.Running.{Running, tables}
-use prog.Model.{Model}
-use prog.Wp.{WpFn, Closed}
-use types.Logic.{Logic, sem}
-use types.Kit.{‵, ◌⊛◌, at_ret, feq_i, ◌$◌, ◌∵◌, !, qed, drop, move, split, fsplit, fjoin, join, suffices, use0, use1, done}
-use types.Match.{live}
-use types.Part.{whole, sub, agg}
-use types.Run.{stop, fld, lit, bin, no_more, and_then, of_opd, first, branches, exec, returns, enter}
-use types.ByLocal.{alloc_all, pass_all, free_all, look_at, get, get_in, sets, sets_last, env}
-use denote.Exit.{yes}
-use denote.Param.{layout}
-use denote.RattleType.{RattleType, owns}
-use denote.RawPtr.{Ptr, block_ptr, null_ptr, ptr_val, tests_null}
-use denote.Signature.{types_at, type_at, plain}
-use denote.Steps.{nothing}
-use denote.Triple.Clauses.{Ended, Clauses, closing}
-use denote.Triple.Spec.{Meets}
-use denote.Triple.Walked.{says, Stays, stay_dropped, walk_of, ends_at, Goes-dropped}
-use Rattle.core.proofs.alloc.Calls.{handle_tells}
-use Rattle.core.proofs.alloc.Shapes.{after}
-use Rattle.core.proofs.cell.Inside.{Good}
-use Rattle.core.proofs.option.Made.{Some-of, none_of}
-use Rattle.std.proofs.raw_atomic.Walks.{proved_at}
+use Rattle.sel_ffi.proofs.Walks.{ !, after, agg, aggregate, alloc_all, and_then, and_tt, assign, at_ret, bin, block_ptr, Body, branches}
+use Rattle.sel_ffi.proofs.Walks.{Callee, Clauses, Closed, closing, cond, copy, done, drop, ends_at, ent, enter, env, exec, feq_i, field}
+use Rattle.sel_ffi.proofs.Walks.{first, fjoin, fld, Fn, free_all, fsplit, ftrue, get, get_in, ghosts, Goes-dropped, Good, handle_tells, id⊢}
+use Rattle.sel_ffi.proofs.Walks.{int, join, layout, lit, live, local, Logic, look_at, MatchOption, Meets, Model, move, no_more, none_of}
+use Rattle.sel_ffi.proofs.Walks.{nothing, null_ptr, of_opd, op2, owns, pass_all, place, plain, proved_at, Ptr, ptr_eq, ptr_val, qed}
+use Rattle.sel_ffi.proofs.Walks.{RattleType, return, returns, Running, rv_opd, says, seq, sets, sets_last, Some-of, split, SProp}
+use Rattle.sel_ffi.proofs.Walks.{stay_dropped, Stays, stop, sub, suffices, Sym, tables, tests_null, turning, turns, Ty, ty_bool, ty_ptr}
+use Rattle.sel_ffi.proofs.Walks.{type_at, types_at, Ura, use0, use1, Val, value_local, vcons, vnil, vptr, w64, w8, walk_of, whole, WpFn}
+use Rattle.sel_ffi.proofs.Walks.{yes, ‵, ◌$◌, ◌∵◌, ◌⊛◌}
 use Rattle.std.proofs.alloc.Global.TheLaws as heap_laws
-use Rattle.std.specs.Option.{MatchOption}
-use Rattle.std.specs.contracts.impls.GlobalAllocator.TheImpl.{ghosts}
 use Rattle.std.specs.contracts.option.Option as option
 use Rattle.std.specs.declared.option.Option.TheVariants.{None, Some}
-use Rattle.std_alloc.proofs.ResultValues.{and_tt}
 use Rattle.sel_ffi.proofs.LooseSteps.{both, Loose, loose_out, loose_in}
 use Rattle.sel_ffi.proofs.HandleSteps.{Owner, Parts, Row, Z, al, handle_ty, ptr_good, loose_good, handle_out, handle_in, either_held}
 
@@ -102,23 +79,13 @@ module _ {M : Type 1} {𝓤 : Ura M} (𝓛 : Logic 𝓤) (𝓜 : Model 𝓤 𝓛
   abbrev Boxed : RattleType
   Boxed = Loose R Z heap_laws.the_row_laws ghosts
 
-  abbrev empty_ended : Ended
-  empty_ended = record {
-    signature = record { lifetimes = 0; outlives = []; params = plain (λ κs. Z) ∷ []; result = plain (λ κs. Handle) };
-    kept = (yes, tt);
-  }
-
-  abbrev empty_clauses : Clauses 𝓤 empty_ended
-  empty_clauses κs a = record {
-    ghost = Unit {0};
-    requires = λ g. sem 𝓛 ftrue;
-    ensures = λ g r e. fact 𝓤 ((O.parts r).1.1 ≡ None);
-  }
+  abbrev empty_clauses : Clauses 𝓤 (turns Z Handle)
+  empty_clauses = turning 𝓛 Z Handle (λ a r. (O.parts r).1.1 ≡ None)
 
   pub empty : (name : Sym) {k : Callee} → Closed 𝓤 H (tables 𝓤 H 𝓜 𝓡 𝓡.env).C (tables 𝓤 H 𝓜 𝓡 𝓡.env).Λ k (empty_code name)
-      → Meets 𝓛 empty_ended.signature ((tables 𝓤 H 𝓜 𝓡 𝓡.env).C k) (closing 𝓛 empty_ended empty_clauses)
+      → Meets 𝓛 (turns Z Handle).signature ((tables 𝓤 H 𝓜 𝓡 𝓡.env).C k) (closing 𝓛 (turns Z Handle) empty_clauses)
   empty name {k} closed =
-      let 𝓣 = tables 𝓤 H 𝓜 𝓡 𝓡.env in let T = empty_ended in let c = empty_clauses in let fn : Fn = empty_code name in
+      let 𝓣 = tables 𝓤 H 𝓜 𝓡 𝓡.env in let T = turns Z Handle in let c = empty_clauses in let fn : Fn = empty_code name in
       let hs : Stays T.signature.params T.kept = (stay_dropped (plain (λ _. Z)) yes, tt) in
       proved_at 𝓛 T hs c 𝓜 𝓡 (Goes-dropped 𝓛 0 (plain (λ _. Z)) yes (λ κs x f. refl), tt) k fn closed (λ z are.
       let a = z.0.3.0 in let Post : Val → SProp 𝓤 = (walk_of 𝓛 T hs c).post z in let Run : List Val → SProp 𝓤 = λ ws. WpFn 𝓤 H 𝓣.C 𝓣.Λ fn ws Post in
@@ -133,23 +100,13 @@ module _ {M : Type 1} {𝓤 : Ura M} (𝓛 : Logic 𝓤) (𝓜 : Model 𝓤 𝓛
       suffices ! _ (ends_at 𝓛 T hs c z w (O.make (null_ptr, (a, None))) (tt, tt) (tt, tt)) $ says ! (ap (λ x. x.1.1) (O.back (null_ptr, (a, None)))) $
       nothing ! $ nothing ! $ fjoin ! $ join ! $ nothing ! $ join ! $ done !)))
 
-  abbrev of_loose_ended : Ended
-  of_loose_ended = record {
-    signature = record { lifetimes = 0; outlives = []; params = plain (λ κs. Boxed) ∷ []; result = plain (λ κs. Handle) };
-    kept = (yes, tt);
-  }
-
-  abbrev of_loose_clauses : Clauses 𝓤 of_loose_ended
-  of_loose_clauses κs a = record {
-    ghost = Unit {0};
-    requires = λ g. sem 𝓛 ftrue;
-    ensures = λ g r e. fact 𝓤 ((O.parts r).1.1 ≡ Some a.0.value);
-  }
+  abbrev of_loose_clauses : Clauses 𝓤 (turns Boxed Handle)
+  of_loose_clauses = turning 𝓛 Boxed Handle (λ a r. (O.parts r).1.1 ≡ Some a.value)
 
   pub of_loose : (name : Sym) {k : Callee} → Closed 𝓤 H (tables 𝓤 H 𝓜 𝓡 𝓡.env).C (tables 𝓤 H 𝓜 𝓡 𝓡.env).Λ k (of_loose_code R name)
-      → Meets 𝓛 of_loose_ended.signature ((tables 𝓤 H 𝓜 𝓡 𝓡.env).C k) (closing 𝓛 of_loose_ended of_loose_clauses)
+      → Meets 𝓛 (turns Boxed Handle).signature ((tables 𝓤 H 𝓜 𝓡 𝓡.env).C k) (closing 𝓛 (turns Boxed Handle) of_loose_clauses)
   of_loose name {k} closed =
-      let 𝓣 = tables 𝓤 H 𝓜 𝓡 𝓡.env in let T = of_loose_ended in let c = of_loose_clauses in let fn : Fn = of_loose_code R name in
+      let 𝓣 = tables 𝓤 H 𝓜 𝓡 𝓡.env in let T = turns Boxed Handle in let c = of_loose_clauses in let fn : Fn = of_loose_code R name in
       let hs : Stays T.signature.params T.kept = (stay_dropped (plain (λ _. Boxed)) yes, tt) in
       proved_at 𝓛 T hs c 𝓜 𝓡 (Goes-dropped 𝓛 0 (plain (λ _. Boxed)) yes (λ κs x f. refl), tt) k fn closed (λ z are.
       let v = z.0.3.0 in let Post : Val → SProp 𝓤 = (walk_of 𝓛 T hs c).post z in let Run : List Val → SProp 𝓤 = λ ws. WpFn 𝓤 H 𝓣.C 𝓣.Λ fn ws Post in
@@ -165,23 +122,13 @@ module _ {M : Type 1} {𝓤 : Ura M} (𝓛 : Logic 𝓤) (𝓜 : Model 𝓤 𝓛
       suffices ! _ (ends_at 𝓛 T hs c z w (O.make x) (tt, tt) (tt, tt)) $ says ! (ap (λ y. y.1.1) (O.back x)) $
       nothing ! $ nothing ! $ fjoin ! $ join ! $ nothing ! $ join ! $ done !)))
 
-  abbrev into_loose_ended : Ended
-  into_loose_ended = record {
-    signature = record { lifetimes = 0; outlives = []; params = plain (λ κs. Handle) ∷ []; result = plain (λ κs. option.the_row Boxed) };
-    kept = (yes, tt);
-  }
-
-  abbrev into_loose_clauses : Clauses 𝓤 into_loose_ended
-  into_loose_clauses κs a = record {
-    ghost = Unit {0};
-    requires = λ g. sem 𝓛 ftrue;
-    ensures = λ g r e. fact 𝓤 (MatchOption r ((O.parts a.0).1.1 ≡ None) (λ loose. (O.parts a.0).1.1 ≡ Some loose.value));
-  }
+  abbrev into_loose_clauses : Clauses 𝓤 (turns Handle (option.the_row Boxed))
+  into_loose_clauses = turning 𝓛 Handle (option.the_row Boxed) (λ a r. MatchOption r ((O.parts a).1.1 ≡ None) (λ loose. (O.parts a).1.1 ≡ Some loose.value))
 
   pub into_loose : (name : Sym) {k : Callee} → Closed 𝓤 H (tables 𝓤 H 𝓜 𝓡 𝓡.env).C (tables 𝓤 H 𝓜 𝓡 𝓡.env).Λ k (into_loose_code R name)
-      → Meets 𝓛 into_loose_ended.signature ((tables 𝓤 H 𝓜 𝓡 𝓡.env).C k) (closing 𝓛 into_loose_ended into_loose_clauses)
+      → Meets 𝓛 (turns Handle (option.the_row Boxed)).signature ((tables 𝓤 H 𝓜 𝓡 𝓡.env).C k) (closing 𝓛 (turns Handle (option.the_row Boxed)) into_loose_clauses)
   into_loose name {k} closed =
-      let 𝓣 = tables 𝓤 H 𝓜 𝓡 𝓡.env in let T = into_loose_ended in let c = into_loose_clauses in let fn : Fn = into_loose_code R name in let LZ = heap_laws.the_row_laws in
+      let 𝓣 = tables 𝓤 H 𝓜 𝓡 𝓡.env in let T = turns Handle (option.the_row Boxed) in let c = into_loose_clauses in let fn : Fn = into_loose_code R name in let LZ = heap_laws.the_row_laws in
       let hs : Stays T.signature.params T.kept = (stay_dropped (plain (λ _. Handle)) yes, tt) in
       proved_at 𝓛 T hs c 𝓜 𝓡 (Goes-dropped 𝓛 0 (plain (λ _. Handle)) yes (λ κs x f. refl), tt) k fn closed (λ z are.
       let d = z.0.3.0 in let x = O.parts d in let a = x.1.0 in let Post : Val → SProp 𝓤 = (walk_of 𝓛 T hs c).post z in let Run : List Val → SProp 𝓤 = λ ws. WpFn 𝓤 H 𝓣.C 𝓣.Λ fn ws Post in

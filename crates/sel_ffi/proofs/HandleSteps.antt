@@ -5,37 +5,16 @@
 --     handle_out, handle_in    a handle by value is [what it owns; the allocator], and back
 --     either_held              the two cases of what it owns: null, and a box
 use Rattle.std.proofs.Common.{◌≡◌, ℕ, List, [], ◌∷◌, ◌++◌, refl, subst, lit<}
-use lib.Dec.{T}
-use mir.Syntax.{Sym, Ty, ty_ptr, ty_struct, tcons, impl, tnil, dnil}
-use mir.Raw.{raw as bare}
-use mir.Val.{Val, vptr, vstruct, of_list, has_ty, WT}
-use base.Logic.{via, snd∗, guard_i, never, fst∗}
-use seplogic.Ra.Ura.{Ura}
-use types.Logic.{Logic, sem}
-use types.Kit.{Item, Goal, Seq, Step, step, ‵, given, learn, ◌$◌, move, drop, use1, fsplit, fjoin, fpick, fpack, feq_i, feq_l}
-use contract.Monad.{fact_use}
-use denote.Exit.{hidden, under}
-use denote.RattleType.{RattleType, Valss}
-use denote.Builtin.{RawPtr}
-use denote.Memory.{lone}
-use denote.RawPtr.{Ptr, block_ptr, null_ptr, ptr_val, in_a_block, lies_at, Testable}
-use denote.Steps.{nothing}
-use denote.Param.{layout}
-use denote.Struct.Field.{RawPtr-field}
-use denote.Struct.Owning.{Owning, row, shape, wholly}
-use denote.Struct.Struct.{Struct, exits_of, within}
-use Rattle.core.proofs.alloc.Calls.{Al, handle_tells}
-use Rattle.core.proofs.cell.Inside.{Good}
+use Rattle.sel_ffi.proofs.Walks.{Al, and_tt, bare, block_ptr, box_owns, dnil, drop, exits_of, fact_use, feq_i, feq_l, fjoin, fpack, fpick}
+use Rattle.sel_ffi.proofs.Walks.{fsplit, fst∗, ghosts, given, Goal, Good, guard_i, handle_tells, has_ty, hidden, impl, in_a_block, Item}
+use Rattle.sel_ffi.proofs.Walks.{layout, learn, lies_at, Logic, lone, move, never, nothing, null_ptr, of_list, Owning, Ptr, ptr_val}
+use Rattle.sel_ffi.proofs.Walks.{RattleType, RawPtr, RawPtr-field, row, sem, Seq, shape, snd∗, Step, step, Struct, Sym, T, tcons, Testable}
+use Rattle.sel_ffi.proofs.Walks.{tnil, Ty, ty_ptr, ty_struct, under, Ura, use1, Val, Valss, via, vptr, vstruct, wholly, within, WT, ‵, ◌$◌}
 use Rattle.std.specs.contracts.alloc.Global as heap
-use Rattle.std.specs.declared.alloc.Global.{Global}
+use Rattle.std.{specs.declared.alloc.Global.Global, proofs.GlobalToken.dealloc_token-Testable}
 use Rattle.std.proofs.alloc.Global.TheLaws as heap_laws
-use Rattle.std.specs.contracts.impls.GlobalAllocator.TheImpl.{ghosts}
-use Rattle.sel_ffi.proofs.Common.{Option, None, Some, held_owns}
-use Rattle.std.proofs.GlobalToken.{dealloc_token-Testable}
-use Rattle.std_alloc.specs.Box.Ownership.{box_owns}
-use Rattle.std_alloc.proofs.ResultValues.{and_tt}
+use Rattle.sel_ffi.proofs.{Common.Option, Common.None, Common.Some, Common.held_owns, LooseSteps.both}
 use Rattle.sel_ffi.specs.contracts.loose.Loose as loose
-use Rattle.sel_ffi.proofs.LooseSteps.{both}
 
 -- The pointer, the allocator and the value.
 abbrev pub Parts : RattleType → Type 0

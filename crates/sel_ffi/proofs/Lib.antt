@@ -13,3 +13,4 @@ pub mod RefSteps
 pub mod Reported
 pub mod Shown
 pub mod Tuples
+pub mod Walks

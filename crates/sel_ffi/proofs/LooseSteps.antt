@@ -3,26 +3,11 @@
 --     both                     the machine value of a pointer beside an allocator
 --     loose_out, loose_in      a `Loose` by value is [what the box owned; the allocator], and back
 use Rattle.std.proofs.Common.{◌≡◌, ℕ, List, [], ◌∷◌, ◌++◌, refl, subst}
-use mir.Syntax.{impl, tnil, dnil}
-use mir.Val.{Val, vptr, vstruct, vcons, vnil, of_list}
-use mir.Raw.{raw as bare}
-use base.Logic.{fst∗, never}
-use seplogic.Ra.Ura.{Ura}
-use types.Logic.{Logic, sem}
-use types.Kit.{Item, Goal, Seq, Step, step, ‵, ◌$◌, move, drop, fsplit, fjoin, fpick, fpack, feq_i, feq_l}
-use denote.RattleType.{RattleType, Valss}
-use denote.Builtin.{RawPtr}
-use denote.Memory.{lone}
-use denote.Param.{layout}
-use denote.Param.Laws.{Laws}
-use denote.RawPtr.{Ptr, block_ptr, null_ptr, ptr_val, in_a_block}
-use denote.Steps.{nothing}
-use denote.Struct.Struct.{within}
-use denote.Struct.Owning.{shape}
-use Rattle.core.proofs.alloc.Calls.{Al, handle_tells}
-use Rattle.core.proofs.cell.Inside.{Good}
+use Rattle.sel_ffi.proofs.Walks.{Al, bare, block_ptr, box_owns, dnil, drop, feq_i, feq_l, fjoin, fpack, fpick, fsplit, fst∗, Goal, Good}
+use Rattle.sel_ffi.proofs.Walks.{handle_tells, impl, in_a_block, Item, Laws, layout, Logic, lone, move, never, nothing, null_ptr, of_list}
+use Rattle.sel_ffi.proofs.Walks.{Ptr, ptr_val, RattleType, RawPtr, sem, Seq, shape, Step, step, tnil, Ura, Val, Valss, vcons, vnil, vptr}
+use Rattle.sel_ffi.proofs.Walks.{vstruct, within, ‵, ◌$◌}
 use Rattle.core.specs.declared.alloc.Allocator.{Ghosts}
-use Rattle.std_alloc.specs.Box.Ownership.{box_owns}
 use Rattle.sel_ffi.specs.contracts.loose.Loose as loose
 
 abbrev pub both : Val → Val → Val

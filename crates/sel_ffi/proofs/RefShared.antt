@@ -3,42 +3,20 @@
 --     reads      its code
 --     shared     it meets its contract. Assumes `Logic`
 use Rattle.std.proofs.Common.{◌≡◌, List, [], ◌∷◌, refl, sym, ap, ◌∙◌, lit<}
-use mir.Syntax.{Sym, Lifetime, Ty, ty_ptr, ty_bool, ty_ref, ty_enum, ty_struct, tcons, tnil, ttcons, ttnil, imm, named, erased, Body, Fn, Callee, local, value_local, place, deref, field, copy, int, w8, w64, rv_opd, op2, ptr_eq, addr_of, aggregate, seq, assign, block, cond, return}
-use mir.Val.{Val, vptr, vcons, vnil}
-use base.Logic.{SProp, emp}
-use base.Fml.{Lft, ftrue, fbor, flft}
-use prog.Wp.{Wp, Closed, after_seq, at_return}
-use types.Kit.{‵, raw, later, ◌⊛◌, any_q, at_ret, ◌$◌, ◌∵◌, !, qed, by, move, keep, split, join, fsplit, fjoin, feq_i, rewrite, await, use0, use1, use2}
-use types.Match.{live}
-use types.Part.{whole, sub, agg, look_in}
-use types.Run.{stop, fld, load, addr, lit, bin, no_more, and_then, of_opd, first, blocks, branches, exec, returns, enter}
-use types.ByLocal.{alloc_all, pass_all, free_all, look_at, get, through, sets, sets_last, env}
-use contract.Running.{Running, tables}
-use prog.Model.{Model}
-use seplogic.Ra.Ura.{Ura}
-use types.Logic.{Logic, sem}
-use denote.Param.Laws.{Laws}
-use denote.Struct.Owning.{Owning, row}
-use denote.Triple.Clauses.{Ended, Clauses, closing}
-use denote.Triple.Spec.{Meets}
-use Rattle.std.specs.Option.{MatchOption}
+use Rattle.sel_ffi.proofs.Walks.{ !, addr, addr_of, after, after_seq, agg, aggregate, alloc_all, and_then, any_q, assign, at_ret, at_return}
+use Rattle.sel_ffi.proofs.Walks.{await, bin, block, block_ptr, blocks, Body, branches, by, Callee, cell_at, Clauses, Closed, closing, cond}
+use Rattle.sel_ffi.proofs.Walks.{copy, deref, emp, Ended, enter, env, erased, exec, fact, fact_i, fbor, feq_i, field, first, fjoin, fld}
+use Rattle.sel_ffi.proofs.Walks.{flft, Fn, free_all, fsplit, ftrue, get, Goes-dropped, Good, hidden_shr, imm, int, Is, join, keep, later}
+use Rattle.sel_ffi.proofs.Walks.{Laws, layout, leaves, Lft, Lifetime, lit, live, load, local, Logic, look_at, look_in, looks, MatchOption}
+use Rattle.sel_ffi.proofs.Walks.{Meets, Model, move, named, no_more, none_of, nothing, of_opd, op2, Owning, owns, pass_all, peeks, place}
+use Rattle.sel_ffi.proofs.Walks.{plain, proved, Ptr, ptr_eq, qed, RattleType, raw, return, returns, rewrite, row, Running, rv_opd, sem, seq}
+use Rattle.sel_ffi.proofs.Walks.{sets, sets_last, shows, shr_ref_to, shuts, Some-of, split, SProp, stay_dropped, Stays, stop, sub, Sym}
+use Rattle.sel_ffi.proofs.Walks.{tables, tcons, tests_null, through, tnil, ttcons, ttnil, Ty, ty_bool, ty_enum, ty_ptr, ty_ref, ty_struct}
+use Rattle.sel_ffi.proofs.Walks.{type_at, types_at, Ura, use0, use1, use2, Val, value_local, vcons, vnil, vptr, w64, w8, walk_of, whole, Wp}
+use Rattle.sel_ffi.proofs.Walks.{yes, ‵, ◌$◌, ◌∵◌, ◌⊛◌}
 use Rattle.sel_ffi.proofs.Common.{Option, None, Some, ref_owns}
 use Rattle.std.specs.contracts.option.Option as option
-use contract.Monad.{fact, fact_i}
-use denote.Exit.{yes}
-use denote.Laws.{Is, shows}
-use denote.Memory.{cell_at, hidden_shr}
-use denote.Param.{layout}
 use denote.Ref.{ShrRef, shr_vals, shr_Tells}
-use denote.RattleType.{RattleType, owns}
-use denote.RawPtr.{Ptr, block_ptr, tests_null}
-use denote.Signature.{types_at, type_at, plain, shr_ref_to}
-use denote.Steps.{nothing, looks, shuts, peeks}
-use denote.Triple.Walked.{Stays, stay_dropped, walk_of, Goes-dropped}
-use Rattle.core.proofs.alloc.Shapes.{after}
-use Rattle.core.proofs.cell.Inside.{Good}
-use Rattle.core.proofs.option.Made.{Some-of, none_of}
-use Rattle.std.proofs.raw_atomic.Walks.{proved, leaves}
 use Rattle.sel_ffi.proofs.RefSteps.{Data, ref_struct, word, told, opened, parted, either_ref}
 
 -- The body of the other branch: the address as a `&`, in `Some`.

@@ -7,37 +7,19 @@
 --     parted              a `&` to the struct as a `&` to its pointer field and a borrow of what it owns
 --     either_ref          the two cases of that borrow: null, and a `&` to the value
 use Rattle.std.proofs.Common.{◌≡◌, ℕ, List, [], ◌∷◌, ◌++◌, refl, ap, ◌∙◌}
-use seplogic.Ra.Ura.{Ura}
-use mir.Syntax.{Sym}
-use mir.Val.{Val, vstruct, vcons, vnil, of_list}
-use base.Logic.{ent, sep, emp, id⊢, upd_i}
+use Rattle.sel_ffi.proofs.Walks.{ !, assume, await, block_ptr, by, done, drop, emp, ent, exits_of, fact, fact_i, fbor, fdead, feq, feq_i}
+use Rattle.sel_ffi.proofs.Walks.{feq_l, fex, fjoin, flft, Fml, fpack, fpick, fsep, fsplit, fsplit3, ftrue, fupd, fwand, Goal, heard, hidden}
+use Rattle.sel_ffi.proofs.Walks.{hidden_shr, id⊢, InBlock, Is, Item, keep, later, Laws, Lft, Logic, meet_⊑_left, move, nothing, now}
+use Rattle.sel_ffi.proofs.Walks.{null_ptr, of_list, Owning, part_at, pick, Ptr, ptr_val, qed, RattleType, raw, RawPtr, RawPtr-field, row}
+use Rattle.sel_ffi.proofs.Walks.{sem, sep, Seq, Share, shared_of, Soaks, some as exists, split, Struct, suffices, Sym, Testable, under}
+use Rattle.sel_ffi.proofs.Walks.{upd_i, updating, Ura, use0, use1, use2, Val, vcons, vnil, vstruct, wholly, ‵, ◌$◌, ◌∵◌, ◌⊛◌}
+use base.Fml.{fseps}
 use base.Share
-use base.Fml.{Lft, Share, Fml, ftrue, feq, fsep, fseps, fex, fwand, fupd, fdead, fbor, flft}
-use contract.BorrowLft.{meet_⊑_left}
-use contract.Monad.{fact, fact_i}
-use types.Logic.{Logic, sem}
-use types.Kit.{Item, Goal, Seq, Soaks, ‵, raw, ◌⊛◌, some as exists, later, ◌$◌, ◌∵◌, !, qed, by, move, keep, drop, use0, use1, use2, split, fsplit, fsplit3, fjoin, fpick, fpack, feq_l, feq_i, pick, assume, suffices, await, updating, now, done}
 use types.Tokens.{bor_open, obor_close, obor_alter, bor_fracture}
-use denote.Exit.{hidden, under}
-use denote.Copied.{Copied, Struct-Copied}
-use denote.Laws.{Is}
-use denote.Memory.{part_at, shared_of, hidden_shr}
-use denote.Moves.{moves_from}
-use denote.Opens.{Cuts, Cuts-Halves, Cuts-both, Cuts-map, Opens, unhide, hide}
-use denote.Builtin.{RawPtr}
-use denote.RattleType.{RattleType}
-use denote.RawPtr.{Ptr, InBlock, Testable, block_ptr, null_ptr, ptr_val}
-use denote.Shares.{bor-Cut}
-use denote.Sharing.{ShrLaws}
-use denote.SharingLaws.{contraction}
-use denote.Steps.{nothing, heard}
-use denote.Struct.Laws.{RawPtr-copy}
-use denote.Struct.Lending.{lent_at, lent_at_shr_laws, in_block_says}
-use denote.Struct.Field.{RawPtr-field}
-use denote.Struct.Owning.{Owning, row, wholly}
-use denote.Struct.OwningLaws.{part_in, part_out}
-use denote.Struct.Struct.{Struct, exits_of}
-use denote.Param.Laws.{Laws}
+use denote.{Copied.Copied, Copied.Struct-Copied, Moves.moves_from, Opens.Cuts, Opens.Cuts-Halves, Opens.Cuts-both, Opens.Cuts-map}
+use denote.{Opens.Opens, Opens.unhide, Opens.hide, Shares.bor-Cut, Sharing.ShrLaws, SharingLaws.contraction, Struct.Laws.RawPtr-copy}
+use denote.{Struct.Lending.lent_at, Struct.Lending.lent_at_shr_laws, Struct.Lending.in_block_says, Struct.OwningLaws.part_in}
+use denote.{Struct.OwningLaws.part_out}
 use Rattle.sel_ffi.proofs.Common.{Option, None, Some, lasts, ref_owns}
 
 abbrev pub word : Ptr → Val

@@ -38,6 +38,7 @@ pub fn offsets_of(alloc: Global, offsets: &[i64]) -> Result<OffsetsBuffer<i64>, 
 /// # Errors
 /// The first of these rules that is broken: those of [`offsets_of`], `ValidityLength`,
 /// `TooManyRows`, `OffsetRange`; or `OutOfMemory`.
+#[tactic(auto, using(std::proofs::lemmas::Grind::common_steps))]
 pub fn binary_of(
     alloc: Global,
     offsets: &[i64],

@@ -21,6 +21,7 @@ use std::alloc::Global;
 ///
 /// Errors: `TOO_DEEP` if the column has 128 levels; the status of the first broken rule of
 /// [`lists_of`]; `OUT_OF_MEMORY`. On error `out` is unchanged.
+#[tactic(auto, using(crate::proofs::Reported::same_count))]
 pub fn list_into(
     alloc: Global,
     offsets: &[i64],
@@ -56,6 +57,7 @@ pub fn list_into(
 ///
 /// Errors: `TOO_DEEP` if the column has 128 levels; the status of the first broken rule of
 /// [`blocks_of`]; `OUT_OF_MEMORY`. On error `out` is unchanged.
+#[tactic(auto, using(crate::proofs::Reported::same_count))]
 pub fn fixed_size_list_into(
     alloc: Global,
     width: usize,

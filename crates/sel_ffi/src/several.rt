@@ -16,6 +16,7 @@ use std::alloc::Global;
 /// of its column, and each handle keeps its column.
 ///
 /// Errors: `NO_COLUMN` if a handle has no column; `OUT_OF_MEMORY`.
+#[tactic(auto, using(crate::proofs::Cloned::kept))]
 pub fn clone_all(alloc: Global, handles: &mut [Handle]) -> Result<Vec<ArrayRef>, u32>
     ensures rows { IfOk result (λ cloned. map (λ column. rows column.column) cloned.items ≡
         map (λ handle. held_rows handle.tree) handles.old) }
@@ -76,6 +77,7 @@ fn clone_one(alloc: Global, handle: &mut Handle) -> Result<ArrayRef, u32>
 }
 
 /// Frees the columns of all handles, which are empty afterwards.
+#[tactic(auto, using(crate::proofs::Emptied::emptied_more, crate::proofs::Emptied::emptied_all))]
 pub fn empty_all(alloc: Global, handles: &mut [Handle])
     ensures { All (λ handle. handle.tree ≡ None) handles.new }
 {

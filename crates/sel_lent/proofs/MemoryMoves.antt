@@ -3,29 +3,13 @@
 --     moves        the code of the function, whatever the names of the structs
 --     moved        it keeps the values. Assumes `Logic`
 use Rattle.std.proofs.Common.{◌≡◌, ℕ, List, [], ◌∷◌, ◌++◌, refl, sym, subst, ap, ◌∙◌}
-use mir.Syntax.{Sym, Ty, ty_ptr, ty_int, ty_struct, tcons, tnil, w64, Body, Fn, Callee, local, value_local, place, field, copy, rv_opd, aggregate, assign, seq, return}
-use mir.Val.{Val, vptr}
-use seplogic.Ra.Ura.{Ura}
-use base.Logic.{SProp, ent, id⊢}
-use base.Fml.{Fml, ftrue}
-use contract.Monad.{fact}
-use contract.Running.{Running, tables}
-use prog.Model.{Model}
-use prog.Wp.{WpFn, Closed}
-use types.Logic.{Logic, sem}
-use types.Kit.{‵, ◌⊛◌, ◌$◌, ◌∵◌, !, qed, drop, move, use1, split, fsplit, fjoin, join, suffices, done}
-use types.Part.{whole, sub, agg}
-use types.Run.{stop, fld, no_more, and_then, of_opd, returns, enter}
-use types.ByLocal.{alloc_all, pass_all, free_all, look_at, get, get_in, sets}
-use denote.Exit.{Exit, Last, left, yes, unseen}
-use denote.RattleType.{RattleType, owns}
-use denote.RawPtr.{block_ptr}
-use denote.Signature.{types_at, plain}
-use denote.Steps.{nothing}
-use denote.Triple.Clauses.{Ended, Clauses, closing}
-use denote.Triple.Spec.{Meets}
-use denote.Triple.Walked.{says, Stays, stay_dropped, walk_of, ends_at, Goes-dropped}
-use Rattle.std.proofs.raw_atomic.Walks.{proved_at}
+use Rattle.sel_ffi.proofs.Walks.{ !, agg, aggregate, alloc_all, and_then, assign, block_ptr, Body, Callee, Clauses, Closed, closing, copy}
+use Rattle.sel_ffi.proofs.Walks.{done, drop, Ended, ends_at, ent, enter, Exit, field, fjoin, fld, Fml, Fn, free_all, fsplit, ftrue, get}
+use Rattle.sel_ffi.proofs.Walks.{get_in, Goes-dropped, id⊢, join, Last, left, local, Logic, look_at, Meets, Model, move, no_more, nothing}
+use Rattle.sel_ffi.proofs.Walks.{of_opd, owns, pass_all, place, plain, proved_at, qed, RattleType, return, returns, Running, rv_opd, says}
+use Rattle.sel_ffi.proofs.Walks.{sem, seq, sets, split, SProp, stay_dropped, Stays, stop, sub, suffices, Sym, tables, tcons, tnil, turning}
+use Rattle.sel_ffi.proofs.Walks.{turns, Ty, ty_int, ty_ptr, ty_struct, types_at, unseen, Ura, use1, Val, value_local, vptr, w64, walk_of}
+use Rattle.sel_ffi.proofs.Walks.{whole, WpFn, yes, ‵, ◌$◌, ◌∵◌, ◌⊛◌}
 use Rattle.sel_bits.proofs.LentSteps.{three, memory_owns, memory_out, memory_in}
 use Rattle.sel_bits.specs.declared.lent.Lent.{Lent}
 
@@ -75,17 +59,10 @@ module _ {M : Type 1} {𝓤 : Ura M} (𝓛 : Logic 𝓤) (𝓜 : Model 𝓤 𝓛
   open 𝓛 use {H}
 
   abbrev ended : Ended
-  ended = record {
-    signature = record { lifetimes = 0; outlives = []; params = plain (λ κs. From.row) ∷ []; result = plain (λ κs. To.row) };
-    kept = (yes, tt);
-  }
+  ended = turns From.row To.row
 
   abbrev clauses : Clauses 𝓤 ended
-  clauses κs a = record {
-    ghost = Unit {0};
-    requires = λ g. sem 𝓛 ftrue;
-    ensures = λ g r e. fact 𝓤 ((To.lent r).items ≡ (From.lent a.0).items);
-  }
+  clauses = turning 𝓛 From.row To.row (λ a r. (To.lent r).items ≡ (From.lent a).items)
 
   abbrev memory : Lent R.Denot → List Val → Fml
   memory l = memory_owns R l.at l.len l.room l.items

@@ -1,7 +1,6 @@
-use Rattle.std.proofs.Common.{arith, All, ◌≡◌, ◌<◌, ◌++◌, ◌∷◌, [], length, map, ap, ◌∙◌, subst, take_all}
-use Rattle.std.proofs.Math.Seq.{map-set_same}
+use Rattle.std.proofs.Common.{arith, ◌≡◌, ◌<◌, ◌++◌, ◌∷◌, [], length, map, ap, ◌∙◌, subst}
 use Rattle.sel_ffi.proofs.Common.{common_steps, All-more, rows, type_of, ArrayRef, held_rows, held_type, HasColumn, Handle}
-use Rattle.sel_ffi.proofs.Cloned.{same_long, told_at, shared_more, lacks_at}
+use Rattle.sel_ffi.proofs.Cloned.{same_long, told_at, shared_more, kept_set}
 use Rattle.sel_ffi.proofs.several.clone_all.Goals as goal
 
 pub loop-i-preserved : goal.loop-i-preserved
@@ -16,31 +15,8 @@ loop-i-preserved c =
     let full = All-more (λ (h : Handle). HasColumn h.tree) c.args.handles.now l.i d below l.invariant.4 (subst HasColumn (told_at l.handles c.args.handles.now l.i d l.invariant.1) c.in-Ok-clone_one.ensures.full) in
     let pushed : c.push.new.self.items ≡ l.cloned.items ++ column ∷ [] = c.in-Ok-push.ensures.items in (
       grind (arith, common_steps),
-      map-set_same (λ (h : Handle). h.tree) l.handles l.i c.clone_one.new.handle d c.clone_one.ensures.unchanged ∙ l.invariant.1,
+      kept_set l.handles c.args.handles.now l.i c.clone_one.new.handle d c.clone_one.ensures.unchanged l.invariant.1,
       ap (map (λ (x : ArrayRef). rows x.column)) pushed ∙ rows_more,
       ap (map (λ (x : ArrayRef). type_of x.column)) pushed ∙ types_more,
       full,
     )
-
-pub returns-in-Err-clause-column : goal.returns-in-Err-clause-column
-returns-in-Err-clause-column c =
-    let l = c.loop-i in
-    let d = c.index-handles-i.result in
-    let long = same_long l.handles c.args.handles.now l.invariant.1 in
-    λ is. lacks_at c.args.handles.now l.handles l.i d (omega (arith, long, c.loop-i-test.true)) l.invariant.1 (c.in-Err.ensures.column is)
-
-pub returns-in-Err-clause-unchanged : goal.returns-in-Err-clause-unchanged
-returns-in-Err-clause-unchanged c =
-    let l = c.loop-i in
-    map-set_same (λ (h : Handle). h.tree) l.handles l.i c.clone_one.new.handle c.index-handles-i.result c.clone_one.ensures.unchanged ∙ l.invariant.1
-
-pub returns-in-Err-push-clause-unchanged : goal.returns-in-Err-push-clause-unchanged
-returns-in-Err-push-clause-unchanged c =
-    let l = c.loop-i in
-    map-set_same (λ (h : Handle). h.tree) l.handles l.i c.clone_one.new.handle c.index-handles-i.result c.clone_one.ensures.unchanged ∙ l.invariant.1
-
-pub returns-clause-full : goal.returns-clause-full
-returns-clause-full c =
-    let l = c.loop-i in
-    let long = same_long l.handles c.args.handles.now l.invariant.1 in
-    subst (All (λ (h : Handle). HasColumn h.tree)) (take_all l.i c.args.handles.now (omega (arith, long, c.loop-i-test.false))) l.invariant.4

@@ -1,29 +1,12 @@
 -- `start_of` reads the first word of a slice.
 use Rattle.std.proofs.Common.{List, [], ◌∷◌, ◌++◌, length, refl}
-use mir.Syntax.{Fn, Args, a_type}
-use mir.MapTy.{inst_fn}
-use mir.Val.{Val, vptr}
-use base.Logic.{SProp}
-use prog.Wp.{WpFn, Tables}
-use contract.Running.{tables, tables_of}
-use sound.WpLaws.{WpFn-mono}
-use types.Kit.{‵, raw, ◌⊛◌, prop, ◌$◌, ◌∵◌, !, qed, move, keep, drop, split, fsplit, fjoin, feq_l, feq_i, regoal, suffices, done, flt_l}
-use types.Part.{sub, whole}
-use types.Run.{enter, returns, fld, stop, addr, from, hop}
-use types.ByLocal.{alloc_all, pass_all, free_all, look_at, sets, look_in_at}
-use denote.Exit.{yes}
-use denote.RattleType.{owns}
-use denote.Builtin.{SliceRefOf}
-use denote.Param.{param, layouts}
-use denote.Signature.{plain, types_at}
-use denote.Slice.{slice_val}
-use denote.RawPtr.{block_ptr}
-use denote.Steps.{nothing}
-use denote.Triple.Clauses.{Clauses, Ended}
-use denote.Triple.Entry.{alive}
-use denote.Triple.Spec.{triple_of}
-use denote.Triple.Table.{entered}
-use denote.Triple.Walked.{says, Stays, stay_dropped, walk_of, ends_at, walk_Meets, Goes-dropped}
+use Rattle.sel_ffi.proofs.Walks.{ !, a_type, addr, alloc_all, Args, block_ptr, Clauses, done, drop, Ended, ends_at, enter, entered, feq_i}
+use Rattle.sel_ffi.proofs.Walks.{feq_l, fjoin, fld, flt_l, Fn, free_all, from, fsplit, Goes-dropped, hop, inst_fn, keep, layouts, look_at}
+use Rattle.sel_ffi.proofs.Walks.{look_in_at, move, nothing, owns, param, pass_all, plain, prop, qed, raw, regoal, returns, says, sets}
+use Rattle.sel_ffi.proofs.Walks.{SliceRefOf, split, SProp, stay_dropped, Stays, stop, sub, suffices, Tables, tables, triple_of, types_at}
+use Rattle.sel_ffi.proofs.Walks.{Val, vptr, walk_Meets, walk_of, whole, WpFn, WpFn-mono, yes, ‵, ◌$◌, ◌∵◌, ◌⊛◌}
+use contract.Running.{tables_of}
+use denote.{Slice.slice_val, Triple.Entry.alive}
 use Rattle.sel_lent.specs.contracts.showing.start_of as F
 use Rattle.sel_lent.specs.contracts.showing.start_of.Key.{name as #self}
 use Rattle.sel_lent.proofs.showing.start_of.Statement.{statement}

@@ -1,47 +1,21 @@
 -- `into_box` passes the pointer and the allocator to a call.
-use Rattle.std.proofs.Common.{List, [], ◌∷◌, ◌++◌, refl, sym, ap, subst}
-use mathlib.Core.Path.{◌≡◌}
-use mathlib.Core.Bool.{true, ◌&&◌}
-use lib.Dec.{T}
-use mir.Syntax.{Fn, Args, a_type, dcons, dnil}
-use mir.MapTy.{inst_fn}
-use mir.Val.{Val, vptr, has_ty, WT}
-use base.Logic.{ent, emp, id⊢}
-use base.Fml.{ftrue, flft}
-use contract.BorrowLft.{◌⊑◌}
-use prog.Wp.{WpFn, Tables}
-use contract.Monad.{fact, fact_i}
-use contract.Running.{tables, tables_of}
-use sound.WpLaws.{fm_of, WpFn-mono}
-use types.Kit.{‵, raw, at_ret, ◌⊛◌, some, later, ◌$◌, ◌∵◌, !, qed, move, drop, use0, use1, join, split, split3, pick, rewrite, fsplit, fjoin, feq_i, suffices, await, done}
-use types.Part.{whole, sub}
-use types.Run.{first, blocks, exec, stop, fld, no_more, and_then, of_opd, returns, enter}
-use types.ByLocal.{alloc_all, pass_all, free_all, look_at, get, get_in, sets, lands_last, env}
-use denote.RattleType.{RattleType, owns}
-use denote.Exit.{no}
-use denote.Param.{layout, param, bounded}
-use denote.Param.Laws.{param_laws}
-use denote.RawPtr.{block_ptr}
-use denote.Signature.{plain}
-use denote.Steps.{heard, nothing, only}
-use denote.Triple.Call.{calls_at_last}
-use Rattle.core.proofs.alloc.Shapes.{after}
-use denote.Triple.Clauses.{Ended, Clauses, Lasts, lasts}
-use denote.Triple.Spec.{triple_of}
-use denote.Triple.Statement.{Contract}
-use denote.Triple.Table.{entered}
-use denote.Triple.Walked.{says, Stays, stay_dropped, walk_of, ends_at, walk_Meets}
-use Rattle.core.proofs.alloc.Calls.{Al, Goes-blank}
+use Rattle.std.proofs.Common.{List, [], ◌∷◌, ◌++◌, refl, sym, ap, subst, ◌≡◌, true, ◌&&◌}
+use Rattle.sel_ffi.proofs.Walks.{ !, a_type, after, Al, alloc_all, and_then, and_tt, Args, at_ret, await, block_ptr, blocks, bounded, box_in}
+use Rattle.sel_ffi.proofs.Walks.{box_out, calls_at_last, Clauses, Contract, dcons, dnil, done, drop, emp, Ended, ends_at, ent, enter}
+use Rattle.sel_ffi.proofs.Walks.{entered, env, exec, fact, fact_i, feq_i, first, fjoin, fld, flft, fm_of, Fn, free_all, fsplit, ftrue, get}
+use Rattle.sel_ffi.proofs.Walks.{get_in, Goes-blank, has_ty, heard, id⊢, inst_fn, join, lands_last, Lasts, lasts, later, layout, look_at}
+use Rattle.sel_ffi.proofs.Walks.{move, no, no_more, nothing, of_opd, only, owns, param, param_laws, pass_all, pick, plain, qed, RattleType}
+use Rattle.sel_ffi.proofs.Walks.{raw, returns, rewrite, says, sets, some, split, split3, stay_dropped, Stays, stop, sub, suffices, T}
+use Rattle.sel_ffi.proofs.Walks.{Tables, tables, triple_of, use0, use1, Val, vptr, walk_Meets, walk_of, whole, WpFn, WpFn-mono, WT, ‵, ◌$◌}
+use Rattle.sel_ffi.proofs.Walks.{◌∵◌, ◌⊑◌, ◌⊛◌}
+use contract.Running.{tables_of}
 use Rattle.std_alloc.specs.contracts.boxed.Box.from_raw as made
 use Rattle.std_alloc.proofs.boxed.Box.from_raw.Met as made_met
 use Rattle.std_alloc.proofs.BoxSteps.Form as box
-use Rattle.std_alloc.proofs.BoxSteps.Steps.{box_out, box_in}
-use Rattle.std_alloc.proofs.ResultValues.{and_tt}
-use Rattle.sel_ffi.proofs.LooseSteps.{both, loose_out}
+use Rattle.sel_ffi.proofs.{LooseSteps.both, LooseSteps.loose_out, loose.Loose.into_box.Statement.statement}
 use Rattle.sel_ffi.specs.contracts.loose.Loose as loose
 use Rattle.sel_ffi.specs.contracts.loose.Loose.into_box as F
 use Rattle.sel_ffi.specs.contracts.loose.Loose.into_box.Key.{name as #self}
-use Rattle.sel_ffi.proofs.loose.Loose.into_box.Statement.{statement}
 use Rattle.sel_ffi.proofs.loose.Loose.into_box.Code as code
 
 pub into_box_spec : {M : Type 1} → statement M

@@ -1,49 +1,21 @@
 -- `of` splits the box by a call, and pairs the pointer with the allocator.
-use Rattle.std.proofs.Common.{List, [], ◌∷◌, ◌++◌, refl, sym, ap, ◌∙◌, subst}
-use mathlib.Core.Path.{◌≡◌}
-use mathlib.Core.Bool.{true, ◌&&◌}
-use lib.Dec.{T}
-use mir.Syntax.{Fn, Args, a_type, dcons, dnil}
-use mir.MapTy.{inst_fn}
-use mir.Raw.{raw as bare}
-use mir.Val.{Val, vptr, vstruct, of_list, has_ty, WT}
-use base.Logic.{ent, emp, id⊢, never, fst∗}
-use base.Fml.{ftrue, flft}
-use contract.BorrowLft.{◌⊑◌}
-use prog.Wp.{WpFn, Tables}
-use types.Logic.{sem}
-use contract.Monad.{fact, fact_i}
-use contract.Running.{tables, tables_of}
-use sound.WpLaws.{fm_of, WpFn-mono}
-use types.Kit.{‵, raw, ◌⊛◌, some, later, ◌$◌, ◌∵◌, !, qed, move, drop, use0, use1, join, split, split3, pick, rewrite, fsplit, fjoin, fpick, feq_l, suffices, await, done}
-use types.Part.{whole, sub, agg}
-use types.Run.{stop, fld, no_more, and_then, of_opd, returns, enter}
-use types.ByLocal.{alloc_all, pass_all, free_all, look_at, get, get_in, sets, lands_as}
-use denote.RattleType.{RattleType, owns}
-use denote.Exit.{no}
-use denote.Param.{layout, param, bounded}
-use denote.Param.Laws.{param_laws}
-use denote.RawPtr.{Ptr, RawPtr, block_ptr, null_ptr, ptr_val, in_a_block}
-use denote.Signature.{plain}
-use denote.Steps.{heard, nothing, only}
+use Rattle.std.proofs.Common.{List, [], ◌∷◌, ◌++◌, refl, sym, ap, ◌∙◌, subst, ◌≡◌, true, ◌&&◌}
+use Rattle.sel_ffi.proofs.Walks.{ !, a_type, agg, Al, alloc_all, and_then, and_tt, Args, await, bare, block_ptr, bounded, box_in, box_out}
+use Rattle.sel_ffi.proofs.Walks.{box_owns, calls_at, Clauses, Contract, dcons, dnil, done, drop, emp, Ended, ends_at, ent, enter, entered}
+use Rattle.sel_ffi.proofs.Walks.{fact, fact_i, feq_l, fjoin, fld, flft, fm_of, Fn, fpick, free_all, fsplit, fst∗, ftrue, get, get_in}
+use Rattle.sel_ffi.proofs.Walks.{Goes-blank, handle_tells, has_ty, heard, id⊢, in_a_block, inst_fn, join, lands_as, Lasts, lasts, later}
+use Rattle.sel_ffi.proofs.Walks.{layout, look_at, move, never, no, no_more, nothing, null_ptr, of_list, of_opd, only, owns, param}
+use Rattle.sel_ffi.proofs.Walks.{param_laws, pass_all, pick, plain, Ptr, ptr_val, qed, RattleType, raw, RawPtr, returns, rewrite, says, sem}
+use Rattle.sel_ffi.proofs.Walks.{sets, some, split, split3, stay_dropped, Stays, stop, sub, suffices, T, Tables, tables, token, triple_of}
+use Rattle.sel_ffi.proofs.Walks.{use0, use1, Val, vptr, vstruct, walk_Meets, walk_of, whole, WpFn, WpFn-mono, WT, ‵, ◌$◌, ◌∵◌, ◌⊑◌, ◌⊛◌}
+use contract.Running.{tables_of}
 use denote.Struct.Tuple.{Tuple}
-use denote.Triple.Call.{calls_at}
-use denote.Triple.Clauses.{Ended, Clauses, Lasts, lasts}
-use denote.Triple.Spec.{triple_of}
-use denote.Triple.Statement.{Contract}
-use denote.Triple.Table.{entered}
-use denote.Triple.Walked.{says, Stays, stay_dropped, walk_of, ends_at, walk_Meets}
-use Rattle.core.proofs.alloc.Calls.{Al, token, handle_tells, Goes-blank}
-use Rattle.std_alloc.specs.Box.Ownership.{box_owns}
 use Rattle.std_alloc.specs.contracts.boxed.Box.into_raw_with_allocator as apart
 use Rattle.std_alloc.proofs.boxed.Box.into_raw_with_allocator.Met as apart_met
 use Rattle.std_alloc.proofs.BoxSteps.Form as box
-use Rattle.std_alloc.proofs.BoxSteps.Steps.{box_out, box_in}
-use Rattle.std_alloc.proofs.ResultValues.{and_tt}
-use Rattle.sel_ffi.proofs.LooseSteps.{both, loose_in}
+use Rattle.sel_ffi.proofs.{LooseSteps.both, LooseSteps.loose_in, loose.Loose.of.Statement.statement}
 use Rattle.sel_ffi.specs.contracts.loose.Loose.of as F
 use Rattle.sel_ffi.specs.contracts.loose.Loose.of.Key.{name as #self}
-use Rattle.sel_ffi.proofs.loose.Loose.of.Statement.{statement}
 use Rattle.sel_ffi.proofs.loose.Loose.of.Code as code
 
 pub of_spec : {M : Type 1} → statement M
