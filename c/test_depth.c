@@ -1,5 +1,5 @@
-/* Columns of 128 levels, the most that a column can have: every function of both headers on a thread with a stack of 256 KiB, with
- * allocations refused in turn; the errors of level 129; and the makers, which leave their children unchanged on error, so that the
+/* Columns of 128 levels, the most that a column can have: every function of both headers on a thread whose stack is measured, with
+ * allocations refused in turn; no call may use more than 256 KiB of it; the errors of level 129; and the makers, which leave their children unchanged on error, so that the
  * call succeeds when it is tried again. */
 #define _POSIX_C_SOURCE 200809L
 
@@ -780,13 +780,29 @@ static void *run_shapes(void *unused) {
     return NULL;
 }
 
+/* The stack of the thread: larger than what a call may use, so that a call that uses more is measured and does not end the test. */
+static _Alignas(4096) unsigned char stack[4 * STACK];
+enum { UNTOUCHED = 0xA5 };
+
+/* Returns how many bytes of the stack, from its top on, a call has written to. */
+static size_t stack_used(void) {
+    size_t left = 0;
+    while (left < sizeof stack && stack[left] == UNTOUCHED) {
+        left += 1;
+    }
+    return sizeof stack - left;
+}
+
 int main(void) {
     pthread_attr_t attributes;
     pthread_t thread;
-    if (pthread_attr_init(&attributes) != 0 || pthread_attr_setstacksize(&attributes, STACK) != 0
+    memset(stack, UNTOUCHED, sizeof stack);
+    if (pthread_attr_init(&attributes) != 0 || pthread_attr_setstack(&attributes, stack, sizeof stack) != 0
         || pthread_create(&thread, &attributes, run_shapes, NULL) != 0 || pthread_join(thread, NULL) != 0) {
-        printf("no thread with a stack of 256 KiB\n");
+        printf("no thread with a stack of this program\n");
         return 1;
     }
-    return finish();
+    size_t used = stack_used();
+    printf("the calls use %zu KiB of stack at most, of %d that they may use\n", (used + 1023) / 1024, STACK / 1024);
+    return used > STACK ? 1 : finish();
 }

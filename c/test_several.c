@@ -229,8 +229,10 @@ void test_dictionaries(void) {
         IS(status != SEL_OK || (prints(&out[0], "[0,null,1,null]") && prints(&out[1], "[\"a\",\"c\"]")));
         IS(prints(&given[0], "[0,1,2,null]") && prints(&given[1], "[\"a\",null,\"c\"]"));
         IS(gives(sel_propagate_dictionary(&given[1], &given[0], &out[0], &out[1]), SEL_ERROR_UNSUPPORTED_TYPE));
-        DONE(sel_uint32_new(far, 1, SEL_ALL_VALID, &given[0]));
-        IS(refused || gives(sel_propagate_dictionary(&given[0], &given[1], &out[0], &out[1]), SEL_ERROR_INDEX_OUT_OF_BOUNDS));
+        /* the keys before stay if there is no memory for others */
+        status = sel_uint32_new(far, 1, SEL_ALL_VALID, &given[0]);
+        const sel_status wanted = status == SEL_OK ? SEL_ERROR_INDEX_OUT_OF_BOUNDS : SEL_OK;
+        IS(done(status) && gives(sel_propagate_dictionary(&given[0], &given[1], &out[0], &out[1]), wanted));
     }
     free_all(given, 2);
     free_all(out, 2);
