@@ -1,15 +1,10 @@
 -- The output for a line, by the checks in the code.
-use Rattle.std.proofs.Common.{◌≡◌, ℕ, ◌≤◌, ◌<◌, Bool, true, false, cond, List, length, Option, Some, None, arith, refl, ap, sym, ◌∙◌, Decides, IsUtf8, ◌==◌, ◌&&◌, nat_le, leb-true, le-leb}
-use Rattle.sel_lines.proofs.Common.{slice_split, Decides-and, take_rows, all_within, Value, column_text}
+use Rattle.std.proofs.Common.{◌≡◌, ℕ, ◌≤◌, ◌<◌, Bool, true, false, cond, List, length, Option, None, arith, refl, sym, Decides, IsUtf8, ◌==◌, ◌&&◌, nat_le, leb-true, le-leb}
+use Rattle.sel_lines.proofs.Common.{slice_split, Decides-and}
 use Rattle.std.specs.Str.{is_utf8}
 use Rattle.std.proofs.lemmas.Str.{IsUtf8-from_is_utf8, is_utf8-from_IsUtf8}
-use Rattle.sel_lines.specs.Take.{take_answer}
+use Rattle.std.proofs.lemmas.Bool.{cond-true}
 use Rattle.sel_lines.specs.Commands.{answer_of_words, answer_of_line}
-
-pub take_answered : (rows indices a b : List Value) (text : List ℕ) → rows ≡ a → indices ≡ b → all_within (length rows) indices ≡ true → text ≡ column_text (take_rows rows indices)
-    → Some text ≡ take_answer a b
-take_answered rows indices a b text isa isb within made =
-    ap Some made ∙ ap (λ t. cond t (Some (column_text (take_rows rows indices))) None) (sym within) ∙ ap (λ r. take_answer r indices) isa ∙ ap (take_answer a) isb
 
 pub none_unless : {A : Type 0} (b : Bool) (x : Option A) → (b ≡ true → ⊥) → None ≡ cond b x None
 none_unless true x never = absurd (never refl)
@@ -28,4 +23,4 @@ no_text line bad = none_unless _ _ (λ t. bad ((is_short_text line).0 t).1)
 
 pub of_text : (line : List ℕ) → length line ≤ 1048576 → IsUtf8 line → answer_of_words (slice_split (λ b. b == 32) line) ≡ answer_of_line line
 unfolding answer_of_line
-of_text line short text = ap (λ t. cond t (answer_of_words (slice_split (λ b. b == 32) line)) None) (sym ((is_short_text line).1 (short, text)))
+of_text line short text = sym (cond-true _ _ _ ((is_short_text line).1 (short, text)))

@@ -1,8 +1,11 @@
 -- If-then-else of rows.
-use Rattle.std.proofs.Common.{◌≡◌, ℕ, zero, suc, ◌<◌, Bool, true, false, cond, List, [], ◌∷◌, length, map, Option, Some, None, arith, refl, ap, sym, ◌∙◌, Decides, ◌==◌, ◌&&◌, count_by}
+use Rattle.std.proofs.Common.{◌≡◌, ℕ, zero, suc, ◌<◌, Bool, true, false, List, length, Option, Some, None, arith, refl, ap, sym, ◌∙◌, Decides, ◌==◌, ◌&&◌, count_by}
 use Rattle.sel_lines.proofs.Common.{Decides-and, Decides-eqb, Bits, bool_rows, Value, Truth, is_null}
+use Rattle.sel_arrow.proofs.Rows.{length-truth_rows}
 use Rattle.sel_ternary.specs.Choose.{choose}
 use Rattle.polars_compute.specs.Select.{effective_mask}
+use Rattle.std.proofs.lemmas.Bool.{cond-true}
+use Rattle.polars_compute.proofs.Selects.{in_force-all}
 use Rattle.polars_compute.proofs.Dictionaries.{bare_rows}
 use Rattle.sel_lines.specs.Choose.{choose_result}
 
@@ -14,16 +17,16 @@ pub no_nulls : (n : ℕ) (b : Bool) → b ≡ false → (0 < n → b ≡ true) �
 no_nulls zero b is some = refl
 no_nulls (suc n) b is some = absurd (let t = some (omega arith) in cc)
 
-forced : (bits : List Bool) → effective_mask (map Truth bits) ≡ bits
-forced [] = refl
-forced (b ∷ bits) = ap (λ r. b ∷ r) (forced bits)
-
 -- The effective mask of a mask without nulls is its values.
-pub plain_mask : (bits : List Bool) (validity : Option Bits) → count_by is_null (bool_rows bits validity) ≡ 0 → effective_mask (bool_rows bits validity) ≡ bits
-plain_mask bits validity none = sym (ap effective_mask (bare_rows Truth validity bits none)) ∙ forced bits
+plain_mask : (bits : List Bool) (validity : Option Bits) → count_by is_null (bool_rows bits validity) ≡ 0 →
+    effective_mask (bool_rows bits validity) ≡ bits
+plain_mask bits validity none = sym (ap effective_mask (bare_rows Truth validity bits none)) ∙ in_force-all bits None refl
 
 pub chosen : (bits : List Bool) (validity : Option Bits) (ts fs : List Value) → count_by is_null (bool_rows bits validity) ≡ 0 → length ts ≡ length (bool_rows bits validity) → length fs ≡ length (bool_rows bits validity)
     → Some (choose bits ts fs) ≡ choose_result (bool_rows bits validity) ts fs
 chosen bits validity ts fs none long other =
     let mask = bool_rows bits validity in
-    ap (λ ms. Some (choose ms ts fs)) (sym (plain_mask bits validity none)) ∙ ap (λ b. cond b (Some (choose (effective_mask mask) ts fs)) None) (sym ((test mask ts fs).1 (none, (long, other))))
+    ap (λ ms. Some (choose ms ts fs)) (sym (plain_mask bits validity none))
+    ∙ sym (cond-true _ _ _ ((test mask ts fs).1 (none, (long, other))))
+
+pub ruleset choices = (length-truth_rows, no_nulls, chosen)

@@ -1,5 +1,5 @@
 -- The names that most proofs cite, passed on from one place. Declares nothing.
-pub use Rattle.polars_compute.specs.Pick.{all_within, take_rows}
+pub use Rattle.polars_compute.specs.Pick.{all_within}
 pub use Rattle.polars_compute.specs.SelectRows.{rows_of_arrays, type_of_each}
 pub use Rattle.sel_arrow.proofs.Lists.{and_first, and_second, both}
 pub use Rattle.sel_arrow.specs.Columns.{primitive_rows}
@@ -19,10 +19,10 @@ pub use Rattle.sel_gather.specs.Need.{ExceedsRows, IsLimitOrMemory, byte_count, 
 pub use Rattle.sel_lines.specs.BlockParts.{HasBlocks, IsReadingBlocks, standing_for}
 pub use Rattle.sel_lines.specs.Blocks.{block_of, blocks_of, is_block, parsed_width}
 pub use Rattle.sel_lines.specs.Columns.{all_some, column_of, column_text, row_of, row_text}
-pub use Rattle.sel_lines.specs.Fixed.{entries_text, fixed_answer, fixed_read, fixed_words}
+pub use Rattle.sel_lines.specs.Fixed.{entries_text, fixed_words}
 pub use Rattle.sel_lines.specs.Flatten.{flat_text, flatten_answer, flatten_part, flatten_words, side_by_side}
 pub use Rattle.sel_lines.specs.ListParts.{AreFew, HasRead, IsListRow, IsReading, shown_list}
-pub use Rattle.sel_lines.specs.Lists.{list_of_word, lists_of, rows_of_bars}
+pub use Rattle.sel_lines.specs.Lists.{list_of_word, lists_of}
 pub use Rattle.sel_lines.specs.Numbers.{index_of, number_of, size_of, truth_of}
 pub use Rattle.sel_lines.specs.Parts.{HasOneSpelling, read_part, text_row}
 pub use Rattle.sel_lines.specs.Rows.{parsed_rows, shown_row}
@@ -30,8 +30,7 @@ pub use Rattle.sel_lines.specs.Texts.{string_value}
 pub use Rattle.std.proofs.lemmas.Bool.Decides.{Decides-and, Decides-eqb, Decides-ltb, nat_tests}
 pub use Rattle.std.proofs.lemmas.Int.{to_z-of_z}
 pub use Rattle.std.proofs.lemmas.List.{append-nil, get_or-map, length-drop, length-map, length-replicate, length-take, map-append, take-append-drop, take_all, take_more}
-pub use Rattle.std.proofs.lemmas.List.Elements.{All-from_recursion, All-head, All-nil, All-push, All-weaker}
+pub use Rattle.std.proofs.lemmas.List.Elements.{All-head, All-nil, All-push, All-weaker}
 pub use Rattle.std.proofs.lemmas.List.Folds.{list_all-append}
-pub use Rattle.std.proofs.lemmas.List.Sums.{count_by-le-length}
 pub use Rattle.std.proofs.lemmas.Result.{IfOk-weaker, err_from_is_err_and}
-pub use Rattle.std.specs.List.{All, AllByRecursion, count_by, join_with_byte, list_all, onto_first, slice_split}
+pub use Rattle.std.specs.List.{All, join_with_byte, list_all, onto_first, slice_split}

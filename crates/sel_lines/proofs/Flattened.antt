@@ -1,7 +1,9 @@
 -- The horizontal flatten of integer columns.
-use Rattle.std.proofs.Common.{◌≡◌, ℕ, ◌<◌, ◌≤◌, Bool, true, false, cond, Bor, List, [], ◌∷◌, length, map, Option, Some, None, arith, refl, ap, sym, subst, ◌∙◌, Decides, IsTrue, ◌&&◌, nat_lt, option_map, codes}
+use Rattle.std.proofs.Common.{◌≡◌, ℕ, ◌<◌, ◌≤◌, Bor, List, [], ◌∷◌, length, map, Option, Some, None, arith, refl, ap, sym, subst, ◌∙◌, Decides, IsTrue, ◌&&◌, nat_lt, option_map, codes}
 use Rattle.sel_lines.proofs.Common.{All, Decides-and, Decides-ltb, length-map, All-nil, All-head, All-weaker, max_rows, OutOfMemory, SizeLimit, ComputeError, rows, type_of, primitive_rows, of_int64, Value, ArrayRef, IsLimitOrMemory, ExceedsRows, all_some, column_text, flatten_part, side_by_side, flat_text, flatten_answer, flatten_words, read_part, size_of}
 use mathlib.Core.Logic.{⊎_elim}
+use Rattle.std.proofs.lemmas.Bool.{cond-true, cond-false}
+use Rattle.std.proofs.lemmas.Simd.{map-map}
 use Rattle.sel_bits.specs.declared.faults.Limit.{Limit}
 use Rattle.sel_bits.specs.declared.faults.Limit.TheVariants.{Rows}
 use Rattle.sel_bits.specs.declared.faults.PolarsError.{PolarsError}
@@ -11,6 +13,7 @@ use Rattle.polars_compute.specs.Flatten.{flatten, parts_fit, exceeded_flattened}
 use Rattle.sel_lines.specs.Words.{if_both}
 use Rattle.sel_lines.specs.declared.flatten.Part.{Part}
 use Rattle.sel_lines.proofs.Answered.{none_unless}
+use Rattle.sel_lines.proofs.MadeColumns.{few}
 use Rattle.sel_lines.proofs.RowLemmas.{map_now}
 
 -- ---- whether the columns fit
@@ -19,7 +22,7 @@ fit_test : (h : ℕ) (xss : List (List Value)) (ws : List ℕ) → Decides (nat_
 fit_test h xss ws = Decides-and _ _ (Decides-ltb 0 (length xss)) ((λ e. e), (λ e. e))
 
 pub fitting : (h : ℕ) (xss : List (List Value)) (ws : List ℕ) → 0 < length xss → IsTrue (parts_fit h xss ws) → side_by_side h xss ws ≡ Some (flatten xss ws h)
-fitting h xss ws some fit = ap (λ b. cond b (Some (flatten xss ws h)) None) ((fit_test h xss ws).1 (some, fit))
+fitting h xss ws some fit = cond-true _ _ _ ((fit_test h xss ws).1 (some, fit))
 
 pub not_fitting : (h : ℕ) (xss : List (List Value)) (ws : List ℕ) → (0 < length xss → IsTrue (parts_fit h xss ws) → ⊥) → None ≡ side_by_side h xss ws
 not_fitting h xss ws never = none_unless _ _ (λ t. let both = (fit_test h xss ws).0 t in never both.0 both.1)
@@ -44,16 +47,9 @@ many_rows n limit past = absurd past
 many_numbers : (h : ℕ) (columns : List Column) (vs : List Value) (limit : Limit) → exceeded_flattened h of_int64 columns vs limit → max_rows < length vs
 many_numbers h columns vs limit past = ⊎_elim (λ many. many_rows (length vs) limit many) (λ never. absurd never) past.1
 
-many_text : (vs : List Value) → max_rows < length vs → flat_text vs ≡ codes "size limit rows"
-many_text vs many = ap (λ b. cond b (codes "size limit rows") (column_text vs)) ((Decides-ltb max_rows (length vs)).1 many)
-
-few_text : (vs : List Value) (b : Bool) → nat_lt max_rows (length vs) ≡ b → (b ≡ true → ⊥) → flat_text vs ≡ column_text vs
-few_text vs true is never = absurd (never refl)
-few_text vs false is never = ap (λ b. cond b (codes "size limit rows") (column_text vs)) is
-
 -- Rows that a column can have.
 pub column_flat_text : (vs : List Value) → length vs ≤ max_rows → flat_text vs ≡ column_text vs
-column_flat_text vs few = few_text vs (nat_lt max_rows (length vs)) refl (λ t. let many = (Decides-ltb max_rows (length vs)).0 t in omega arith)
+column_flat_text vs le = cond-false _ _ _ (few (length vs) le)
 
 -- An error other than out of memory has this text.
 pub refused_text : (h : ℕ) (arrays : List ArrayRef) (ws : List ℕ) (fault : PolarsError) → 0 < length arrays → All (λ a. type_of a.column ≡ of_int64) arrays
@@ -67,30 +63,19 @@ refused_text h arrays ws (SizeLimit limit) some numbers fit refused =
     let long : 0 < length xss = rw length-map some in
     let past : exceeded_flattened h of_int64 columns (flatten xss ws h) limit =
     subst (λ s. exceeded_flattened h s columns (flatten xss ws h) limit) (first_number arrays some numbers) refused in
-    ap (option_map flat_text) (fitting h xss ws long fit) ∙ ap Some (many_text (flatten xss ws h) (many_numbers h columns (flatten xss ws h) limit past))
+    ap (option_map flat_text) (fitting h xss ws long fit)
+    ∙ ap Some (cond-true _ _ _ ((Decides-ltb max_rows _).1 (many_numbers h columns (flatten xss ws h) limit past)))
 refused_text h arrays ws ComputeError some numbers fit refused = absurd refused
 
 -- ---- the parsed parts
 
-columns_read : (parts : List Part) → map (λ part. part.1) (map read_part parts) ≡ map (λ part. primitive_rows part.column) parts
-columns_read [] = refl
-columns_read (part ∷ parts) = ap (λ xss. primitive_rows part.column ∷ xss) (columns_read parts)
-
-widths_read : (parts : List Part) → map (λ part. part.0) (map read_part parts) ≡ map (λ part. part.width) parts
-widths_read [] = refl
-widths_read (part ∷ parts) = ap (λ ws. part.width ∷ ws) (widths_read parts)
-
 pub answer_read : (h : ℕ) (parts : List Part)
     → option_map flat_text (side_by_side h (map (λ part. primitive_rows part.column) parts) (map (λ part. part.width) parts)) ≡ flatten_answer h (map read_part parts)
 answer_read h parts =
-    ap (λ xss. option_map flat_text (side_by_side h xss (map (λ part. part.width) parts))) (sym (columns_read parts))
-    ∙ ap (λ ws. option_map flat_text (side_by_side h (map (λ part. part.1) (map read_part parts)) ws)) (sym (widths_read parts))
+    rw (map-map (λ (part : ℕ × List Value). part.1) read_part parts, map-map (λ (part : ℕ × List Value). part.0) read_part parts) refl
 
 -- The words after the height are the parts.
 pub words_read : (words rest : List (Bor (List ℕ))) (first : Bor (List ℕ)) (h : ℕ) (parts : Option (List (ℕ × List Value))) → words ≡ first ∷ rest
     → Some h ≡ size_of first.now → parts ≡ all_some (map (λ word. flatten_part word.now) rest)
     → if_both flatten_answer (Some h) parts ≡ flatten_words (map (λ word. word.now) words)
-words_read words rest first h parts split height is =
-    ap (if_both flatten_answer (Some h)) (is ∙ ap all_some (map_now flatten_part rest))
-    ∙ ap (λ s. if_both flatten_answer s (all_some (map flatten_part (map (λ word. word.now) rest)))) height
-    ∙ ap (λ ws. flatten_words (map (λ word. word.now) ws)) (sym split)
+words_read words rest first h parts split height is = rw (split, ← height, is, map_now flatten_part rest) refl

@@ -1,11 +1,11 @@
 -- The result of `from_str_radix` for a word of lower-case hexadecimal digits.
-use Rattle.std.proofs.Common.{◌≡◌, ◌≢◌, ℕ, ◌^◌, ◌≤◌, ◌<◌, true, false, cond, List, [], ◌∷◌, length, get_or, Some, None, Result, Ok, Err, arith, ap, sym, ◌∙◌, lit<, subst, ◌&&◌, nat_lt, nat_le}
+use Rattle.std.proofs.Common.{◌≡◌, ◌≢◌, ℕ, ◌^◌, ◌<◌, true, false, List, [], ◌∷◌, length, get_or, Some, None, Result, Ok, Err, arith, ap, sym, ◌∙◌, lit<, subst, ◌&&◌, nat_lt, nat_le}
 use Rattle.std.specs.Char.{digit_value}
 use Rattle.sel_lines.proofs.Common.{list_all, nat_tests, Decides-ltb}
 use Rattle.std.specs.Result.{result_ok}
 use Rattle.std.specs.Str.Parse.{digits_value, ParsesUnsigned, AllDigits, IsNumeral}
 use Rattle.std.proofs.Math.Nat.{pow-le-pow_right}
-use Rattle.std.proofs.lemmas.Bool.{and_parts, leb-true}
+use Rattle.std.proofs.lemmas.Bool.{and_parts, cond-false, cond-true, leb-true}
 use Rattle.std.proofs.lemmas.Int.Digits.{digits_value-lt}
 use Rattle.std.proofs.lemmas.Str.Parse.{without_leading_plus_none}
 use Rattle.sel_lines.specs.Pext.{is_hex_digit, is_hex_word, word_of_hex}
@@ -16,47 +16,34 @@ hex_digit_value b digit = grind (arith, nat_tests)
 no_plus : (b : ℕ) → is_hex_digit b ≡ true → b ≢ 43
 no_plus b digit = grind (arith, nat_tests)
 
-hex_digits : (word : List ℕ) → list_all is_hex_digit word ≡ true → AllDigits 16 word
-hex_digits [] all = tt
+hex_digits : (word : List ℕ) → list_all is_hex_digit word ≡ true → AllDigits 16 word × (get_or word 0 0 ≢ 43)
+hex_digits [] all = (tt, λ e. omega arith)
 hex_digits (b ∷ word) all =
     let parts = and_parts (is_hex_digit b) (list_all is_hex_digit word) all in
-    (hex_digit_value b parts.0, hex_digits word parts.1)
+    ((hex_digit_value b parts.0, (hex_digits word parts.1).0), no_plus b parts.0)
 
-no_leading_plus : (word : List ℕ) → list_all is_hex_digit word ≡ true → get_or word 0 0 ≢ 43
-no_leading_plus [] all = λ e. omega arith
-no_leading_plus (b ∷ word) all = no_plus b (and_parts (is_hex_digit b) (list_all is_hex_digit word) all).0
-
-hex_fits : (word : List ℕ) → length word ≤ 16 → AllDigits 16 word → digits_value 16 word < 2 ^ 64
-hex_fits word short digits =
-    omega (arith, digits_value-lt 16 word digits, pow-le-pow_right {n = 16} (lit< tt) short)
-
-record IsHexWord (word : List ℕ) : Type 0 where
-  some : 0 < length word
-  plain : get_or word 0 0 ≢ 43
-  digits : AllDigits 16 word
-  fits : digits_value 16 word < 2 ^ 64
-
-hex_word : (word : List ℕ) → is_hex_word word ≡ true → IsHexWord word
+-- A word of lower-case hexadecimal digits is a numeral with no plus sign, and its value fits.
+hex_word : (word : List ℕ) → is_hex_word word ≡ true → (get_or word 0 0 ≢ 43) × (IsNumeral 16 word × (digits_value 16 word < 2 ^ 64))
 hex_word word is =
     let outer = and_parts (nat_lt 0 (length word) && nat_le (length word) 16) (list_all is_hex_digit word) is in
     let sizes = and_parts (nat_lt 0 (length word)) (nat_le (length word) 16) outer.0 in
     let digits = hex_digits word outer.1 in
-    record {
-      some = (Decides-ltb 0 (length word)).0 sizes.0;
-      plain = no_leading_plus word outer.1;
-      digits = digits;
-      fits = hex_fits word (leb-true (length word) 16 sizes.1) digits;
-    }
+    let few = pow-le-pow_right {n = 16} (lit< tt) (leb-true (length word) 16 sizes.1) in
+    (digits.1, (((Decides-ltb 0 (length word)).0 sizes.0, digits.0), omega (arith, digits_value-lt 16 word digits.0, few)))
 
 -- The result for such a word is the value of its digits.
-hex_result : {E : Type 0} (word : List ℕ) (r : Result ℕ E) → IsHexWord word → ParsesUnsigned 64 16 word r → result_ok r ≡ Some (digits_value 16 word)
-hex_result word (Ok n) is read = ap Some (read.1 ∙ ap (digits_value 16) (without_leading_plus_none word is.plain))
-hex_result word (Err e) is read = absurd (read (subst (λ (ds : List ℕ). IsNumeral 16 ds × (digits_value 16 ds < 2 ^ 64)) (sym (without_leading_plus_none word is.plain)) ((is.some, is.digits), is.fits)))
+hex_result : {E : Type 0} (word : List ℕ) (r : Result ℕ E) → is_hex_word word ≡ true → ParsesUnsigned 64 16 word r →
+    result_ok r ≡ Some (digits_value 16 word)
+hex_result word (Ok n) is read = ap Some (read.1 ∙ ap (digits_value 16) (without_leading_plus_none word (hex_word word is).0))
+hex_result word (Err e) is read =
+    let hex = hex_word word is in
+    absurd (read (subst (λ (ds : List ℕ). IsNumeral 16 ds × (digits_value 16 ds < 2 ^ 64)) (sym (without_leading_plus_none word hex.0))
+    hex.1))
 
 pub hex_parsed : {E : Type 0} (word : List ℕ) (r : Result ℕ E) → is_hex_word word ≡ true → ParsesUnsigned 64 16 word r → result_ok r ≡ word_of_hex word
 unfolding word_of_hex
-hex_parsed word r is read = hex_result word r (hex_word word is) read ∙ sym (ap (λ b. cond b (Some (digits_value 16 word)) None) is)
+hex_parsed word r is read = hex_result word r is read ∙ sym (cond-true _ _ _ is)
 
 pub hex_refused : (word : List ℕ) → is_hex_word word ≡ false → None ≡ word_of_hex word
 unfolding word_of_hex
-hex_refused word is = sym (ap (λ b. cond b (Some (digits_value 16 word)) None) is)
+hex_refused word is = sym (cond-false _ _ _ is)

@@ -24,7 +24,7 @@ memory_alone fault WantOfMemory none is = refl
 
 -- ---- columns without children
 
-few : (n : ℕ) → n ≤ max_rows → too_many n ≡ false
+pub few : (n : ℕ) → n ≤ max_rows → too_many n ≡ false
 few n le = grind (arith, nat_tests, le)
 
 within : (n last : ℕ) → last ≤ n → nat_lt n last ≡ false
@@ -34,8 +34,7 @@ alike : (m n : ℕ) → m ≡ n → not (m == n) ≡ false
 alike m n e = grind (arith, nat_tests, e)
 
 two_sound : (range prefix : Bool) → (range && prefix) ≡ true → first_broken ((ViewRange, not range) ∷ (ViewPrefix, not prefix) ∷ []) ≡ None
-two_sound true true h = refl
-two_sound true false h = absurd cc
+two_sound true prefix h = rw h refl
 two_sound false prefix h = absurd cc
 
 views_sound : (buffers : List (List ℕ)) (views : List View) → IsTrue (all_placed buffers views) → views_fault buffers views ≡ None

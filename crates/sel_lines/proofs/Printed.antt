@@ -6,50 +6,45 @@ use Rattle.std.specs.Str.Parse.{digits_value, signed_digits_value, ParsesSigned,
 use Rattle.std.specs.Fmt.{decimal, signed_decimal}
 use Rattle.std.specs.Int.Signed.{mag}
 use Rattle.sel_lines.proofs.Common.{Decides-and, Decides-ltb, HasOneSpelling}
-use Rattle.std.proofs.lemmas.Bool.{cases_eq}
+use Rattle.std.proofs.lemmas.Bool.{cases_eq, cond-true}
 use mathlib.Core.Logic.{⊎_elim}
 use Rattle.std.proofs.lemmas.Slice.Eq.{bytes_eq-Decides}
 use Rattle.std.proofs.lemmas.Fmt.{decimal_is_IsNumeral, first_decimal, decimal_digit, decimal-digits_value, parse-decimal, parse-signed_decimal}
 use Rattle.std.proofs.lemmas.Str.Parse.{parse_plain, parse_signed_plain, parse_signed_minus, numerals_by_value, tells_digits, digit_at, IsNumeralModel}
 use Rattle.sel_lines.specs.Numbers.{integer_of, unsigned_of}
 
-cond_true : {A : Type 0} (b : Bool) (x y : A) → b ≡ true → cond b x y ≡ x
-cond_true b x y e = rw e refl
-
 cond_none : {A : Type 0} (b : Bool) (x : A) → (b ≡ true → ⊥) → cond b (Some x) None ≡ None
 cond_none true x never = absurd (never refl)
 cond_none false x never = refl
 
-pub test_of : (printed word : List ℕ) (m n : ℕ) → Decides (bytes_eq printed word && nat_lt m n) ((printed ≡ word) × (m < n))
+test_of : (printed word : List ℕ) (m n : ℕ) → Decides (bytes_eq printed word && nat_lt m n) ((printed ≡ word) × (m < n))
 test_of printed word m n = Decides-and _ _ (bytes_eq-Decides printed word) (Decides-ltb m n)
 
-pub integer_some : (word : List ℕ) (z : ℤ) → z ≡ signed_digits_value 10 word → signed_decimal z ≡ word → mag z < 2 ^ 63 → integer_of word ≡ Some z
+read_some : {A : Type 0} (printed word : List ℕ) (m n : ℕ) (x : A) → printed ≡ word → m < n →
+    cond (bytes_eq printed word && nat_lt m n) (Some x) None ≡ Some x
+read_some printed word m n x prints small = cond-true _ _ _ ((test_of printed word m n).1 (prints, small))
+
+read_none : {A : Type 0} (printed word : List ℕ) (m n : ℕ) (x : A) → (printed ≡ word → m < n → ⊥) →
+    cond (bytes_eq printed word && nat_lt m n) (Some x) None ≡ None
+read_none printed word m n x never = cond_none _ x (λ t. let both = (test_of printed word m n).0 t in never both.0 both.1)
+
+integer_some : (word : List ℕ) (z : ℤ) → z ≡ signed_digits_value 10 word → signed_decimal z ≡ word → mag z < 2 ^ 63 →
+    integer_of word ≡ Some z
 unfolding integer_of
-integer_some word z is prints small =
-    let v = signed_digits_value 10 word in
-    let same : signed_decimal v ≡ word = ap signed_decimal (sym is) ∙ prints in
-    let fits : mag v < 2 ^ 63 = rw (← is) small in
-    cond_true _ _ _ ((test_of (signed_decimal v) word (mag v) (2 ^ 63)).1 (same, fits)) ∙ ap Some (sym is)
+integer_some word z is prints small = rw (← is) (read_some (signed_decimal z) word (mag z) (2 ^ 63) z prints small)
 
-pub integer_none : (word : List ℕ) → ((z : ℤ) → signed_decimal z ≡ word → mag z < 2 ^ 63 → ⊥) → integer_of word ≡ None
+integer_none : (word : List ℕ) → ((z : ℤ) → signed_decimal z ≡ word → mag z < 2 ^ 63 → ⊥) → integer_of word ≡ None
 unfolding integer_of
-integer_none word never =
-    let v = signed_digits_value 10 word in
-    cond_none _ _ (λ t. let both = (test_of (signed_decimal v) word (mag v) (2 ^ 63)).0 t in never v both.0 both.1)
+integer_none word never = let v = signed_digits_value 10 word in read_none (signed_decimal v) word (mag v) (2 ^ 63) v (never v)
 
-pub unsigned_some : (bits : ℕ) (word : List ℕ) (n : ℕ) → n ≡ digits_value 10 word → decimal n ≡ word → n < 2 ^ bits → unsigned_of bits word ≡ Some n
+unsigned_some : (bits : ℕ) (word : List ℕ) (n : ℕ) → n ≡ digits_value 10 word → decimal n ≡ word → n < 2 ^ bits →
+    unsigned_of bits word ≡ Some n
 unfolding unsigned_of
-unsigned_some bits word n is prints small =
-    let v = digits_value 10 word in
-    let same : decimal v ≡ word = ap decimal (sym is) ∙ prints in
-    let fits : v < 2 ^ bits = rw (← is) small in
-    cond_true _ _ _ ((test_of (decimal v) word v (2 ^ bits)).1 (same, fits)) ∙ ap Some (sym is)
+unsigned_some bits word n is prints small = rw (← is) (read_some (decimal n) word n (2 ^ bits) n prints small)
 
-pub unsigned_none : (bits : ℕ) (word : List ℕ) → ((n : ℕ) → decimal n ≡ word → n < 2 ^ bits → ⊥) → unsigned_of bits word ≡ None
+unsigned_none : (bits : ℕ) (word : List ℕ) → ((n : ℕ) → decimal n ≡ word → n < 2 ^ bits → ⊥) → unsigned_of bits word ≡ None
 unfolding unsigned_of
-unsigned_none bits word never =
-    let v = digits_value 10 word in
-    cond_none _ _ (λ t. let both = (test_of (decimal v) word v (2 ^ bits)).0 t in never v both.0 both.1)
+unsigned_none bits word never = let v = digits_value 10 word in read_none (decimal v) word v (2 ^ bits) v (never v)
 
 own : IsNumeralModel (AllDigits 10) (digits_value 10)
 own = numerals_by_value _ tells_digits

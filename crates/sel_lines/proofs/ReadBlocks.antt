@@ -1,17 +1,16 @@
 -- Fixed-size lists that are parsed one by one.
-use Rattle.std.proofs.Common.{◌≡◌, ℕ, ℤ, zero, suc, pos, ◌*◌, Bool, true, false, cond, List, [], ◌∷◌, ◌++◌, length, length-append, get_or, map, replicate, Bor, Some, None, arith, refl, ap, sym, ◌∙◌, ◌==◌, ◌&&◌, option_and_then}
-use Rattle.sel_lines.proofs.Common.{list_all, Decides-eqb, map-append, append-nil, length-map, length-replicate, list_all-append, Bits, ComputeError, hidden, list_of, blocks, block_rows, rows, Value, Null, Truth, Number, Bytes, Items, Tuple, is_valid, validities, both, and_first, and_second, items_in, joined_items, blocks_of, is_block, parsed_width, HasBlocks, standing_for, column_text, entries_text, fixed_answer, fixed_read, fixed_words, shown_list, number_of, truth_of}
-use Rattle.sel_bits.specs.Faults.{error_text}
+use Rattle.std.proofs.Common.{◌≡◌, ℕ, ℤ, zero, suc, pos, ◌*◌, Bool, true, List, [], ◌∷◌, ◌++◌, length, length-append, get_or, map, replicate, Bor, Some, None, arith, refl, ap, sym, ◌∙◌, ◌==◌, ◌&&◌}
+use Rattle.sel_lines.proofs.Common.{list_all, Decides-eqb, map-append, append-nil, length-map, length-replicate, list_all-append, Bits, hidden, list_of, blocks, block_rows, rows, Value, Null, Truth, Number, Bytes, Items, Tuple, is_valid, validities, both, and_first, and_second, items_in, joined_items, blocks_of, is_block, parsed_width, HasBlocks, standing_for, entries_text, fixed_words, shown_list, number_of, truth_of}
 use Rattle.sel_arrow.specs.NestedArrays.{block_column}
 use Rattle.sel_arrow.specs.declared.fixed_size_list.FixedSizeListArray.{FixedSizeListArray}
 use Rattle.sel_gather.proofs.ItemRuns.{joined-append, listed_values}
 use Rattle.sel_gather.proofs.Rebuilt.{IsBlock, blocks_length, blocks_rebuilt}
 use Rattle.sel_lines.specs.declared.blocks.Blocks.{Blocks}
-use Rattle.polars_compute.specs.Entries.{fixed_get, at_each, is_get_error}
+use Rattle.polars_compute.specs.Entries.{at_each}
 use Rattle.polars_compute.proofs.Elements.{long_rows}
 use Rattle.sel_lines.specs.declared.rows.Rows.{Rows}
-use Rattle.sel_lines.specs.Words.{if_both}
-use Rattle.sel_lines.proofs.ReadLists.{hidden-append, length-hidden}
+use Rattle.sel_lines.proofs.ReadLists.{held_length}
+use Rattle.sel_lines.proofs.RowLemmas.{items_more}
 
 -- ---- a row, and the list that is stored for it
 
@@ -52,10 +51,9 @@ shown_again w (Tuple parts ∷ read) = ap (λ l. Tuple parts ∷ l) (shown_again
 -- A list has as many items as were parsed.
 pub width_is : (w n : ℕ) (items : Rows ℤ) → n ≡ length items.values.items → (n == w) ≡ is_block w (shown_list (Some items))
 width_is w n items count =
-    let row = hidden items.validity.items (map Number items.values.items) in
-    let long : length items.validity.items ≡ length (map Number items.values.items) = items.paired ∙ sym (length-map items.values.items Number) in
-    let all = count ∙ sym (ap length (listed_values row) ∙ length-hidden items.validity.items (map Number items.values.items) long ∙ length-map items.values.items Number) in
-    ap (λ m. m == w) all
+    ap (λ m. m == w) (count
+    ∙ sym (ap length (listed_values (hidden items.validity.items (map Number items.values.items)))
+    ∙ held_length items.validity.items items.values.items))
 
 -- ---- one more row
 
@@ -64,12 +62,9 @@ pub block_more : (w : ℕ) (read : List Value) (old new : Blocks) (row : Value) 
     hidden bs (map Number xs) ≡ items_in w (standing_for w row) → is_block w row ≡ true → HasBlocks w (read ++ row ∷ []) new
 block_more w read old new row xs bs b has paired values flags valid is held wide =
     let st = standing_for w in
-    let long : length old.flags.items ≡ length (map Number old.values.items) = has.flags ∙ sym (length-map old.values.items Number) in
     record {
       items =
-          ap (λ l. hidden l (map Number new.values.items)) flags ∙ ap (λ l. hidden (old.flags.items ++ bs) (map Number l)) values
-          ∙ ap (hidden (old.flags.items ++ bs)) (map-append Number old.values.items xs)
-          ∙ hidden-append old.flags.items bs (map Number old.values.items) (map Number xs) long
+          items_more Number old.flags.items new.flags.items bs old.values.items new.values.items xs has.flags flags values
           ∙ ap (λ l. l ++ hidden bs (map Number xs)) has.items ∙ ap (λ l. joined_items w (map st read) ++ l) (held ∙ sym (append-nil (items_in w (st row))))
           ∙ sym (ap (joined_items w) (map-append st read (row ∷ [])) ∙ joined-append w (map st read) (st row ∷ []));
       flags = omega (arith, ap length values, ap length flags, length-append old.values.items xs, length-append old.flags.items bs, has.flags, paired);
@@ -77,21 +72,9 @@ block_more w read old new row xs bs b has paired values flags valid is held wide
       all = list_all-append (is_block w) read (row ∷ []) ∙ both (list_all (is_block w) read) (is_block w row && true) has.all (both (is_block w row) true wide refl);
     }
 
-plain_zeros : (w : ℕ) → hidden (replicate w true) (map Number (replicate w (pos 0))) ≡ replicate w (Number (pos 0))
+pub plain_zeros : (w : ℕ) → hidden (replicate w true) (map Number (replicate w (pos 0))) ≡ replicate w (Number (pos 0))
 plain_zeros zero = refl
 plain_zeros (suc w) = ap (λ l. Number (pos 0) ∷ l) (plain_zeros w)
-
-pub null_block_more : (w : ℕ) (read : List Value) (old new : Blocks) → HasBlocks w read old → new.values.items ≡ old.values.items ++ replicate w (pos 0) →
-    new.flags.items ≡ old.flags.items ++ replicate w true → new.validity.items ≡ old.validity.items ++ false ∷ [] → HasBlocks w (read ++ Null ∷ []) new
-null_block_more w read old new has values flags valid =
-    block_more w read old new Null (replicate w (pos 0)) (replicate w true) false has (length-replicate w true ∙ sym (length-replicate w (pos 0))) values flags valid refl
-    (plain_zeros w ∙ sym (listed_values (replicate w (Number (pos 0))))) refl
-
-pub list_block_more : (w : ℕ) (read : List Value) (old new : Blocks) (xs : List ℤ) (bs : List Bool) → HasBlocks w read old → length bs ≡ length xs →
-    new.values.items ≡ old.values.items ++ xs → new.flags.items ≡ old.flags.items ++ bs → new.validity.items ≡ old.validity.items ++ true ∷ [] →
-    is_block w (list_of (hidden bs (map Number xs))) ≡ true → HasBlocks w (read ++ list_of (hidden bs (map Number xs)) ∷ []) new
-list_block_more w read old new xs bs has paired values flags valid wide =
-    block_more w read old new (list_of (hidden bs (map Number xs))) xs bs true has paired values flags valid refl (sym (listed_values (hidden bs (map Number xs)))) wide
 
 -- ---- the column
 
@@ -107,27 +90,17 @@ blocks_made w n read parts child validity has count items valid =
 
 -- ---- the output
 
-same_text : (arr : FixedSizeListArray) (w : ℕ) (read : List Value) (index : ℤ) (b : Bool) → rows (block_column arr) ≡ read → arr.size ≡ w →
+-- The message of the error or the elements, printed.
+pub entries_printed : (arr : FixedSizeListArray) (w : ℕ) (read : List Value) (index : ℤ) (b : Bool) → rows (block_column arr) ≡ read →
+    arr.size ≡ w →
     entries_text arr.size (rows (block_column arr)) (at_each arr index) b ≡ entries_text w read (replicate (length read) (Number index)) b
-same_text arr w read index b is size =
+entries_printed arr w read index b is size =
     ap (λ s. entries_text s (rows (block_column arr)) (at_each arr index) b) size ∙ ap (λ xs. entries_text w xs (at_each arr index) b) is
     ∙ ap (λ n. entries_text w read (replicate n (Number index)) b) (sym (long_rows arr) ∙ ap length is)
-
-pub entries_printed : (arr : FixedSizeListArray) (w : ℕ) (read : List Value) (index : ℤ) (b : Bool) → rows (block_column arr) ≡ read → arr.size ≡ w → is_get_error b arr (at_each arr index) ≡ false →
-    column_text (fixed_get (rows (block_column arr)) arr.size (at_each arr index)) ≡ entries_text w read (replicate (length read) (Number index)) b
-entries_printed arr w read index b is size inside =
-    sym (ap (λ t. cond t (error_text ComputeError) (column_text (fixed_get (rows (block_column arr)) arr.size (at_each arr index)))) inside) ∙ same_text arr w read index b is size
-
-pub refusal_printed : (arr : FixedSizeListArray) (w : ℕ) (read : List Value) (index : ℤ) (b : Bool) → rows (block_column arr) ≡ read → arr.size ≡ w → is_get_error b arr (at_each arr index) ≡ true →
-    error_text ComputeError ≡ entries_text w read (replicate (length read) (Number index)) b
-refusal_printed arr w read index b is size outside =
-    sym (ap (λ t. cond t (error_text ComputeError) (column_text (fixed_get (rows (block_column arr)) arr.size (at_each arr index)))) outside) ∙ same_text arr w read index b is size
 
 pub fixed_answered : (words : List (Bor (List ℕ))) (d : Bor (List ℕ)) (w : ℕ) (read : List Value) (index : ℤ) (b : Bool) (text : List ℕ) → length words ≡ 4 →
     Some w ≡ parsed_width (get_or words 0 d).now → blocks_of w (get_or words 1 d).now ≡ Some read → Some (Number index) ≡ number_of (get_or words 2 d).now → Some (Truth b) ≡ truth_of (get_or words 3 d).now →
     text ≡ entries_text w read (replicate (length read) (Number index)) b → Some text ≡ fixed_words (map (λ word. word.now) words)
 fixed_answered (width ∷ lists ∷ at ∷ oob ∷ []) d w read index b text four wide held placed asked made =
-    ap Some made
-    ∙ ap (if_both (fixed_answer w read) (Some (Number index))) asked ∙ ap (λ x. if_both (fixed_answer w read) x (truth_of oob.now)) placed
-    ∙ ap (option_and_then (λ rows. if_both (fixed_answer w rows) (number_of at.now) (truth_of oob.now))) (sym held) ∙ ap (option_and_then (fixed_read lists.now at.now oob.now)) wide
+    rw (← wide, held, ← placed, ← asked, ← made) refl
 fixed_answered words d w read index b text four wide held placed asked made = absurd (omega arith)

@@ -1,20 +1,21 @@
 -- Rows that are parsed and printed one by one.
-use Rattle.std.proofs.Common.{◌≡◌, ◌≢◌, ℕ, zero, suc, ◌+◌, ◌≤◌, ◌<◌, Bool, false, List, [], ◌∷◌, ◌++◌, length, get_or, take, drop, map, Option, Some, None, arith, refl, ap, sym, ◌∙◌, Bor, append_assoc, option_map, codes, ◌==◌, bytes_eq, cond, is_some, unwrap_or}
+use Rattle.std.proofs.Common.{◌≡◌, ◌≢◌, ℕ, zero, suc, ◌+◌, ◌≤◌, ◌<◌, Bool, false, List, [], ◌∷◌, ◌++◌, length, get_or, take, drop, map, Option, Some, None, arith, refl, ap, sym, ◌∙◌, Bor, append_assoc, option_map, codes, cond, is_some, unwrap_or}
 use Rattle.sel_lines.proofs.Common.{join_with_byte, slice_split, take_more, map-append, take-append-drop, length-take, length-map, hidden, shown_row, Value, Null}
 use Rattle.std.proofs.Math.Seq.{drop-cons}
-use Rattle.sel_lines.specs.Columns.{all_some, row_of, column_of, row_text, column_text}
+use Rattle.std.proofs.lemmas.Simd.{map-map}
+use Rattle.sel_gather.proofs.Grown.{hidden-append}
+use Rattle.sel_lines.specs.Columns.{all_some, row_text, column_text}
 
-push_on : {X : Type 0} (x : X) (front grown : Option (List X)) (ys : List X) (y : X) → ((zs : List X) → front ≡ Some zs → grown ≡ Some (zs ++ (y ∷ [])))
-    → option_map (λ zs. x ∷ zs) front ≡ Some ys → option_map (λ zs. x ∷ zs) grown ≡ Some (ys ++ (y ∷ []))
-push_on x None grown ys y step made = cc
-push_on x (Some zs) grown ys y step made =
-    let same : x ∷ zs ≡ ys = cc in
-    ap (option_map (λ r. x ∷ r)) (step zs refl) ∙ ap (λ r. Some (r ++ (y ∷ []))) same
+pub mapped_some : {A B P : Type 0} (f : A → B) (found : Option A) (y : B) → option_map f found ≡ Some y →
+    ((x : A) → found ≡ Some x → f x ≡ y → P) → P
+mapped_some f None y is then = absurd cc
+mapped_some f (Some x) y is then = then x refl cc
 
 all_some_push : {X : Type 0} (xs : List (Option X)) (ys : List X) (y : X) → all_some xs ≡ Some ys → all_some (xs ++ (Some y ∷ [])) ≡ Some (ys ++ (y ∷ []))
 all_some_push [] ys y e = let same : [] ≡ ys = cc in ap (λ r. Some (r ++ (y ∷ []))) same
 all_some_push (None ∷ xs) ys y e = cc
-all_some_push (Some x ∷ xs) ys y e = push_on x (all_some xs) (all_some (xs ++ (Some y ∷ []))) ys y (λ zs is. all_some_push xs zs y is) e
+all_some_push (Some x ∷ xs) ys y e =
+    mapped_some (λ zs. x ∷ zs) (all_some xs) ys e (λ zs here made. rw (all_some_push xs zs y here, ← made) refl)
 
 all_some_none : {X : Type 0} (xs zs : List (Option X)) → all_some (xs ++ (None ∷ zs)) ≡ None
 all_some_none [] zs = refl
@@ -28,6 +29,15 @@ rows_step f words i d rows row lt before here =
     let grown : map f (take (i + 1) words) ≡ map f (take i words) ++ (Some row ∷ []) =
     ap (map f) (take_more words i d lt) ∙ map-append f (take i words) (get_or words i d ∷ []) ∙ ap (λ r. map f (take i words) ++ (r ∷ [])) here in
     ap all_some grown ∙ all_some_push (map f (take i words)) rows row before
+
+-- One more item, with the row that it shows.
+pub rows_pushed : {A B X : Type 0} (f : A → Option X) (shown : B → X) (words : List A) (i : ℕ) (d : A) (old new : List B) (item : B) →
+    i < length words
+    → all_some (map f (take i words)) ≡ Some (map shown old) → f (get_or words i d) ≡ Some (shown item) → new ≡ old ++ (item ∷ []) →
+    all_some (map f (take (i + 1) words)) ≡ Some (map shown new)
+rows_pushed f shown words i d old new item lt before here more =
+    rows_step f words i d (map shown old) (shown item) lt before here
+    ∙ ap Some (sym (ap (map shown) more ∙ map-append shown old (item ∷ [])))
 
 -- A word that is not a row.
 pub rows_none : {A X : Type 0} (f : A → Option X) (words : List A) (i : ℕ) (d : A) → i < length words → f (get_or words i d) ≡ None → None ≡ all_some (map f words)
@@ -74,35 +84,31 @@ text_of_some [] some = absurd (some refl)
 text_of_some (row ∷ rows) some = refl
 
 pub map_now : {Y : Type 0} (f : List ℕ → Y) (words : List (Bor (List ℕ))) → map (λ word. f word.now) words ≡ map f (map (λ word. word.now) words)
-map_now f [] = refl
-map_now f (word ∷ words) = ap (λ ys. f word.now ∷ ys) (map_now f words)
+map_now f words = sym (map-map f (λ (word : Bor (List ℕ)). word.now) words)
 
--- The rows of the words between commas are the column.
-pub column_from_rows : (value_of : List ℕ → Option Value) (word : List ℕ) (words : List (Bor (List ℕ))) → false ≡ bytes_eq word (codes "-")
-    → map (λ part. part.now) words ≡ slice_split (λ b. b == 44) word → all_some (map (λ part. row_of value_of part.now) words) ≡ column_of value_of word
-column_from_rows value_of word words long cut =
-    let read = ap all_some (map_now (row_of value_of) words ∙ ap (map (row_of value_of)) cut) in
-    read ∙ ap (λ b. cond b (Some []) (all_some (map (row_of value_of) (slice_split (λ b. b == 44) word)))) long
+-- The rows of the words between separators are the rows of the whole word.
+pub parts_read : (value_of : List ℕ → Option Value) (p : ℕ → Bool) (none : Bool) (word : List ℕ) (parts words : List (Bor (List ℕ))) →
+    false ≡ none → words ≡ parts → map (λ part. part.now) parts ≡ slice_split p word →
+    all_some (map (λ part. value_of part.now) words) ≡ cond none (Some []) (all_some (map value_of (slice_split p word)))
+parts_read value_of p none word parts words some same cut = rw (same, ← some, ← cut) (ap all_some (map_now value_of parts))
 
 -- ---- items and their validity
-
-pub hidden_push : (bs : List Bool) (vs : List Value) (b : Bool) (v : Value) → length bs ≡ length vs → hidden (bs ++ (b ∷ [])) (vs ++ (v ∷ [])) ≡ hidden bs vs ++ (cond b v Null ∷ [])
-hidden_push [] [] b v same = refl
-hidden_push [] (w ∷ vs) b v same = absurd (omega (arith, same))
-hidden_push (a ∷ bs) [] b v same = absurd (omega (arith, same))
-hidden_push (a ∷ bs) (w ∷ vs) b v same = ap (λ r. cond a w Null ∷ r) (hidden_push bs vs b v (omega (arith, same)))
 
 shown_here : {T : Type 0} (shown : T → Value) (row : Option T) (beneath : T) → cond (is_some row) (shown (unwrap_or row beneath)) Null ≡ shown_row shown row
 shown_here shown None beneath = refl
 shown_here shown (Some item) beneath = refl
+
+-- More items and flags.
+pub items_more : {T : Type 0} (shown : T → Value) (fs gs bs : List Bool) (xs zs ys : List T) → length fs ≡ length xs → gs ≡ fs ++ bs →
+    zs ≡ xs ++ ys
+    → hidden gs (map shown zs) ≡ hidden fs (map shown xs) ++ hidden bs (map shown ys)
+items_more shown fs gs bs xs zs ys paired isg isz =
+    rw (isg, isz, map-append) (hidden-append fs bs (map shown xs) (map shown ys) (paired ∙ sym (length-map xs shown)))
 
 -- One more optional item.
 pub hidden_more : {T : Type 0} (shown : T → Value) (bs cs : List Bool) (xs ys : List T) (row : Option T) (beneath : T) → length bs ≡ length xs
     → cs ≡ bs ++ (is_some row ∷ []) → ys ≡ xs ++ (unwrap_or row beneath ∷ [])
     → hidden bs (map shown xs) ++ (shown_row shown row ∷ []) ≡ hidden cs (map shown ys)
 hidden_more shown bs cs xs ys row beneath same isc isy =
-    let long : length bs ≡ length (map shown xs) = same ∙ sym (length-map xs shown) in
-    let mapped : map shown ys ≡ map shown xs ++ (shown (unwrap_or row beneath) ∷ []) = ap (map shown) isy ∙ map-append shown xs (unwrap_or row beneath ∷ []) in
-    sym (ap (λ v. hidden v (map shown ys)) isc ∙ ap (hidden (bs ++ (is_some row ∷ []))) mapped
-    ∙ hidden_push bs (map shown xs) (is_some row) (shown (unwrap_or row beneath)) long
-    ∙ ap (λ v. hidden bs (map shown xs) ++ (v ∷ [])) (shown_here shown row beneath))
+    ap (λ v. hidden bs (map shown xs) ++ (v ∷ [])) (sym (shown_here shown row beneath))
+    ∙ sym (items_more shown bs cs (is_some row ∷ []) xs ys (unwrap_or row beneath ∷ []) same isc isy)

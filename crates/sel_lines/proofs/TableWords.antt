@@ -1,5 +1,5 @@
 -- The words of a line of `table`, and the types of its columns.
-use Rattle.std.proofs.Common.{◌≡◌, ℕ, ◌-◌, ◌<◌, Bor, List, [], ◌∷◌, All, length, get_or, map, take, drop, Option, Some, arith, refl, ap, sym, ◌∙◌}
+use Rattle.std.proofs.Common.{◌≡◌, ℕ, ◌-◌, ◌<◌, Bor, List, ◌∷◌, All, length, get_or, map, take, drop, Option, Some, arith, refl, ap, sym, ◌∙◌}
 use Rattle.sel_lines.proofs.Common.{get_or-map, length-map, length-drop, take_all, type_of, of_int64, Value, ArrayRef, all_some, column_of, index_of, number_of, truth_of, type_of_each}
 use Rattle.sel_lines.specs.Table.{table_read, table_words}
 use Rattle.sel_lines.proofs.RowLemmas.{map_now}
@@ -14,19 +14,12 @@ same_types xs ys same numbers = λ k d h.
 
 -- ---- the words of a line
 
-table_shape : (words rest : List (Bor (List ℕ))) (d : Bor (List ℕ)) → 2 < length words → rest ≡ drop 2 words →
-    table_read (column_of truth_of (get_or words 0 d).now) (column_of index_of (get_or words 1 d).now) (all_some (map (λ word. column_of number_of word.now) rest)) ≡ table_words (map (λ word. word.now) words)
-table_shape (mask ∷ indices ∷ column ∷ columns) rest d h is =
-    ap (λ l. table_read (column_of truth_of mask.now) (column_of index_of indices.now) (all_some l))
-    (ap (map (λ word. column_of number_of word.now)) is ∙ map_now (column_of number_of) (column ∷ columns))
-table_shape words rest d h is = absurd (omega arith)
-
 pub table_words_read : (words rest : List (Bor (List ℕ))) (d : Bor (List ℕ)) (mask indices : List Value) (columns : Option (List (List Value))) → 2 < length words → rest ≡ drop 2 words →
     Some mask ≡ column_of truth_of (get_or words 0 d).now → Some indices ≡ column_of index_of (get_or words 1 d).now → columns ≡ all_some (map (λ word. column_of number_of word.now) rest) →
     table_read (Some mask) (Some indices) columns ≡ table_words (map (λ word. word.now) words)
-table_words_read words rest d mask indices columns h is masked indexed read =
-    ap (table_read (Some mask) (Some indices)) read ∙ ap (λ x. table_read (Some mask) x (all_some (map (λ word. column_of number_of word.now) rest))) indexed
-    ∙ ap (λ x. table_read x (column_of index_of (get_or words 1 d).now) (all_some (map (λ word. column_of number_of word.now) rest))) masked ∙ table_shape words rest d h is
+table_words_read (first ∷ second ∷ column ∷ columns) rest d mask indices found h is masked indexed read =
+    rw (read, is, ← masked, ← indexed, map_now (column_of number_of) (column ∷ columns)) refl
+table_words_read words rest d mask indices found h is masked indexed read = absurd (omega arith)
 
 pub rest_is : (words : List (Bor (List ℕ))) (n : ℕ) → take (length words - n) (drop n words) ≡ drop n words
 rest_is words n = take_all (length words - n) (drop n words) (omega (arith, length-drop n words))

@@ -59,6 +59,7 @@ pub fn parse_blocks(alloc: Global, word: &str, width: usize) -> Result<Option<Bl
     parse_each(alloc, &words, width)
 }
 
+#[tactic(auto, using(crate::proofs::RowLemmas::rows_none))]
 fn parse_each(alloc: Global, words: &[&str], width: usize) -> Result<Option<Blocks>, AllocError>
     requires short { All (λ word. length word.now ≤ longest_line) words.now }
     requires narrow { width ≤ widest }
@@ -103,6 +104,7 @@ fn parse_block(
     Ok(None)
 }
 
+#[tactic(auto, using(crate::proofs::ReadBlocks::width_is))]
 fn has_width(row: &Option<Rows<i64>>, width: usize) -> bool
     ensures { result ≡ is_block width (shown_list row.now) }
 {
@@ -157,6 +159,7 @@ impl Blocks {
     ///
     /// # Errors
     /// `AllocError` if an allocation fails.
+    #[tactic(auto, using(crate::proofs::ReadLists::held_length))]
     pub fn into_array(self, alloc: Global, width: usize) -> Result<FixedSizeListArray, AllocError>
         requires narrow { width ≤ widest }
         requires kept { AreKeptBlocks width self }

@@ -76,6 +76,7 @@ fn choose_rows(
 }
 
 // Returns the if-then-else rows, or `None` if the mask has a null or the lengths differ.
+#[tactic(auto, using(crate::proofs::Chosen::choices))]
 fn choose_columns(
     alloc: Global,
     mask: &BooleanArray,

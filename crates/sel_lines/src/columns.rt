@@ -38,6 +38,7 @@ pub fn parse_column<T: Item>(alloc: Global, word: &str) -> Result<Option<Rows<T>
     parse_rows(alloc, &words)
 }
 
+#[tactic(auto, using(crate::proofs::RowLemmas::rows_none))]
 fn parse_rows<T: Item>(alloc: Global, words: &[&str]) -> Result<Option<Rows<T>>, AllocError>
     requires { length words.now ≤ longest_line + 1 }
     ensures { IfOk result (λ column. option_map (parsed_rows T.shown) column
@@ -72,6 +73,7 @@ fn parse_row<T: Item>(word: &str) -> Option<Option<T>>
 ///
 /// # Errors
 /// `AllocError` if an allocation fails.
+#[tactic(auto, using(crate::proofs::RowLemmas::text_of_none, crate::proofs::RowLemmas::text_of_some))]
 pub fn print_column<C: Printed>(alloc: Global, column: &C) -> Result<String, AllocError>
     ensures { IfOk result (λ text. string_bytes text ≡ column_text (C.rows column.now)) }
 {

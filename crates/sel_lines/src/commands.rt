@@ -22,6 +22,7 @@ pub const LONGEST_LINE: usize = 1_048_576;
 ///
 /// # Errors
 /// `AllocError` if an allocation fails.
+#[tactic(auto, using(crate::proofs::Answered::too_long, crate::proofs::Answered::no_text))]
 pub fn answer_line(alloc: Global, line: &[u8]) -> Result<Option<String>, AllocError>
     ensures { IfOk result (λ answer. option_map string_bytes answer ≡ answer_of_line line.now) }
 {

@@ -50,6 +50,7 @@ pub fn answer_flatten(alloc: Global, words: &[&str]) -> Result<Option<String>, A
     answer_parts(alloc, parts, height)
 }
 
+#[tactic(auto, using(crate::proofs::RowLemmas::rows_none, crate::proofs::RowLemmas::rows_pushed))]
 fn parse_parts(alloc: Global, words: &[&str]) -> Result<Option<Vec<Part>>, AllocError>
     requires { All (λ word. length word.now ≤ longest_line) words.now }
     ensures { IfOk result (λ parts. option_map (λ parts. map read_part parts.items) parts
@@ -93,6 +94,7 @@ fn parse_halves(alloc: Global, halves: &[&str]) -> Result<Option<Part>, AllocErr
     }
 }
 
+#[tactic(auto, using(crate::proofs::Flattened::answer_read))]
 fn answer_parts(
     alloc: Global,
     parts: Vec<Part>,

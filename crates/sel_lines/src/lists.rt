@@ -52,6 +52,7 @@ pub fn parse_lists(alloc: Global, word: &str) -> Result<Option<Lists>, AllocErro
     parse_each(alloc, &words)
 }
 
+#[tactic(auto, using(crate::proofs::RowLemmas::rows_none))]
 fn parse_each(alloc: Global, words: &[&str]) -> Result<Option<Lists>, AllocError>
     requires { All (λ word. length word.now ≤ longest_line) words.now }
     ensures { IfOk result (IsReading (all_some (map (λ word. list_of_word word.now) words.now))) }
@@ -130,6 +131,7 @@ impl Lists {
     ///
     /// # Errors
     /// `AllocError` if an allocation fails.
+    #[tactic(auto, using(crate::proofs::ReadLists::held_length))]
     pub fn into_array(self, alloc: Global) -> Result<ListArray<i64>, AllocError>
         requires { AreKept self }
         ensures rows { IfOk result (λ array. (read : List Value) →

@@ -27,6 +27,7 @@ impl Item for i64 {
 
     const BENEATH_NULL: i64 = 0;
 
+    #[tactic(auto, using(crate::proofs::Printed::integer_parsed, crate::proofs::Printed::integer_refused))]
     fn parse(word: &str) -> Option<i64> {
         if has_one_spelling(word) {
             word.parse::<i64>().ok()
@@ -43,6 +44,7 @@ impl Item for u32 {
 
     const BENEATH_NULL: u32 = 0;
 
+    #[tactic(auto, using(crate::proofs::Printed::unsigned_parsed, crate::proofs::Printed::unsigned_refused))]
     fn parse(word: &str) -> Option<u32> {
         if has_one_spelling(word) {
             word.parse::<u32>().ok()
@@ -70,6 +72,7 @@ impl Item for bool {
 }
 
 /// Parses an unsigned 64-bit integer, or returns `None` if `word` is invalid.
+#[tactic(auto, using(crate::proofs::Printed::unsigned_parsed, crate::proofs::Printed::unsigned_refused))]
 pub fn parse_size(word: &str) -> Option<usize>
     ensures { result ≡ size_of word.now }
 {

@@ -30,6 +30,7 @@ pub fn answer_pext(alloc: Global, words: &[&str]) -> Result<Option<String>, Allo
 }
 
 // Parses hexadecimal digits as a 64-bit integer.
+#[tactic(auto, using(crate::proofs::Hex::hex_parsed, crate::proofs::Hex::hex_refused))]
 fn parse_hex(word: &str) -> Option<u64>
     ensures { result ≡ word_of_hex word.now }
 {

@@ -137,6 +137,7 @@ fn select_read(
 
 // Returns the rows at `indices` among the rows that `mask` keeps, or `None` if `select_is_safe`
 // returns false.
+#[tactic(auto, using(crate::proofs::TableWords::same_types))]
 fn select_columns(
     alloc: Global,
     mask: &BooleanArray,

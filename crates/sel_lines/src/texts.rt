@@ -55,6 +55,7 @@ fn parse_rows(alloc: Global, word: &str) -> Result<Option<Vec<Option<&str>>>, Al
     parse_words(alloc, &words)
 }
 
+#[tactic(auto, using(crate::proofs::RowLemmas::rows_none, crate::proofs::RowLemmas::rows_pushed))]
 fn parse_words<'a>(
     alloc: Global,
     words: &[&'a str],
@@ -73,6 +74,7 @@ fn parse_words<'a>(
 }
 
 // Parses a row: `n` for null, or `=` followed by the string.
+#[tactic(auto, using(crate::proofs::TextViews::text_some))]
 fn parse_row(word: &str) -> Option<Option<&str>>
     ensures { option_map text_row result ≡ row_of string_value word.now }
 {
@@ -102,6 +104,7 @@ impl Texts {
     ghost use Rattle.sel_lines.specs.ViewedTexts.{rows_of_texts};
 
     // Builds the views of the rows, with an empty string in null slots.
+    #[tactic(auto, using(crate::proofs::TextViews::room))]
     fn of_rows(alloc: Global, rows: &[Option<&str>]) -> Result<Texts, AllocError>
         requires few { length rows.now ≤ max_rows }
         requires bytes { bytes_needed (map text_row rows.now) ≤ max_buffer_bytes }

@@ -1,13 +1,16 @@
-use Rattle.std.proofs.Common.{[], ◌∙◌, ap, map, subst}
+use Rattle.std.proofs.Common.{[], sym, ◌==◌, subst}
 use Rattle.sel_lines.proofs.Common.{IfOk-weaker, block_of, IsReadingBlocks}
-use Rattle.sel_lines.proofs.ReadLists.{no_bars, rows_from_bars}
+use Rattle.std.proofs.lemmas.Bool.{cond-true}
+use Rattle.sel_lines.proofs.RowLemmas.{parts_read}
 use Rattle.sel_lines.proofs.blocks.parse_blocks.Goals as goal
 
 pub returns-then-eq : goal.returns-then-eq
-returns-then-eq c = ([], no_bars (block_of c.args.width) c.args.word.now c.if-eq.ensures, c.no_blocks.ensures c.args.width)
+returns-then-eq c = ([], cond-true _ _ _ (sym c.if-eq.ensures), c.no_blocks.ensures c.args.width)
 
 pub returns : goal.returns
 returns c =
-    let cut = ap (map (λ part. part.now)) c.deref.ensures.value ∙ c.in_ok-words.ensures.parts in
     IfOk-weaker c.parse_each.result _ _
-    (λ blocks made. subst (λ rows. IsReadingBlocks c.args.width rows blocks) (rows_from_bars (block_of c.args.width) c.args.word.now c.deref.result.now c.if-eq.ensures cut) made) c.parse_each.ensures
+    (λ blocks made. subst (λ rows. IsReadingBlocks c.args.width rows blocks)
+    (parts_read (block_of c.args.width) (λ b. b == 124) _ c.args.word.now _ _ c.if-eq.ensures
+    c.deref.ensures.value c.in_ok-words.ensures.parts) made)
+    c.parse_each.ensures

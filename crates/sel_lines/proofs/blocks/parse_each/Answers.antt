@@ -1,11 +1,7 @@
 use Rattle.std.proofs.Common.{◌++◌, ◌∷◌, [], ◌∙◌, ap, refl, sym, option_map}
 use Rattle.sel_lines.proofs.Common.{block_of, shown_list}
-use Rattle.sel_lines.proofs.RowLemmas.{rows_none, rows_step}
+use Rattle.sel_lines.proofs.RowLemmas.{rows_step}
 use Rattle.sel_lines.proofs.blocks.parse_each.Goals as goal
-
-pub returns-in_default : goal.returns-in_default
-returns-in_default c =
-    rows_none (λ word. block_of c.args.width word.now) c.args.words.now c.loop-word.word-index _ c.loop-word-test.true (sym c.in_ok-row.ensures ∙ ap (option_map shown_list) c.in_default.is)
 
 pub loop-word-init : goal.loop-word-init
 loop-word-init c = ([], refl, c.no_blocks-blocks.ensures c.args.width)

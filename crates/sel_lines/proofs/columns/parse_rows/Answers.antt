@@ -1,12 +1,7 @@
-use Rattle.std.proofs.Common.{sym, arith, ap, ◌∙◌, Some, length, length-append, ◌++◌, ◌∷◌, [], ◌+◌, option_map}
-use Rattle.sel_lines.proofs.Common.{row_of, shown_row}
-use Rattle.sel_lines.proofs.RowLemmas.{rows_step, rows_none, hidden_more}
+use Rattle.std.proofs.Common.{sym, arith, ap, ◌∙◌, Some, length, length-append, ◌++◌, ◌∷◌, [], ◌+◌}
+use Rattle.sel_lines.proofs.Common.{row_of}
+use Rattle.sel_lines.proofs.RowLemmas.{rows_step, hidden_more}
 use Rattle.sel_lines.proofs.columns.parse_rows.Goals as goal
-
-pub returns-in_default : goal.returns-in_default
-returns-in_default g c =
-    let none = sym c.parse_row.ensures ∙ ap (option_map (shown_row g.T.Item.shown)) c.in_default.is in
-    rows_none (λ word. row_of g.T.Item.value_of word.now) c.args.words.now c.loop-word.word-index _ (omega arith) none
 
 pub loop-word-preserved : goal.loop-word-preserved
 loop-word-preserved g c =

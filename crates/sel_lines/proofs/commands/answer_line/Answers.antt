@@ -1,14 +1,8 @@
 use Rattle.std.proofs.Common.{◌∙◌, ap, map, arith, ◌==◌}
 use Rattle.sel_lines.proofs.Common.{IfOk-weaker, slice_split}
 use Rattle.sel_lines.specs.Commands.{answer_of_words}
-use Rattle.sel_lines.proofs.Answered.{too_long, no_text, of_text}
+use Rattle.sel_lines.proofs.Answered.{of_text}
 use Rattle.sel_lines.proofs.commands.answer_line.Goals as goal
-
-pub returns-then-line-gt-LONGEST_LINE : goal.returns-then-line-gt-LONGEST_LINE
-returns-then-line-gt-LONGEST_LINE c = too_long c.args.line.now (omega arith)
-
-pub returns-in_default : goal.returns-in_default
-returns-in_default c = no_text c.args.line.now c.in_default.ensures.cases.0
 
 pub returns : goal.returns
 returns c = let text = c.in-Ok.ensures.cases in

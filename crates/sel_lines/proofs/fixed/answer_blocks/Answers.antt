@@ -1,7 +1,8 @@
-use Rattle.std.proofs.Common.{◌∙◌, ap, subst, length, replicate, w64, to_z, of_z}
+use Rattle.std.proofs.Common.{◌∙◌, ap, sym, subst, length, replicate, w64, to_z, of_z}
 use Rattle.sel_lines.proofs.Common.{to_z-of_z, IfOk-weaker, Number, column_text, entries_text}
 use Rattle.polars_compute.specs.Entries.{at_each, IsGetError}
-use Rattle.sel_lines.proofs.ReadBlocks.{entries_printed, refusal_printed}
+use Rattle.std.proofs.lemmas.Bool.{cond-true, cond-false}
+use Rattle.sel_lines.proofs.ReadBlocks.{entries_printed}
 use Rattle.sel_lines.proofs.fixed.answer_blocks.Goals as goal
 
 pub returns-in-Ok : goal.returns-in-Ok
@@ -11,7 +12,8 @@ returns-in-Ok c =
     IfOk-weaker c.print_column.result _ _
     (λ text made read has.
     made ∙ ap column_text (c.numbers_of.ensures ∙ c.in-Ok.ensures.rows)
-    ∙ entries_printed arr c.args.width read index c.args.null_on_oob (c.in_ok-array.ensures.rows read has) c.in_ok-array.ensures.size c.in-Ok.ensures.inside
+    ∙ sym (cond-false _ _ _ c.in-Ok.ensures.inside)
+    ∙ entries_printed arr c.args.width read index c.args.null_on_oob (c.in_ok-array.ensures.rows read has) c.in_ok-array.ensures.size
     ∙ ap (λ z. entries_text c.args.width read (replicate (length read) (Number z)) c.args.null_on_oob) (to_z-of_z w64 c.args.index c.ranges.index))
     c.print_column.ensures
 
@@ -22,6 +24,7 @@ returns-in-ComputeError c =
     let outside = subst (IsGetError c.args.null_on_oob arr (at_each arr index)) c.in-ComputeError.is c.in-Err.ensures.refusal in
     IfOk-weaker c.from_str.result _ _
     (λ text made read has.
-    made ∙ refusal_printed arr c.args.width read index c.args.null_on_oob (c.in_ok-array.ensures.rows read has) c.in_ok-array.ensures.size outside
+    made ∙ sym (cond-true _ _ _ outside)
+    ∙ entries_printed arr c.args.width read index c.args.null_on_oob (c.in_ok-array.ensures.rows read has) c.in_ok-array.ensures.size
     ∙ ap (λ z. entries_text c.args.width read (replicate (length read) (Number z)) c.args.null_on_oob) (to_z-of_z w64 c.args.index c.ranges.index))
     c.from_str.ensures.ok

@@ -10,13 +10,3 @@ returns-in_ok-print_column-in-Ok-Some c =
     let few = column_flat_text vs (rw length-number_rows c.in-Ok-Some.flat.rows_fit) in
     let flat = rw c.in-Ok-Some.field-0-is at c.in-Ok-Some.ensures.rows in
     ap Some (c.in_ok-print_column-in-Ok-Some.ensures ∙ sym few) ∙ ap (option_map flat_text) flat ∙ answer_read c.args.height c.args.parts.items
-
-pub returns-in-Ok-None : goal.returns-in-Ok-None
-returns-in-Ok-None c =
-    let none = rw c.in-Ok-None.field-0-is at c.in-Ok-None.ensures.rows in
-    ap (option_map flat_text) none ∙ answer_read c.args.height c.args.parts.items
-
-pub returns-in_ok-from_str-in-Err-SizeLimit : goal.returns-in_ok-from_str-in-Err-SizeLimit
-returns-in_ok-from_str-in-Err-SizeLimit c =
-    let long = rw c.in-Err-SizeLimit.field-0-is at c.in-Err-SizeLimit.ensures.refusal in
-    ap Some c.in_ok-from_str-in-Err-SizeLimit.ensures.ok ∙ sym long ∙ answer_read c.args.height c.args.parts.items

@@ -1,11 +1,7 @@
 use Rattle.std.proofs.Common.{◌++◌, ◌∷◌, [], ◌∙◌, ap, sym, option_map}
 use Rattle.sel_lines.proofs.Common.{list_of_word, shown_list}
-use Rattle.sel_lines.proofs.RowLemmas.{rows_none, rows_step}
+use Rattle.sel_lines.proofs.RowLemmas.{rows_step}
 use Rattle.sel_lines.proofs.lists.parse_each.Goals as goal
-
-pub returns-in_default : goal.returns-in_default
-returns-in_default c =
-    rows_none (λ word. list_of_word word.now) c.args.words.now c.loop-word.word-index _ c.loop-word-test.true (sym c.in_ok-row.ensures ∙ ap (option_map shown_list) c.in_default.is)
 
 pub loop-word-preserved : goal.loop-word-preserved
 loop-word-preserved c =

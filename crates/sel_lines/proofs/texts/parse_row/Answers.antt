@@ -1,13 +1,8 @@
 use Rattle.std.proofs.Common.{◌∙◌, Some, ap, cond, lit<}
 use Rattle.std.proofs.lemmas.Str.Pattern.{strip_prefix_char}
 use Rattle.sel_lines.proofs.Common.{Null, string_value}
-use Rattle.sel_lines.proofs.TextViews.{text_some, text_none}
+use Rattle.sel_lines.proofs.TextViews.{text_none}
 use Rattle.sel_lines.proofs.texts.parse_row.Goals as goal
-
-pub returns-in-Some : goal.returns-in-Some
-returns-in-Some c =
-    let cut = rw c.in-Some.is at (strip_prefix_char 61 c.args.word.now c.strip_prefix.result c.strip_prefix.ensures.cases (lit< tt)) in
-    text_some c.args.word.now c.in-Some.text.now cut ∙ ap (λ b. cond b (Some Null) (string_value c.args.word.now)) c.if-eq.ensures
 
 pub returns-in-None : goal.returns-in-None
 returns-in-None c =

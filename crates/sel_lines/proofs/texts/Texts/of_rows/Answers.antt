@@ -1,16 +1,6 @@
 use Rattle.std.proofs.Common.{◌≡◌, length, refl, arith}
-use Rattle.sel_lines.proofs.TextViews.{grow_step, room}
+use Rattle.sel_lines.proofs.TextViews.{grow_step}
 use Rattle.sel_lines.proofs.texts.Texts.of_rows.Goals as goal
-
-pub overflow_cast-len : goal.overflow_cast-len
-overflow_cast-len c =
-    let fit = room c.args.rows.now c.loop-row.row-index _ _ c.unwrap_or.result (omega arith) c.unwrap_or.ensures refl in
-    record { fits = omega (arith, fit, c.loop-row.invariant.held, c.len.ensures, c.requires.bytes) }
-
-pub new_from_bytes-requires : goal.new_from_bytes-requires
-new_from_bytes-requires c =
-    let fit = room c.args.rows.now c.loop-row.row-index _ _ c.unwrap_or.result (omega arith) c.unwrap_or.ensures refl in
-    rw c.as_bytes-text.ensures.value (omega (arith, fit, c.requires.bytes))
 
 pub loop-row-preserved : goal.loop-row-preserved
 loop-row-preserved c =
