@@ -1,5 +1,5 @@
 #!/usr/bin/env python3
-"""Finds where the library's time goes in the cases that take longer than aimed at, by samples of `perf record` and `perf annotate`.
+"""Finds where the library's time goes in the cases that take longer than upstream's kernels, by samples of `perf record` and `perf annotate`.
 
 tools/bench/profiles.py FOLDER [TIMES]   prints a table for docs/BENCHMARKS.md
 
@@ -21,6 +21,8 @@ import upstream
 ROOT = pathlib.Path(__file__).resolve().parent.parent.parent
 # the rounds of a case by its number of rows, and those of the run that shows what only prepares it
 ROUNDS, FEW_ROUNDS = {16384: 150, 1048576: 15}, 1
+# what compares the results of a case before it is timed
+COMPARES = "sel_text::"
 # the shares of the library's samples that are listed: at least this, and at most so many functions
 LEAST_SHARE, MOST_LISTED = 0.1, 3
 # the parts of the program that have the cases whose names begin so
@@ -28,15 +30,16 @@ GROUPS = {"filter": "filters", "take": "takes", "choose": "chooses"}
 
 
 def symbols() -> Set[str]:
-    """Returns the names of the functions in the library for C."""
-    shown = subprocess.run(["nm", "--defined-only", ROOT / "build" / "libsel.a"], stdout=subprocess.PIPE, stderr=subprocess.DEVNULL, text=True, check=True).stdout
-    return {line.split()[-1] for line in shown.splitlines() if len(line.split()) == 3}
+    """Returns the names of the functions in the libraries for C, of each processor that they are built for."""
+    found = [subprocess.run(["nm", "--defined-only", library], stdout=subprocess.PIPE, stderr=subprocess.DEVNULL, text=True, check=True).stdout
+             for library in sorted((ROOT / "build").rglob("libsel.a"))]
+    return {line.split()[-1] for shown in found for line in shown.splitlines() if len(line.split()) == 3}
 
 
 def slow_cases(found: upstream.Times) -> List[Tuple[float, float, str]]:
-    """Returns the cases above the ratio aimed at to upstream's kernel or to the best loop, with both ratios."""
+    """Returns the cases above the ratio aimed at to upstream's kernel, the worst first, with that to the best loop too."""
     ratios = [(times["port"] / times["upstream"], times["port"] / upstream.loop(times), case) for case, times in found.items()]
-    return [each for each in ratios if max(each[:2]) > upstream.MOST_RATIO]
+    return sorted((each for each in ratios if each[0] > upstream.MOST_RATIO), reverse=True)
 
 
 def hottest(data: str, symbol: str) -> str:
@@ -61,7 +64,8 @@ def profile(program: pathlib.Path, library: Set[str], case: str) -> str:
     rows = int(case.rpartition("n=")[2].split()[0])
     with tempfile.TemporaryDirectory() as folder:
         before = samples(program, case, FEW_ROUNDS, f"{folder}/few")
-        found = {name: count - before.get(name, 0) for name, count in samples(program, case, ROUNDS.get(rows, 15), f"{folder}/all").items() if name in library}
+        found = {name: count - before.get(name, 0) for name, count in samples(program, case, ROUNDS.get(rows, 15), f"{folder}/all").items()
+                 if name in library and not name.startswith(COMPARES)}
         total = sum(count for count in found.values() if count > 0) or 1
         parts = sorted(((count / total, name) for name, count in found.items()), reverse=True)[:MOST_LISTED]
         return ", ".join(f"`{name.partition('::<')[0]}` {share:.0%}{hottest(f'{folder}/all', name)}" for share, name in parts if share >= LEAST_SHARE)
