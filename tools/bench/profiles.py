@@ -52,7 +52,7 @@ def hottest(data: str, symbol: str) -> str:
 
 def samples(program: pathlib.Path, case: str, rounds: int, data: str) -> Dict[str, int]:
     """Returns the samples of each function, by its name in the program, while the case is repeated."""
-    command = ["perf", "record", "-q", "-F", "5000", "-o", data, program, str(rounds), case, GROUPS.get(case.split()[0], "rest")]
+    command = ["perf", "record", "-q", "-F", "5000", "-o", data, str(program), str(rounds), case, GROUPS.get(case.split()[0], "rest")]
     subprocess.run(command, stdout=subprocess.DEVNULL, stderr=subprocess.DEVNULL, check=True)
     shown = subprocess.run(["perf", "report", "-i", data, "--stdio", "--no-children", "--no-demangle", "-n", "--sort", "symbol"],
                            stdout=subprocess.PIPE, stderr=subprocess.DEVNULL, text=True, check=True).stdout
