@@ -75,7 +75,7 @@ def section(folder: pathlib.Path, found: upstream.Times) -> List[str]:
     """Returns the lines of the table."""
     program, library = upstream.program(folder), symbols()
     lines = ["| case | to upstream | to the best loop | functions of the library, by their share of its samples, each with its hottest instruction |", "|---|---|---|---|"]
-    return lines + [f"| {case} | {ratio:.2f} | {to_loop:.2f} | {profile(program, library, case)} |" for ratio, to_loop, case in slow_cases(found)]
+    return lines + [f"| {case} | {ratio:.2f} | {f'{to_loop:.2f}' if to_loop else '-'} | {profile(program, library, case)} |" for ratio, to_loop, case in slow_cases(found)]
 
 
 def main() -> None:
