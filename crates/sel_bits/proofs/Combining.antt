@@ -1,9 +1,9 @@
 -- Functions applied bit by bit to lists and to words.
-use Rattle.std.proofs.Common.{◌≡◌, ℕ, zero, suc, ◌+◌, ◌-◌, ◌%◌, ◌^◌, ◌<◌, ◌≤◌, ◌∙◌, sym, refl, ap, subst, ⊎_elim, arith, min, max, List, [], ◌∷◌, ◌++◌, length, get_or, take, drop, map, Bool, true, false, cond, not, ◌&&◌, ◌||◌}
+use Rattle.std.proofs.Common.{◌≡◌, ℕ, zero, suc, ◌+◌, ◌-◌, ◌%◌, ◌^◌, ◌<◌, ◌≤◌, ◌∙◌, sym, refl, ap, subst, arith, min, max, List, [], ◌∷◌, ◌++◌, length, get_or, take, drop, map, Bool, true, false, cond, not, ◌&&◌, ◌||◌}
 use Rattle.std.specs.Prelude.{bit_and, bit_or, ◌==◌, if◌then◌else◌}
 use Rattle.std.specs.Int.{bit_at, bit_not, w64}
 use Rattle.std.proofs.Math.Seq.{take-add}
-use Rattle.std.proofs.lemmas.Bool.{cases_lt}
+use Rattle.std.proofs.lemmas.Bool.Decides.{nat_tests}
 use Rattle.std.proofs.lemmas.Nat.{mod_below, pow_pos}
 use Rattle.std.proofs.lemmas.Nat.Bits.{bit_at-lt, bit_at_and, bit_at_or, bit_at_not}
 use Rattle.std.proofs.lemmas.List.{get_or-take, get_or-drop}
@@ -74,25 +74,14 @@ is_set_word_of l i = ap (λ b. b == 1) (bit_at_word_of l i) ∙ test_of_cond (ge
 number_of_is_set : (w i : ℕ) → bit_at w i ≡ cond (is_set w i) 1 0
 number_of_is_set w i = sym (cond_of_bit (bit_at w i) (bit_at-lt w i))
 
-by_bits : (P : ℕ → Type 0) → P 0 → P 1 → (b : ℕ) → b < 2 → P b
-by_bits P p q b lt = ⊎_elim (λ (low : b < 1). let e : 0 ≡ b = omega arith in subst P e p) (λ (high : 1 ≤ b). let e : 1 ≡ b = omega arith in subst P e q) (cases_lt b 1)
-
 test_min : (a b : ℕ) → a < 2 → b < 2 → (min a b == 1) ≡ ((a == 1) && (b == 1))
-test_min a b la lb =
-    by_bits (λ x. (min x b == 1) ≡ ((x == 1) && (b == 1)))
-    (by_bits (λ y. (min 0 y == 1) ≡ ((0 == 1) && (y == 1))) refl refl b lb)
-    (by_bits (λ y. (min 1 y == 1) ≡ ((1 == 1) && (y == 1))) refl refl b lb)
-    a la
+test_min a b la lb = grind (arith, nat_tests)
 
 test_max : (a b : ℕ) → a < 2 → b < 2 → (max a b == 1) ≡ ((a == 1) || (b == 1))
-test_max a b la lb =
-    by_bits (λ x. (max x b == 1) ≡ ((x == 1) || (b == 1)))
-    (by_bits (λ y. (max 0 y == 1) ≡ ((0 == 1) || (y == 1))) refl refl b lb)
-    (by_bits (λ y. (max 1 y == 1) ≡ ((1 == 1) || (y == 1))) refl refl b lb)
-    a la
+test_max a b la lb = grind (arith, nat_tests)
 
 test_less : (a : ℕ) → a < 2 → (1 - a == 1) ≡ not (a == 1)
-test_less a la = by_bits (λ x. (1 - x == 1) ≡ not (x == 1)) refl refl a la
+test_less a la = grind (arith, nat_tests)
 
 pub set_and : (a b i : ℕ) → is_set (bit_and a b) i ≡ (is_set a i && is_set b i)
 set_and a b i = ap (λ x. x == 1) (bit_at_and a b i) ∙ test_min (bit_at a i) (bit_at b i) (bit_at-lt a i) (bit_at-lt b i)
@@ -110,14 +99,7 @@ pub set_or_not : (a b i : ℕ) → b < 2 ^ 64 → i < 64 → is_set (bit_or a (b
 set_or_not a b i fits lt = set_or a (bit_not w64 b) i ∙ ap (λ t. is_set a i || t) (set_not b i fits lt)
 
 chosen : (m t f : Bool) → ((t && m) || (f && not m)) ≡ (if m then t else f)
-chosen true true true = refl
-chosen true true false = refl
-chosen true false true = refl
-chosen true false false = refl
-chosen false true true = refl
-chosen false true false = refl
-chosen false false true = refl
-chosen false false false = refl
+chosen m t f = grind (arith, nat_tests)
 
 pub set_choice : (m t f i : ℕ) → m < 2 ^ 64 → i < 64 → is_set (bit_or (bit_and t m) (bit_and f (bit_not w64 m))) i ≡ (if is_set m i then is_set t i else is_set f i)
 set_choice m t f i fits lt =
@@ -163,3 +145,5 @@ pub part_fits : (l : List Bool) (at len : ℕ) → at + len ≤ length l → wor
 part_fits l at len within = subst (λ n. word_of (take len (drop at l)) < 2 ^ n) (length_part at len l within) (word_of_lt (take len (drop at l)))
 
 pub ruleset combining = (set_and, set_or, set_not, set_and_not, set_or_not, set_choice, of_and, of_or, of_and_not, of_or_not, of_not, of_choice)
+
+pub ruleset pieces = (length-zip_three, packed_more, part_fits)

@@ -15,9 +15,9 @@ use Rattle.sel_bits.proofs.Combining.{packed_more}
 use Rattle.sel_bits.proofs.Packed.{bits_word_of}
 
 -- The word of bits that are all false, and of bits that are all true.
-pub word_of-false : (n : ℕ) → word_of (replicate n false) ≡ 0
-word_of-false zero = refl
-word_of-false (suc n) = omega (arith, word_of-false n)
+pub word_of_false : (n : ℕ) → word_of (replicate n false) ≡ 0
+word_of_false zero = refl
+word_of_false (suc n) = omega (arith, word_of_false n)
 
 word_of-true : (n : ℕ) → word_of (replicate n true) + 1 ≡ 2 ^ n
 word_of-true zero = refl

@@ -59,6 +59,7 @@ impl Bitmap {
     ///
     /// # Errors
     /// `OutOfMemory` if an allocation fails.
+    #[tactic(auto, using(crate::proofs::Packed::equal_bits))]
     pub fn new_with_value(alloc: Global, value: bool, len: usize) -> PolarsResult<Bitmap>
         ensures value { IfOk result (λ bitmap. bitmap ≡ unsliced (replicate len value)) }
         ensures refusal { IfErr result IsOutOfMemory }
@@ -144,6 +145,7 @@ impl Bitmap {
     ///
     /// # Errors
     /// `OutOfMemory` if an allocation fails.
+    #[tactic(auto, using(crate::proofs::Padded::word_of_lt, crate::proofs::Packed::bits_word_of, crate::proofs::Packed::block_packed))]
     pub fn from_bools(alloc: Global, values: &[bool]) -> PolarsResult<Bitmap>
         ensures value { IfOk result (λ bitmap. bitmap ≡ unsliced values.now) }
         ensures refusal { IfErr result IsOutOfMemory }
@@ -184,6 +186,7 @@ impl Bitmap {
     ///
     /// # Requires
     /// `i` is less than the length.
+    #[tactic(auto, using(crate::proofs::BitLists::length_bits_from, crate::proofs::BitLists::read_bit))]
     #[inline]
     pub fn get_bit(&self, i: usize) -> bool
         requires { i < length self.now.bits }
@@ -220,6 +223,7 @@ impl Bitmap {
 
     /// Returns the number of consecutive words of 64 false bits from bit `at` on, and the first
     /// other word of 64 bits, or `None` if fewer than 64 bits follow. Reads each word once.
+    #[tactic(auto, using(crate::proofs::ZeroWords::word_more))]
     pub(crate) fn zero_words(&self, at: usize) -> (usize, Option<u64>)
         requires { at ≤ length self.now.bits }
         ensures within { at + 64 * result.0 ≤ length self.now.bits }
@@ -260,6 +264,7 @@ impl Bitmap {
     }
 
     /// Returns the number of false bits.
+    #[tactic(auto, using(crate::proofs::Packed::counts))]
     pub fn unset_bits(&self) -> usize
         ensures { result ≡ count_false self.now.bits }
     {
@@ -270,6 +275,7 @@ impl Bitmap {
     ///
     /// # Requires
     /// `off + len` is at most the length.
+    #[tactic(auto, using(crate::proofs::BitLists::length_bits_from, crate::proofs::BitLists::bits_from_part))]
     pub fn sliced(self, off: usize, len: usize) -> Bitmap
         requires { off + len ≤ length self.bits }
         ensures value { result ≡ record {
@@ -308,6 +314,7 @@ impl Bitmap {
     }
 
     /// Removes the false bits after the last true bit, and returns their number.
+    #[tactic(auto, using(crate::proofs::BitLists::length_bits_from, crate::proofs::Zeros::bits_from_kept))]
     pub fn take_trailing_zeros(&mut self) -> usize
         ensures count { result ≡ trailing_zeros self.old.bits }
         ensures rest { self.new ≡ record {
@@ -321,6 +328,7 @@ impl Bitmap {
     }
 
     /// Removes the first `count` bits.
+    #[tactic(auto, using(crate::proofs::BitLists::length_bits_from, crate::proofs::Zeros::bits_from_dropped))]
     fn drop_front(&mut self, count: usize)
         requires { count ≤ length self.old.bits }
         ensures { self.new ≡ record {
@@ -411,6 +419,7 @@ impl Bitmap {
 
     /// Returns the bytes with the bits, from the byte of the first bit on, the index of the first
     /// bit in the first byte, and the number of bits.
+    #[tactic(auto, using(crate::proofs::BitLists::length_bits_from, crate::proofs::BitLists::bits_from_bytes))]
     pub fn as_slice(&self) -> (&[u8], usize, usize)
         ensures bits { self.now.bits ≡ bits_from result.0.now result.1 result.2 }
         ensures bytes { length result.0.now ≡ (result.1 + result.2 + 7) / 8 }
@@ -431,6 +440,7 @@ impl Bitmap {
     ///
     /// # Errors
     /// `OutOfMemory` if the bytes cannot be shared once more.
+    #[tactic(auto, using(crate::proofs::BitLists::length_bits_from, crate::proofs::BitLists::bits_from_bytes))]
     pub fn to_buffer(&self) -> PolarsResult<Buffer<u8>>
         ensures bits { IfOk result (λ bytes. self.now.bits ≡
             bits_from bytes (self.now.offset % 8) (length self.now.bits)) }

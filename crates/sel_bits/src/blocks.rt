@@ -61,6 +61,7 @@ impl<'a> U56Blocks<'a> {
     }
 
     /// Returns the next block as a word, with zeros above its bits, or `None` after the last bit.
+    #[tactic(auto, using(crate::proofs::BlockParts::block_part))]
     #[inline]
     pub fn next(&mut self) -> Option<u64>
         ensures some { IfSome result

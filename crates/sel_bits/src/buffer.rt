@@ -111,6 +111,7 @@ impl<T: Drop> Buffer<T> {
     ///
     /// # Requires
     /// `off + len` is at most the length.
+    #[tactic(auto, using(crate::proofs::Parts::parts))]
     pub fn sliced(self, off: usize, len: usize) -> Buffer<T>
         requires { off + len ≤ length self }
         ensures { result ≡ take len (drop off self) }

@@ -19,6 +19,7 @@ pub fn load_padded_le_u64(bytes: &[u8]) -> u64
 }
 
 /// Returns the same as `load_padded_le_u64`, by a copy of up to eight bytes.
+#[tactic(auto, using(crate::proofs::Padded::padded_of, crate::proofs::Padded::bit_at_padded))]
 fn load_few(bytes: &[u8]) -> u64
     ensures value { result ≡ padded_word bytes.now }
     ensures bits { (i : ℕ) → i < 64 →
@@ -44,6 +45,7 @@ pub fn negative_to_usize(index: i64, len: usize) -> Option<usize>
 }
 
 /// Returns the word whose bit p is the parity of the bits of `x` below bit p.
+#[tactic(auto, using(crate::proofs::Prefix::shift_fits, crate::proofs::Prefix::summed_first, crate::proofs::Prefix::summed_step, crate::proofs::Prefix::summed_last))]
 pub fn prefix_xorsum(x: u64) -> u64
     ensures { (p : ℕ) → p < 64 → bit_at result p ≡ ones_below x p % 2 }
 {

@@ -144,6 +144,7 @@ impl<O: Offset> OffsetsBuffer<O> {
     ///
     /// # Requires
     /// `off + len` is at most the number of rows.
+    #[tactic(auto, using(crate::proofs::OffsetLemmas::part_accepted, crate::proofs::OffsetLemmas::part_shown))]
     pub fn sliced(self, off: usize, len: usize) -> OffsetsBuffer<O>
         requires { off + len < length self }
         ensures { result ≡ take (len + 1) (drop off self) }
@@ -166,6 +167,7 @@ impl<O: Offset> OffsetsBuffer<O> {
     }
 
     /// Returns offset `i`.
+    #[tactic(auto, using(crate::proofs::OffsetLemmas::shown_at))]
     fn offset_at(&self, i: usize) -> O
         requires { i < length self.now }
         ensures value { O.number result ≡ pos (slice_index self.now i) }

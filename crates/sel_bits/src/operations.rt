@@ -194,6 +194,7 @@ impl BitRule for Choose {
 }
 
 /// Returns the function applied to the bits of three bitmaps, or `OutOfMemory`.
+#[tactic(auto, using(crate::proofs::Combining::pieces))]
 fn combine<R: BitRule>(alloc: Global, x: &Bitmap, y: &Bitmap, z: &Bitmap) -> PolarsResult<Bitmap>
     requires second { length x.now.bits ≡ length y.now.bits }
     requires third { length x.now.bits ≡ length z.now.bits }
@@ -236,6 +237,7 @@ fn whole_words_by<R: BitRule>(
 }
 
 /// Returns the word of the result for the `len` bits from bit `at` on.
+#[tactic(auto, using(crate::proofs::Combining::masked_made))]
 #[inline]
 pub(crate) fn word_by<R: BitRule>(x: &Bitmap, y: &Bitmap, z: &Bitmap, at: usize, len: usize) -> u64
     requires second { length x.now.bits ≡ length y.now.bits }

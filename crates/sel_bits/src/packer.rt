@@ -41,6 +41,7 @@ impl BitPacker {
     ///
     /// # Errors
     /// `OutOfMemory` if an allocation fails.
+    #[tactic(auto, using(crate::proofs::Packs::packed_none))]
     pub fn with_capacity(alloc: Global, count: usize) -> PolarsResult<BitPacker>
         ensures value { IfOk result (λ packer. packer ≡ []) }
         ensures refusal { IfErr result IsOutOfMemory }
@@ -73,6 +74,7 @@ impl BitPacker {
     ///
     /// # Errors
     /// `OutOfMemory` if an allocation fails; the builder is unchanged.
+    #[tactic(auto, using(crate::proofs::Packs::room_fits, crate::proofs::Packs::room_packed, crate::proofs::Packs::rest_fits, crate::proofs::Packs::full_packed))]
     #[inline(always)]
     pub fn append(&mut self, word: u64, count: u32) -> PolarsResult<()>
         requires count { count ≤ 64 }
@@ -99,6 +101,7 @@ impl BitPacker {
     ///
     /// # Errors
     /// `OutOfMemory` if an allocation fails; the builder is unchanged.
+    #[tactic(auto, using(crate::proofs::Lists::bits_of_bool))]
     #[inline]
     pub fn push(&mut self, bit: bool) -> PolarsResult<()>
         ensures pushed { OnOk result (self.new ≡ self.old ++ bit ∷ []) }
@@ -116,6 +119,7 @@ impl BitPacker {
     /// # Errors
     /// `OutOfMemory` if an allocation fails; the earlier bits are kept, and some of the new bits
     /// may have been appended.
+    #[tactic(auto, using(crate::proofs::Extended::block_more, crate::proofs::Combining::part_fits))]
     pub fn extend_from_bitmap(
         &mut self,
         bits: &Bitmap,
@@ -145,6 +149,7 @@ impl BitPacker {
     /// # Errors
     /// `OutOfMemory` if an allocation fails; the earlier bits are kept, and some of the new bits
     /// may have been appended.
+    #[tactic(auto, using(crate::proofs::Extended::copies_more, crate::proofs::Padded::word_of_lt))]
     pub fn extend_constant(&mut self, len: usize, value: bool) -> PolarsResult<()>
         ensures extended { OnOk result (self.new ≡ self.old ++ replicate len value) }
         ensures len { OnOk result (length self.new ≡ length self.old + len) }
@@ -167,6 +172,7 @@ impl BitPacker {
     ///
     /// # Errors
     /// `OutOfMemory` if an allocation fails.
+    #[tactic(auto, using(crate::proofs::Packs::length_packed, crate::proofs::Packs::packed_end))]
     pub fn into_bitmap(mut self, len: usize) -> PolarsResult<Bitmap>
         requires { length self ≡ len }
         ensures value { IfOk result (λ bitmap. bitmap ≡ unsliced self) }
@@ -178,6 +184,7 @@ impl BitPacker {
 }
 
 /// Returns the word with `count` copies of a bit, from the lowest on, with zeros above.
+#[tactic(auto, using(crate::proofs::Extended::all_ones, crate::proofs::Extended::word_of_false))]
 fn word_of_copies(value: bool, count: usize) -> u64
     requires { count ≤ 64 }
     ensures { result ≡ word_of (replicate count value) }

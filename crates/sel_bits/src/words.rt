@@ -38,6 +38,7 @@ pub fn whole_word(bytes: &[u8], at: usize, shift: usize) -> u64
 }
 
 /// Returns the eight bytes from byte `at` on as a little-endian integer.
+#[tactic(auto, using(crate::proofs::Loads::eight_bytes))]
 #[inline]
 fn load_eight(bytes: &[u8], at: usize) -> u64
     requires { at + 8 ≤ length bytes.now }

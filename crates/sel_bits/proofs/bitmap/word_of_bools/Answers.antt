@@ -1,5 +1,4 @@
-use Rattle.std.proofs.Common.{◌≡◌, ◌+◌, ◌*◌, ◌%◌, ◌^◌, ◌∙◌, take, ap, arith}
-use Rattle.std.proofs.lemmas.List.{take_all}
+use Rattle.std.proofs.Common.{◌≡◌, ◌+◌, ◌*◌, ◌%◌, ◌^◌, take, arith}
 use Rattle.sel_bits.specs.Words.{word_of}
 use Rattle.sel_bits.proofs.Packed.{word_of-next, word_of-few}
 use Rattle.sel_bits.proofs.bitmap.word_of_bools.Goals as goal
@@ -12,6 +11,3 @@ overflow_add-word c = record { fits = omega (arith, next c, word_of-few c.args.v
 
 pub loop-i-preserved : goal.loop-i-preserved
 loop-i-preserved c = next c
-
-pub returns : goal.returns
-returns c = c.loop-i.invariant ∙ ap word_of (take_all c.loop-i.i c.args.values.now (omega arith))

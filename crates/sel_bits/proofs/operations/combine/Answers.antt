@@ -2,17 +2,9 @@ use Rattle.std.proofs.Common.{◌≡◌, ◌+◌, ◌-◌, ◌*◌, ◌/◌, ◌
 use Rattle.std.proofs.lemmas.List.{take_all}
 use Rattle.sel_bits.specs.Bits.{zip_three}
 use Rattle.sel_bits.specs.Words.{bits}
-use Rattle.sel_bits.proofs.Combining.{length-zip_three, packed_more, part_fits}
+use Rattle.sel_bits.proofs.Combining.{length-zip_three, packed_more}
 use Rattle.sel_bits.proofs.operations.combine.Given.{Over}
 use Rattle.sel_bits.proofs.operations.combine.Goals as goal
-
-pub append-requires-clause-fits : goal.append-requires-clause-fits
-append-requires-clause-fits g c =
-    let made = zip_three g.R.BitRule.on_bits c.args.x.now.bits c.args.y.now.bits c.args.z.now.bits in
-    let long = length-zip_three g.R.BitRule.on_bits c.args.x.now.bits c.args.y.now.bits c.args.z.now.bits c.requires.second c.requires.third in
-    let at = 64 * (c.len-count.result / 64) in
-    let inside : at + (c.len-count.result - at) ≤ length made = omega (arith, long) in
-    rw c.word_by.ensures (part_fits made at (c.len-count.result - at) inside)
 
 -- The bits of the whole words, followed by the rest.
 all : (g : Over) (c : goal.In_ok-append g) → c.append.new.self ≡ zip_three g.R.BitRule.on_bits c.args.x.now.bits c.args.y.now.bits c.args.z.now.bits

@@ -1,16 +1,8 @@
-use Rattle.std.proofs.Common.{◌≡◌, ◌≤◌, ◌+◌, ◌*◌, ◌/◌, ◌%◌, arith, sym, length, take, drop}
+use Rattle.std.proofs.Common.{◌≡◌, ◌+◌, ◌/◌, ◌%◌, arith, length, take, drop}
 use Rattle.std.proofs.lemmas.List.{length-take, length-drop}
 use Rattle.sel_bits.specs.Storage.{storage_items}
-use Rattle.sel_bits.proofs.BitLists.{bits_from_bytes, length_bits_from}
+use Rattle.sel_bits.proofs.BitLists.{length_bits_from}
 use Rattle.sel_bits.proofs.bitmap.Bitmap.to_buffer.Goals as goal
-
-pub returns-clause-bits : goal.returns-clause-bits
-returns-clause-bits c =
-    let inside = c.self.inside in
-    let bytes = storage_items inside.bytes in
-    let count = c.div_ceil-count.result in
-    let enough : inside.offset % 8 + inside.len ≤ 8 * count = omega (arith, c.div_ceil-count.ensures) in
-    rw (c.of_part.ensures, c.in_ok-bytes.ensures, ← c.self.view_is, length_bits_from bytes inside.offset inside.len) (sym (bits_from_bytes bytes inside.offset inside.len count enough))
 
 pub returns-clause-bytes : goal.returns-clause-bytes
 returns-clause-bytes c =

@@ -1,6 +1,6 @@
-use Rattle.std.proofs.Common.{◌+◌, ◌<◌, length, take, drop, ◌∙◌, ap}
+use Rattle.std.proofs.Common.{◌+◌, ◌<◌, length}
 use Rattle.sel_bits.specs.Offsets.{magnitudes}
-use Rattle.sel_bits.proofs.OffsetLemmas.{part_accepted, part_shown}
+use Rattle.sel_bits.proofs.OffsetLemmas.{part_accepted}
 use Rattle.sel_bits.proofs.offsets.OffsetsBuffer.sliced.Goals as goal
 
 pub invariant_of-result : goal.invariant_of-result
@@ -8,9 +8,3 @@ invariant_of-result g c =
     let number = g.O.NativeType.number in
     let room : c.args.off + c.args.len < length (magnitudes number c.self.inside.offsets) = rw c.self.view_is c.requires in
     rw c.sliced.ensures (part_accepted number c.self.inside.offsets c.args.off c.args.len c.self.invariant room)
-
-pub returns : goal.returns
-returns g c =
-    let number = g.O.NativeType.number in
-    ap (magnitudes number) c.sliced.ensures ∙ part_shown number c.self.inside.offsets c.args.off (c.args.len + 1)
-    ∙ ap (λ ns. take (c.args.len + 1) (drop c.args.off ns)) c.self.view_is
