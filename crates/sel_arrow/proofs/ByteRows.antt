@@ -51,8 +51,8 @@ length-byte_rows offsets bytes validity = length-mapped Bytes (pieces offsets by
 inside_pieces : (offsets bytes : List ℕ) (i : ℕ) → i < rows_between offsets → i < length (pieces offsets bytes)
 inside_pieces offsets bytes i h = rw length-pieces h
 
-covers_pieces : (offsets bytes : List ℕ) (validity : Option Bits) → Covers validity (rows_between offsets) → Covers validity (length (pieces offsets bytes))
-covers_pieces offsets bytes validity covers = λ v there. rw length-pieces (covers v there)
+pub covers_pieces : {A : Type 0} (offsets : List ℕ) (xs : List A) (validity : Option Bits) → Covers validity (rows_between offsets) → Covers validity (length (pieces offsets xs))
+covers_pieces offsets xs validity covers = λ v there. rw length-pieces (covers v there)
 
 pub null_bytes : (offsets bytes : List ℕ) (validity : Option Bits) (i : ℕ) → valid_at validity i ≡ false → i < rows_between offsets → Covers validity (rows_between offsets) → get_or (byte_rows offsets bytes validity) i Null ≡ Null
 null_bytes offsets bytes validity i e h covers =

@@ -1,6 +1,7 @@
 -- Predicates on all elements of a list, and on those of a part of it.
 use Rattle.std.proofs.Common.{◌≡◌, ℕ, zero, suc, ◌+◌, ◌<◌, Bool, true, false, ◌&&◌, List, [], ◌∷◌, ◌++◌, map, length, take, drop, refl, ap, sym, ◌∙◌, arith, get_or}
-use Rattle.sel_arrow.proofs.Common.{list_all, map_more, take_all, list_all_at, list_all_more}
+use Rattle.std.proofs.lemmas.List.{take-append-drop}
+use Rattle.sel_arrow.proofs.Common.{list_all, list_all-append, map_more, take_all, list_all_at, list_all_more}
 
 pub both : (a b : Bool) → a ≡ true → b ≡ true → (a && b) ≡ true
 both true b p q = q
@@ -14,24 +15,22 @@ pub and_second : (a b : Bool) → (a && b) ≡ true → b ≡ true
 and_second true b e = e
 and_second false b e = cc
 
+pub false_unless : (b : Bool) → (b ≡ true → ⊥) → b ≡ false
+false_unless true h = absurd (h refl)
+false_unless false h = refl
+
 pub all_at : {A : Type 0} (p : A → Bool) → (xs : List A) (i : ℕ) (d : A) → list_all p xs ≡ true → i < length xs → p (get_or xs i d) ≡ true
 all_at p [] i d e h = absurd (omega arith)
 all_at p (x ∷ xs) zero d e h = and_first (p x) (list_all p xs) e
 all_at p (x ∷ xs) (suc i) d e h = all_at p xs i d (and_second (p x) (list_all p xs) e) (omega arith)
 
-all_dropped : {A : Type 0} (p : A → Bool) → (n : ℕ) (xs : List A) → list_all p xs ≡ true → list_all p (drop n xs) ≡ true
-all_dropped p zero xs e = e
-all_dropped p (suc n) [] e = e
-all_dropped p (suc n) (x ∷ xs) e = all_dropped p n xs (and_second (p x) (list_all p xs) e)
-
-all_taken : {A : Type 0} (p : A → Bool) → (n : ℕ) (xs : List A) → list_all p xs ≡ true → list_all p (take n xs) ≡ true
-all_taken p zero xs e = refl
-all_taken p (suc n) [] e = e
-all_taken p (suc n) (x ∷ xs) e =
-    both (p x) (list_all p (take n xs)) (and_first (p x) (list_all p xs) e) (all_taken p n xs (and_second (p x) (list_all p xs) e))
+all_split : {A : Type 0} (p : A → Bool) → (n : ℕ) (xs : List A) → list_all p xs ≡ true → (list_all p (take n xs) && list_all p (drop n xs)) ≡ true
+all_split p n xs e = sym (list_all-append p (take n xs) (drop n xs)) ∙ ap (list_all p) (take-append-drop n xs) ∙ e
 
 pub all_part : {A : Type 0} (p : A → Bool) → (xs : List A) (off len : ℕ) → list_all p xs ≡ true → list_all p (take len (drop off xs)) ≡ true
-all_part p xs off len e = all_taken p len (drop off xs) (all_dropped p off xs e)
+all_part p xs off len e =
+    let rest = drop off xs in
+    and_first (list_all p (take len rest)) (list_all p (drop len rest)) (all_split p len rest (and_second (list_all p (take off xs)) (list_all p rest) (all_split p off xs e)))
 
 -- One more element.
 pub all_more : {A : Type 0} (p : A → Bool) → (xs : List A) (i : ℕ) (d : A) → list_all p (take i xs) ≡ true → i < length xs → p (get_or xs i d) ≡ true → list_all p (take (i + 1) xs) ≡ true

@@ -11,25 +11,16 @@ opposite : (m n : ℕ) → not (nat_lt n m) ≡ nat_le m n
 opposite m n = grind (arith, nat_tests)
 
 twice : (b : Bool) → not (not b) ≡ b
-twice true = refl
-twice false = refl
+twice b = grind (arith, nat_tests)
 
 pub and_true : (b : Bool) → (b && true) ≡ b
-and_true true = refl
-and_true false = refl
+and_true b = grind (arith, nat_tests)
 
 none_of_three : (r s t : Malformed) (a b c : Bool) → is_none (first_broken ((r, a) ∷ (s, b) ∷ (t, c) ∷ [])) ≡ (not a && not b && not c)
-none_of_three r s t true b c = refl
-none_of_three r s t false true c = refl
-none_of_three r s t false false true = refl
-none_of_three r s t false false false = refl
+none_of_three r s t a b c = grind (arith, nat_tests)
 
 none_of_four : (r s t u : Malformed) (a b c d : Bool) → is_none (first_broken ((r, a) ∷ (s, b) ∷ (t, c) ∷ (u, d) ∷ [])) ≡ (not a && not b && not c && not d)
-none_of_four r s t u true b c d = refl
-none_of_four r s t u false true c d = refl
-none_of_four r s t u false false true d = refl
-none_of_four r s t u false false false true = refl
-none_of_four r s t u false false false false = refl
+none_of_four r s t u a b c d = grind (arith, nat_tests)
 
 sound_lists : (offsets : List ℕ) (n : ℕ) (validity : Option Bits) →
     is_none (list_fault offsets n validity) ≡ (is_few (rows_between offsets) && nat_le (last_offset offsets) n && covers validity (rows_between offsets))

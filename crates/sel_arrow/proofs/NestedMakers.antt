@@ -1,7 +1,7 @@
 -- Columns with children, from parts that break no rule, and with a replaced validity.
-use Rattle.std.proofs.Common.{◌≡◌, ◌≢◌, ℕ, Bool, true, false, ◌==◌, List, [], ◌∷◌, length, map, Option, None, is_some, All, Vec, Box, Global, refl, ap, sym, subst, ◌∙◌, arith}
+use Rattle.std.proofs.Common.{◌≡◌, ◌≢◌, ℕ, Bool, true, false, ◌==◌, List, [], ◌∷◌, length, get_or, map, Option, None, is_some, All, Vec, Box, Global, refl, ap, sym, subst, ◌∙◌, arith}
 use Rattle.sel_arrow.proofs.Common.{list_all, nat_tests, All-nil, All-cons, All-head, All-tail, Bits, IsRising, list_fault, block_fault, struct_length_fault, Covers, IsValidityOf, rows, row_count, type_of, well_formed, IsField, IsWellFormed, Column, LargeList, FixedSizeList, Struct}
-use Rattle.sel_arrow.proofs.Lists.{and_first, and_second}
+use Rattle.sel_arrow.proofs.Lists.{all_at}
 use Rattle.sel_arrow.proofs.NestedFaults.{list_test, block_test, tuple_fit}
 use Rattle.sel_arrow.proofs.NestedRows.{length-rows, length-list_rows, length-block_rows, length-tuple_rows, has_lists, lists_formed, has_blocks, blocks_formed, list_tells, block_tells, struct_tells}
 use Rattle.sel_arrow.proofs.Trees.{rows-Struct, struct_test, has_fields, fields_make}
@@ -17,12 +17,10 @@ pub blocks_make : (size len : ℕ) (values : Box Column Global) (validity : Opti
 blocks_make size len values validity n formed count sound = sym (block_test size len values.value validity n true formed count (ap is_some sound))
 
 counted : (len : ℕ) (cs : List Column) → list_all (λ c. row_count c == len) cs ≡ true → All IsWellFormed cs → All (IsField len) cs
-counted len [] same formed = All-nil (IsField len)
-counted len (c ∷ cs) same formed =
-    let here = and_first (row_count c == len) (list_all (λ d. row_count d == len) cs) same in
-    let count : row_count c ≡ len = grind (arith, nat_tests, here) in
-    All-cons (IsField len) c cs (count, All-head IsWellFormed c cs formed)
-    (counted len cs (and_second (row_count c == len) (list_all (λ d. row_count d == len) cs) same) (All-tail IsWellFormed c cs formed))
+counted len cs same formed = λ k d lt.
+    let here = all_at (λ c. row_count c == len) cs k d same lt in
+    let count : row_count (get_or cs k d) ≡ len = grind (arith, nat_tests, here) in
+    (count, formed k d lt)
 
 pub tuples_make : (len : ℕ) (fields : Vec Column Global) (validity : Option Bits) (fit : Bool) → fit ≡ list_all (λ c. row_count c == len) fields.items → All IsWellFormed fields.items → struct_length_fault len fit validity ≡ None →
     well_formed (Struct len fields validity) ≡ true
@@ -77,4 +75,6 @@ count_differs len n c count differs = apart (row_count c) len (λ same. differs 
     apart : (m n : ℕ) → m ≢ n → (m == n) ≡ false
     apart m n h = grind (arith, nat_tests, h)
 
-pub ruleset nested_makers = (length-list_rows, length-block_rows)
+pub ruleset nested_makers = (length-list_rows, length-block_rows, lists_under, blocks_under, tuples_under, lists_tell, blocks_tell, tuples_tell, tuples_count, rows-Struct)
+
+pub ruleset making = (length-rows, lists_make, blocks_make)

@@ -1,13 +1,13 @@
 -- Slices and copies of columns with children.
 use Rattle.std.proofs.Common.{◌≡◌, ℕ, ◌+◌, ◌-◌, ◌*◌, ◌≤◌, ◌<◌, true, List, [], ◌∷◌, ◌++◌, length, take, drop, map, get_or, Option, All, Vec, Box, Global, refl, ap, sym, subst, ◌∙◌, arith, suc, suc-mul, add-mul}
-use Rattle.sel_arrow.proofs.Common.{flat_map, range_with_len, slice_range, ForSome, option_map, map_more, map_push, get_or-take, get_or-drop, take-take, drop-drop, drop-take, All-weaker, All-nil, All-cons, All-head, All-tail, max_rows, Bits, masked, part_of, Covers, list_of, list_rows, blocks, block_rows, struct_at, struct_rows, pieces, rows_between, rows, row_count, buffers_held, type_of, well_formed, IsField, IsWellFormed, of_struct, shapes_of, Value, Null, Tuple, values_of, Column, LargeList, FixedSizeList, Struct}
+use Rattle.sel_arrow.proofs.Common.{flat_map, range_with_len, slice_range, ForSome, option_map, length-map, map_more, map_push, get_or-take, get_or-drop, take-take, drop-drop, drop-take, All-weaker, All-nil, All-cons, All-head, All-tail, max_rows, Bits, masked, part_of, Covers, list_of, list_rows, blocks, block_rows, struct_at, struct_rows, pieces, rows_between, rows, row_count, buffers_held, type_of, well_formed, IsField, IsWellFormed, of_struct, shapes_of, Value, Null, Tuple, values_of, Column, LargeList, FixedSizeList, Struct}
 use Rattle.std.proofs.lemmas.List.FromFn.{length-map-range_with_len, get_or-map-range_with_len, fill_by_all}
 use Rattle.std.proofs.lemmas.Nat.{mul-le}
 use Rattle.sel_arrow.proofs.ByteRows.{part-pieces, part_rising, part_few, part_last, part_covered}
 use Rattle.sel_arrow.proofs.NestedRows.{length-rows, length-list_rows, length-block_rows, length-tuple_rows, has_lists, lists_formed, has_blocks, blocks_formed}
 use Rattle.sel_arrow.proofs.Rows.{part-mapped, part-masked, length-part, part_covers, part_within}
 use Rattle.sel_arrow.proofs.Trees.{rows-Struct, has_fields, fields_make}
-use Rattle.sel_arrow.proofs.Types.{type_of-Struct, buffers_held-Struct}
+use Rattle.sel_arrow.proofs.Types.{type_of-Struct, buffers_held-Struct, same_at}
 
 -- A part of a list that is defined by position.
 part_by_place : {A : Type 0} (f g : ℕ → A) (n off len : ℕ) (d : A) → off + len ≤ n → ((i : ℕ) → i < len → g i ≡ f (off + i)) → map g (range_with_len 0 len) ≡ take len (drop off (map f (range_with_len 0 n)))
@@ -209,13 +209,10 @@ pub tuples_held : (n len : ℕ) (fields parts : Vec Column Global) (validity see
 tuples_held n len fields parts validity seen same = buffers_held-Struct len parts seen ∙ ap (flat_map (λ held. held)) same ∙ sym (buffers_held-Struct n fields validity)
 
 fields_copied : (n : ℕ) (cs ds : List Column) → map rows ds ≡ map rows cs → All IsWellFormed ds → All (IsField n) cs → All (IsField n) ds
-fields_copied n cs [] same formed all = All-nil (IsField n)
-fields_copied n [] (d ∷ ds) same formed all = absurd cc
-fields_copied n (c ∷ cs) (d ∷ ds) same formed all =
-    let here : rows d ≡ rows c = ap (λ l. get_or l 0 []) same in
-    let count = sym (length-rows d) ∙ ap length here ∙ length-rows c ∙ (All-head (IsField n) c cs all).0 in
-    All-cons (IsField n) d ds (count, All-head IsWellFormed d ds formed)
-    (fields_copied n cs ds (ap (drop 1) same) (All-tail IsWellFormed d ds formed) (All-tail (IsField n) c cs all))
+fields_copied n cs ds same formed all = λ k d lt.
+    let below : k < length cs = omega (arith, lt, ap length same, length-map ds rows, length-map cs rows) in
+    let here : rows (get_or ds k d) ≡ rows (get_or cs k d) = same_at rows rows ds cs k d d lt below same in
+    (sym (length-rows (get_or ds k d)) ∙ ap length here ∙ length-rows (get_or cs k d) ∙ (all k d below).0, formed k d lt)
 
 pub fields_formed_each : (n : ℕ) (fields : Vec Column Global) (validity : Option Bits) → well_formed (Struct n fields validity) ≡ true → All IsWellFormed fields.items
 fields_formed_each n fields validity formed = All-weaker (IsField n) IsWellFormed (λ column field. field.1) fields.items (has_fields n fields validity formed).fields
@@ -233,7 +230,7 @@ tuples_copied_rows n fields copies validity seen same copy =
 
 -- ---- field by field
 
-pub mapped_more : {B : Type 0} (f g : Column → B) (cs ds more : List Column) (i : ℕ) (c d : Column) → i < length cs → c ≡ get_or cs i c → more ≡ ds ++ d ∷ [] → f d ≡ g c → map f ds ≡ map g (take i cs) → map f more ≡ map g (take (i + 1) cs)
+pub mapped_more : {A B C : Type 0} (f : A → C) (g : B → C) (cs : List B) (ds more : List A) (i : ℕ) (c : B) (d : A) → i < length cs → c ≡ get_or cs i c → more ≡ ds ++ d ∷ [] → f d ≡ g c → map f ds ≡ map g (take i cs) → map f more ≡ map g (take (i + 1) cs)
 mapped_more f g cs ds more i c d lt is pushed here before =
     ap (map f) pushed ∙ map_push f ds d
     ∙ ap (λ l. l ++ f d ∷ []) before
@@ -242,3 +239,9 @@ mapped_more f g cs ds more i c d lt is pushed here before =
 
 pub part_is_field : (off len : ℕ) (column part : Column) → rows part ≡ part_rows off len column → off + len ≤ length (rows column) → well_formed part ≡ true → IsField len part
 part_is_field off len column part is inside formed = (sym (length-rows part) ∙ ap length is ∙ length-part (rows column) off len inside, formed)
+
+pub ruleset list_steps = (lists_reach, lists_cover, lists_part, lists_part_rows, lists_copied, lists_copied_rows)
+
+pub ruleset block_steps = (blocks_inside, blocks_within, blocks_fit, blocks_cover, blocks_part, blocks_part_rows, blocks_copied, blocks_copied_rows)
+
+pub ruleset tuple_steps = (tuples_inside, fields_within, fields_cover, tuples_part, tuples_part_rows, tuples_type, tuples_held, fields_formed_each, tuples_copied, tuples_copied_rows)

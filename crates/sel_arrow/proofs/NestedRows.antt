@@ -1,10 +1,10 @@
 -- Rows of columns with children, and the properties of well-formed columns.
 use Rattle.std.proofs.Common.{◌≡◌, ◌≢◌, ℕ, zero, suc, ◌+◌, ◌*◌, ◌≤◌, ◌<◌, Bool, true, ◌&&◌, nat_le, ◌==◌, List, [], ◌∷◌, length, Option, Some, None, refl, ap, sym, ◌∙◌, arith, get_or, Vec, Box, Global, subst, leb-true, le-leb}
 use Rattle.sel_arrow.proofs.Common.{range_with_len, slice_range, nat_tests, length-replicate, max_rows, Bits, IsRising, Value, Null, Covers, covers, is_few, list_of, list_rows, blocks, block_rows, struct_at, struct_rows, IsValidityOf, pieces, rows_between, last_offset, is_rising, rises_from, rows, rows_of_each, row_count, type_of, types_of_each, well_formed, all_well_formed, Shape, Shapes, of_null, of_large_list, of_fixed_size_list, of_struct, Column, LargeList, FixedSizeList, Struct, Row_of-Column, end_of-Column}
-use Rattle.std.proofs.lemmas.List.FromFn.{length-map-range_with_len}
+use Rattle.std.proofs.lemmas.List.FromFn.{length-map-range_with_len, length-range_with_len}
 use mathlib.Core.Former.{Count}
 use Rattle.sel_arrow.specs.declared.column.Column.TheVariants.{Null as NullColumn, Boolean, Int8, Int16, Int32, Int64, Int128, UInt8, UInt16, UInt32, UInt64, UInt128, LargeBinary, BinaryView, Utf8View, LargeList', FixedSizeList', Struct'}
-use Rattle.sel_arrow.proofs.ByteRows.{length-pieces, length-byte_rows}
+use Rattle.sel_arrow.proofs.ByteRows.{covers_pieces, length-pieces, length-byte_rows}
 use Rattle.sel_arrow.proofs.Lists.{both, and_first, and_second}
 use Rattle.sel_arrow.proofs.Rows.{length-mapped, tells-mapped, length-truth_rows, length-number_rows}
 use Rattle.sel_arrow.proofs.ViewRows.{length-view_rows}
@@ -21,11 +21,7 @@ pub length-block_rows : (width n : ℕ) (child : List Value) (validity : Option 
 length-block_rows width n child validity = length-mapped list_of (blocks width n child) validity ∙ length-blocks width n child
 
 length-range : (n : ℕ) → length (range_with_len 0 n) ≡ n
-length-range n = from 0 n
-  where
-    from : (a n : ℕ) → length (range_with_len a n) ≡ n
-    from a zero = refl
-    from a (suc n) = ap suc (from (a + 1) n)
+length-range n = length-range_with_len 0 n
 
 pub length-tuple_rows : (n : ℕ) (fields : List (List Value)) (validity : Option Bits) → length (struct_rows n fields validity) ≡ n
 length-tuple_rows n fields validity = length-mapped (struct_at fields) (range_with_len 0 n) validity ∙ length-range n
@@ -52,9 +48,6 @@ length-rows (Struct' len n fields validity) = length-tuple_rows len (rows_of_eac
 
 -- ---- the validity agrees with the rows
 
-covers_pieces : (offsets : List ℕ) (child : List Value) (validity : Option Bits) → Covers validity (rows_between offsets) → Covers validity (length (pieces offsets child))
-covers_pieces offsets child validity covers = λ v there. rw length-pieces (covers v there)
-
 pub tells-lists : (s : Shape) (offsets : List ℕ) (child : List Value) (validity : Option Bits) → s ≢ of_null → Covers validity (rows_between offsets) → IsValidityOf s validity (list_rows offsets child validity)
 tells-lists s offsets child validity other covers = tells-mapped list_of (λ x. refl) s (pieces offsets child) validity other (covers_pieces offsets child validity covers)
 
@@ -74,18 +67,12 @@ pub rising_test : (ns : List ℕ) → IsRising ns → is_rising ns ≡ true
 rising_test [] h = absurd (omega (arith, h.some))
 rising_test (a ∷ ns) h = rises a ns h.rising
 
-first_least : (a : ℕ) (ns : List ℕ) (k : ℕ) → rises_from a ns ≡ true → k < length (a ∷ ns) → a ≤ get_or (a ∷ ns) k 0
-first_least a ns zero e h = omega arith
-first_least a [] (suc k) e h = absurd (omega arith)
-first_least a (b ∷ ns) (suc k) e h =
-    let here = leb-true a b (and_first (nat_le a b) (rises_from b ns) e) in
-    let there = first_least b ns k (and_second (nat_le a b) (rises_from b ns) e) (omega arith) in
-    omega (arith, here, there)
-
 each_rises : (a : ℕ) (ns : List ℕ) (j k : ℕ) → rises_from a ns ≡ true → j ≤ k → k < length (a ∷ ns) → get_or (a ∷ ns) j 0 ≤ get_or (a ∷ ns) k 0
-each_rises a ns zero k e le h = first_least a ns k e h
+each_rises a ns zero zero e le h = omega arith
 each_rises a ns (suc j) zero e le h = absurd (omega arith)
-each_rises a [] (suc j) (suc k) e le h = absurd (omega arith)
+each_rises a [] j (suc k) e le h = absurd (omega arith)
+each_rises a (b ∷ ns) zero (suc k) e le h =
+    omega (arith, leb-true a b (and_first (nat_le a b) (rises_from b ns) e), each_rises b ns 0 k (and_second (nat_le a b) (rises_from b ns) e) (omega arith) (omega arith))
 each_rises a (b ∷ ns) (suc j) (suc k) e le h = each_rises b ns j k (and_second (nat_le a b) (rises_from b ns) e) (omega arith) (omega arith)
 
 pub tested_rising : (ns : List ℕ) → is_rising ns ≡ true → IsRising ns
@@ -113,40 +100,34 @@ pub record HasLists (offsets : List ℕ) (values : Column) (validity : Option Bi
   pub covered : Covers validity (rows_between offsets)
   pub child : well_formed values ≡ true
 
+-- Five tests that hold together.
+five_parts : (a b c d e : Bool) → (a && b && c && d && e) ≡ true → (a ≡ true) × (b ≡ true) × (c ≡ true) × (d ≡ true) × (e ≡ true)
+five_parts a b c d e h =
+    let four = and_first (a && b && c && d) e h in
+    let three = and_first (a && b && c) d four in
+    let two = and_first (a && b) c three in
+    (and_first a b two, and_second a b two, and_second (a && b) c three, and_second (a && b && c) d four, and_second (a && b && c && d) e h)
+
+five_whole : (a b c d e : Bool) → a ≡ true → b ≡ true → c ≡ true → d ≡ true → e ≡ true → (a && b && c && d && e) ≡ true
+five_whole a b c d e p q r s t = rw (p, q, r, s, t) refl
+
 pub has_lists : (offsets : List ℕ) (values : Column) (validity : Option Bits) →
     (is_rising offsets && is_few (rows_between offsets) && nat_le (last_offset offsets) (row_count values) && covers validity (rows_between offsets) && well_formed values) ≡ true → HasLists offsets values validity
 has_lists offsets values validity h =
-    let a = is_rising offsets in
-    let b = is_few (rows_between offsets) in
-    let d = nat_le (last_offset offsets) (row_count values) in
-    let e = covers validity (rows_between offsets) in
-    let f = well_formed values in
-    let four = and_first (a && b && d && e) f h in
-    let three = and_first (a && b && d) e four in
-    let two = and_first (a && b) d three in
+    let p = five_parts (is_rising offsets) (is_few (rows_between offsets)) (nat_le (last_offset offsets) (row_count values)) (covers validity (rows_between offsets)) (well_formed values) h in
     record {
-      rising = tested_rising offsets (and_first a b two);
-      few = leb-true (rows_between offsets) max_rows (and_second a b two);
-      ends = leb-true (last_offset offsets) (row_count values) (and_second (a && b) d three);
-      covered = covers_is validity (rows_between offsets) (and_second (a && b && d) e four);
-      child = and_second (a && b && d && e) f h;
+      rising = tested_rising offsets p.0;
+      few = leb-true (rows_between offsets) max_rows p.1;
+      ends = leb-true (last_offset offsets) (row_count values) p.2;
+      covered = covers_is validity (rows_between offsets) p.3;
+      child = p.4;
     }
 
 pub lists_formed : (offsets : List ℕ) (values : Column) (validity : Option Bits) → HasLists offsets values validity →
     (is_rising offsets && is_few (rows_between offsets) && nat_le (last_offset offsets) (row_count values) && covers validity (rows_between offsets) && well_formed values) ≡ true
 lists_formed offsets values validity h =
-    let a = is_rising offsets in
-    let b = is_few (rows_between offsets) in
-    let d = nat_le (last_offset offsets) (row_count values) in
-    let e = covers validity (rows_between offsets) in
-    let f = well_formed values in
-    both (a && b && d && e) f
-    (both (a && b && d) e
-    (both (a && b) d
-    (both a b (rising_test offsets h.rising) (le-leb (rows_between offsets) max_rows h.few))
-    (le-leb (last_offset offsets) (row_count values) h.ends))
-    (is_covers validity (rows_between offsets) h.covered))
-    h.child
+    five_whole (is_rising offsets) (is_few (rows_between offsets)) (nat_le (last_offset offsets) (row_count values)) (covers validity (rows_between offsets)) (well_formed values)
+    (rising_test offsets h.rising) (le-leb (rows_between offsets) max_rows h.few) (le-leb (last_offset offsets) (row_count values) h.ends) (is_covers validity (rows_between offsets) h.covered) h.child
 
 -- The properties of a well-formed fixed-size list column.
 pub record HasBlocks (size len : ℕ) (values : Column) (validity : Option Bits) : Type 0 where
@@ -165,37 +146,14 @@ equals m n h = grind (arith, nat_tests, h)
 pub has_blocks : (size len : ℕ) (values : Column) (validity : Option Bits) →
     (is_few len && is_few size && (row_count values == len * size) && covers validity len && well_formed values) ≡ true → HasBlocks size len values validity
 has_blocks size len values validity h =
-    let a = is_few len in
-    let b = is_few size in
-    let d = row_count values == len * size in
-    let e = covers validity len in
-    let f = well_formed values in
-    let four = and_first (a && b && d && e) f h in
-    let three = and_first (a && b && d) e four in
-    let two = and_first (a && b) d three in
-    record {
-      few = leb-true len max_rows (and_first a b two);
-      narrow = leb-true size max_rows (and_second a b two);
-      fills = equal (row_count values) (len * size) (and_second (a && b) d three);
-      covered = covers_is validity len (and_second (a && b && d) e four);
-      child = and_second (a && b && d && e) f h;
-    }
+    let p = five_parts (is_few len) (is_few size) (row_count values == len * size) (covers validity len) (well_formed values) h in
+    record { few = leb-true len max_rows p.0; narrow = leb-true size max_rows p.1; fills = equal (row_count values) (len * size) p.2; covered = covers_is validity len p.3; child = p.4 }
 
 pub blocks_formed : (size len : ℕ) (values : Column) (validity : Option Bits) → HasBlocks size len values validity →
     (is_few len && is_few size && (row_count values == len * size) && covers validity len && well_formed values) ≡ true
 blocks_formed size len values validity h =
-    let a = is_few len in
-    let b = is_few size in
-    let d = row_count values == len * size in
-    let e = covers validity len in
-    let f = well_formed values in
-    both (a && b && d && e) f
-    (both (a && b && d) e
-    (both (a && b) d
-    (both a b (le-leb len max_rows h.few) (le-leb size max_rows h.narrow))
-    (equals (row_count values) (len * size) h.fills))
-    (is_covers validity len h.covered))
-    h.child
+    five_whole (is_few len) (is_few size) (row_count values == len * size) (covers validity len) (well_formed values)
+    (le-leb len max_rows h.few) (le-leb size max_rows h.narrow) (equals (row_count values) (len * size) h.fills) (is_covers validity len h.covered) h.child
 
 -- The validity of a well-formed struct column has the right length, and the number of rows is in
 -- bounds.
@@ -241,3 +199,7 @@ struct_tells c len fields validity is formed =
     let has = struct_covered len validity (all_well_formed len row.1) (ap well_formed (sym is) ∙ formed) in
     subst (λ x. IsValidityOf (type_of x) validity (rows x)) (sym is)
     (tells-tuples (of_struct (types_of_each row.1)) len (rows_of_each row.1) validity (not_null_struct (types_of_each row.1)) has.1)
+
+pub ruleset row_counts = (length-rows)
+
+pub ruleset telling = (list_tells, block_tells, struct_tells)

@@ -4,7 +4,8 @@ use Rattle.sel_arrow.proofs.Common.{All, list_all, nat_tests, map-append, map_mo
 use Rattle.sel_arrow.specs.declared.datatype.ArrowDataType.{ArrowDataType, Struct}
 use Rattle.sel_arrow.proofs.Lists.{both}
 use Rattle.sel_arrow.proofs.NestedRows.{length-rows, blocks_formed}
-use Rattle.sel_arrow.proofs.Types.{columns_in, widths_fit-Struct}
+use Rattle.sel_arrow.proofs.Trees.{fields_make}
+use Rattle.sel_arrow.proofs.Types.{columns_in, type_of-Struct, widths_fit_struct}
 
 -- ---- the only offset of a column without rows
 
@@ -45,26 +46,11 @@ blocks_of_none size values narrow formed none =
 pub field_of_none : (column : Column) → rows column ≡ [] → well_formed column ≡ true → IsField 0 column
 field_of_none column none formed = (none_counted column none, formed)
 
--- The fields of a struct column, as a list.
-pub fields_formed : (len : ℕ) (n : _) (row : Row_of-Column n) → All (IsField len) (items-the_row-Column n row) → all_well_formed len row ≡ true
-fields_formed len n end_of-Column all = refl
-fields_formed len n (more_of-Column column columns) all =
-    let first = All-head (IsField len) column (items-the_row-Column _ columns) all in
-    let rest = fields_formed len _ columns (All-tail (IsField len) column (items-the_row-Column _ columns) all) in
-    let counted : (row_count column == len) ≡ true = grind (arith, nat_tests, first.0) in
-    both ((row_count column == len) && well_formed column) (all_well_formed len columns) (both (row_count column == len) (well_formed column) counted first.1) rest
-
 pub tuples_of_none : (fields : Vec Column Global) → All (IsField 0) fields.items → well_formed (StructColumn 0 fields None) ≡ true
-tuples_of_none fields all =
-    let row = columns_in (StructColumn 0 fields None) in
-    fields_formed 0 row.0 row.1 (rw (items_hidden-the_row-Column-0 fields) all)
+tuples_of_none fields all = fields_make 0 fields None (record { few = omega arith; covered = λ v there. cc; fields = all })
 
 -- If the list sizes in a struct type are in bounds, so are those in its field types.
 pub fields_fit : (dtype : ArrowDataType) (fields : Vec ArrowDataType Global) (dtypes : List ArrowDataType) → dtype ≡ Struct fields → dtypes ≡ fields.items → widths_fit dtype ≡ true → list_all widths_fit dtypes ≡ true
-fields_fit dtype fields dtypes is same fit = rw same (sym (ap widths_fit is ∙ widths_fit-Struct fields) ∙ fit)
+fields_fit dtype fields dtypes is same fit = rw same (sym (ap widths_fit is ∙ widths_fit_struct fields) ∙ fit)
 
--- One more column.
-pub columns_more : (columns : List Column) (column : Column) (dtypes : List ArrowDataType) (i : ℕ) (d : ArrowDataType) → i < length dtypes →
-    map type_of columns ≡ map shape_of (take i dtypes) → type_of column ≡ shape_of (get_or dtypes i d) → map type_of (columns ++ column ∷ []) ≡ map shape_of (take (i + 1) dtypes)
-columns_more columns column dtypes i d inside before here =
-    map-append type_of columns (column ∷ []) ∙ cc (before, here) ∙ sym (map_more shape_of dtypes i d inside)
+pub ruleset no_tuples = (tuples_of_none, type_of-Struct)

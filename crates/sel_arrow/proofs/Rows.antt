@@ -1,5 +1,6 @@
 -- Rows under a validity.
-use Rattle.std.proofs.Common.{◌≡◌, ◌≢◌, ℕ, zero, suc, ◌+◌, ◌≤◌, ◌<◌, ℤ, Bool, true, false, List, [], ◌∷◌, length, take, drop, map, Option, Some, None, replicate, refl, ap, sym, ◌∙◌, arith, get_or, length-take, length-drop, if◌then◌else◌}
+use Rattle.std.proofs.Common.{◌≡◌, ◌≢◌, ℕ, zero, suc, ◌+◌, ◌-◌, ◌≤◌, ◌<◌, ℤ, Bool, true, false, List, [], ◌∷◌, length, take, drop, map, Option, Some, None, replicate, refl, ap, sym, ◌∙◌, arith, get_or, length-take, length-drop, if◌then◌else◌}
+use Rattle.std.proofs.lemmas.List.{take-replicate, drop-replicate}
 use Rattle.sel_arrow.proofs.Common.{ForSome, option_map, length-map, get_or-map, take-map, drop-map, length-replicate, Bits, Value, Null, Truth, Number, is_valid, validities, hidden, masked, number_rows, bool_rows, Covers, valid_at, part_of, Shape, of_null, IsValidityOf}
 
 -- ---- values under a list of booleans
@@ -141,17 +142,7 @@ pub part-truth_rows : (bits : List Bool) (validity : Option Bits) (off len : ℕ
 part-truth_rows bits validity off len = part-mapped Truth bits validity off len
 
 pub part-replicate : {A : Type 0} (x : A) → (n off len : ℕ) → off + len ≤ n → replicate len x ≡ take len (drop off (replicate n x))
-part-replicate x n zero len h = front n len h
-  where
-    front : (n len : ℕ) → 0 + len ≤ n → replicate len x ≡ take len (replicate n x)
-    front n zero h = refl
-    front zero (suc len) h = absurd (omega arith)
-    front (suc n) (suc len) h = ap (λ l. x ∷ l) (front n len (omega arith))
-part-replicate x zero (suc off) len h = none len h
-  where
-    none : (len : ℕ) → suc off + len ≤ 0 → replicate len x ≡ take len []
-    none len h = absurd (omega arith)
-part-replicate x (suc n) (suc off) len h = part-replicate x n off len (omega arith)
+part-replicate x n off len h = sym (ap (take len) (drop-replicate off n x) ∙ take-replicate len (n - off) x (omega arith))
 
 pub covers_numbers : {T : Type 0} (number : T → ℤ) → (xs : List T) (old new : Option Bits) → Covers new (length (number_rows number xs old)) → Covers new (length xs)
 covers_numbers number xs old new covers = λ v there. rw length-number_rows at (covers v there)

@@ -4,7 +4,8 @@ use Rattle.std.specs.Str.{IsUtf8, is_utf8}
 use Rattle.std.proofs.lemmas.Str.{IsUtf8-from_is_utf8, is_utf8-from_IsUtf8}
 use Rattle.sel_arrow.specs.Texts.{all_text, is_text}
 use Rattle.sel_arrow.specs.Value.{Value, Null, Bytes}
-use Rattle.sel_arrow.proofs.Lists.{all_at, all_of_them, all_part}
+use Rattle.sel_arrow.proofs.ViewRows.{length-view_rows}
+use Rattle.sel_arrow.proofs.Lists.{false_unless, all_at, all_of_them, all_part}
 
 -- ---- whether bytes are UTF-8
 
@@ -12,11 +13,7 @@ pub utf8_passes : (bytes : List ℕ) → IsUtf8 bytes → is_utf8 bytes ≡ true
 utf8_passes bytes valid = is_utf8-from_IsUtf8 bytes valid
 
 pub other_fails : (bytes : List ℕ) → ¬ (IsUtf8 bytes) → is_utf8 bytes ≡ false
-other_fails bytes broken = decided (is_utf8 bytes) refl
-  where
-    decided : (b : Bool) → is_utf8 bytes ≡ b → is_utf8 bytes ≡ false
-    decided true e = absurd (broken (IsUtf8-from_is_utf8 bytes e))
-    decided false e = e
+other_fails bytes broken = false_unless (is_utf8 bytes) (λ e. broken (IsUtf8-from_is_utf8 bytes e))
 
 pub ruleset utf8_tests = (utf8_passes, other_fails)
 
@@ -33,3 +30,5 @@ pub ruleset text_columns = (part_text, utf8_row)
 
 pub all_texts : (rows : List Value) (n : ℕ) → IsTrue (all_text (take n rows)) → n ≡ length rows → all_text rows ≡ true
 all_texts rows n texts h = all_of_them is_text rows n texts h
+
+pub ruleset whole_texts = (all_texts, length-view_rows)

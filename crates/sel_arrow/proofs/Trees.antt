@@ -1,7 +1,7 @@
 -- The definitions for a struct column, in terms of the list of its fields.
 use Rattle.std.proofs.Common.{◌≡◌, ◌≢◌, ℕ, ◌+◌, ◌≤◌, ◌<◌, Bool, true, false, ◌&&◌, ◌==◌, not, All, List, [], ◌∷◌, length, take, get_or, map, Option, is_some, Vec, Global, refl, ap, sym, subst, ◌∙◌, arith, take_all}
 use Rattle.sel_arrow.proofs.Common.{nat_tests, All-nil, All-cons, All-head, All-tail, All-get_or, All-more, max_rows, Bits, struct_length_fault, Covers, covers, is_few, struct_rows, rows, rows_of_each, row_count, well_formed, all_well_formed, IsField, Column, Struct, Row_of-Column, end_of-Column, more_of-Column, items-the_row-Column, items_hidden-the_row-Column-0}
-use Rattle.sel_arrow.proofs.Lists.{both, and_first, and_second}
+use Rattle.sel_arrow.proofs.Lists.{false_unless, both, and_first, and_second}
 use Rattle.sel_arrow.proofs.NestedFaults.{and_true, sound_tuples}
 use Rattle.sel_arrow.proofs.NestedRows.{row_of, length-rows, struct_covered, struct_formed}
 
@@ -70,11 +70,7 @@ struct_test len fields validity t fit fault =
 
 -- Fields that do not fit.
 pub struct_failed : (len : ℕ) (fields : Vec Column Global) (validity : Option Bits) → (All (IsField len) fields.items → ⊥) → false ≡ well_formed (Struct len fields validity)
-struct_failed len fields validity none = failed (well_formed (Struct len fields validity)) refl
-  where
-    failed : (b : Bool) → well_formed (Struct len fields validity) ≡ b → false ≡ well_formed (Struct len fields validity)
-    failed true e = absurd (none (has_fields len fields validity e).fields)
-    failed false e = sym e
+struct_failed len fields validity none = sym (false_unless (well_formed (Struct len fields validity)) (λ e. none (has_fields len fields validity e).fields))
 
 -- ---- field by field
 

@@ -60,8 +60,8 @@ each_width : (n : _) (row : Row_of-ArrowDataType n) → all_widths_fit row ≡ l
 each_width n end_of-ArrowDataType = refl
 each_width n (more_of-ArrowDataType dtype dtypes) = ap (λ b. widths_fit dtype && b) (each_width _ dtypes)
 
-pub widths_fit-Struct : (fields : Vec ArrowDataType Global) → widths_fit (Struct fields) ≡ list_all widths_fit fields.items
-widths_fit-Struct fields =
+pub widths_fit_struct : (fields : Vec ArrowDataType Global) → widths_fit (Struct fields) ≡ list_all widths_fit fields.items
+widths_fit_struct fields =
     let row = dtypes_in (Struct fields) in
     each_width row.0 row.1 ∙ ap (list_all widths_fit) (items_hidden-the_row-ArrowDataType-0 fields)
 
@@ -102,3 +102,5 @@ module _ {A B C : Type 0} (f : A → C) (g : B → C) (xs : List A) (ys : List B
       sym (ap (map f) (take_all i xs (omega arith))) ∙ before ∙ ap (map g) (take_all i ys (omega arith))
 
 pub ruleset both_lists = (same_lengths, same_at, same_more, same_all)
+
+pub ruleset struct_types = (struct_type, struct_shape, by_fields, shape_of-Struct, type_of-Struct)

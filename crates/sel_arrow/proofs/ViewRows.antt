@@ -1,5 +1,5 @@
 -- Rows of views.
-use Rattle.std.proofs.Common.{◌≡◌, ◌≢◌, ℕ, ◌<◌, Bool, true, false, ◌&&◌, List, [], ◌∷◌, length, take, drop, Option, Some, None, is_none, refl, get_or, IsTrue, not}
+use Rattle.std.proofs.Common.{◌≡◌, ◌≢◌, ℕ, ◌<◌, Bool, true, false, ◌&&◌, List, [], ◌∷◌, length, take, drop, Option, Some, None, is_none, refl, sym, ap, ◌∙◌, get_or, IsTrue, not}
 use Rattle.sel_arrow.proofs.Common.{option_map, Bits, or_else, view_fault, views_fault, Covers, valid_at, part_of, IsValidityOf, Shape, of_null, Null, Bytes}
 use Rattle.sel_bits.specs.Faults.{first_broken}
 use Rattle.sel_bits.specs.declared.faults.Malformed.{Malformed}
@@ -19,15 +19,13 @@ none_second : (a b : Option Malformed) → or_else a b ≡ None → b ≡ None
 none_second None b e = e
 none_second (Some fault) b e = cc
 
-placed_by : (range prefix : Bool) → first_broken ((ViewRange, not range) ∷ (ViewPrefix, not prefix) ∷ []) ≡ None → (range && prefix) ≡ true
-placed_by true true e = refl
-placed_by true false e = cc
-placed_by false prefix e = cc
-
 tests_placed : (range prefix : Bool) → is_none (first_broken ((ViewRange, not range) ∷ (ViewPrefix, not prefix) ∷ [])) ≡ (range && prefix)
 tests_placed true true = refl
 tests_placed true false = refl
 tests_placed false prefix = refl
+
+placed_by : (range prefix : Bool) → first_broken ((ViewRange, not range) ∷ (ViewPrefix, not prefix) ∷ []) ≡ None → (range && prefix) ≡ true
+placed_by range prefix e = sym (tests_placed range prefix) ∙ ap is_none e
 
 -- A view without a fault is in range and has the right prefix.
 pub fault_placed : (buffers : List (List ℕ)) (view : View) → is_none (view_fault buffers view) ≡ is_placed buffers view

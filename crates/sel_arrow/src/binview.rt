@@ -119,6 +119,7 @@ impl BinaryViewArray {
     }
 
     /// Returns whether every valid row is UTF-8.
+    #[tactic(auto, using(crate::proofs::Texts::whole_texts))]
     pub fn is_utf8(&self) -> bool
         ensures { result ≡ all_text (binview_rows self.now) }
     {

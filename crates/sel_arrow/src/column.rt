@@ -101,6 +101,7 @@ macro_rules! match_column {
 
 impl Column {
     /// Returns the number of rows, at most 4,294,967,295 if the column is well-formed.
+    #[tactic(auto, using(crate::proofs::NestedRows::row_counts))]
     pub fn len(&self) -> usize
         ensures len { result ≡ length (rows self.now) }
         ensures few { IsWellFormed self.now → result ≤ max_rows }
@@ -117,6 +118,7 @@ impl Column {
     ///
     /// # Requires
     /// The column is well-formed; check with `is_well_formed`.
+    #[tactic(auto, using(crate::proofs::NestedRows::telling))]
     pub fn validity(&self) -> Option<&Bitmap>
         requires { IsWellFormed self.now }
         ensures { IsValidityOf (type_of self.now) (option_copied result) (rows self.now) }
@@ -228,6 +230,7 @@ impl Column {
     ///
     /// # Errors
     /// `OutOfMemory` if an allocation fails.
+    #[tactic(auto, using(crate::proofs::Types::struct_types))]
     #[cycle(dtype)]
     pub fn dtype(&self, alloc: Global) -> PolarsResult<ArrowDataType>
         ensures dtype { IfOk result (λ dtype. shape_of dtype ≡ type_of self.now) }

@@ -35,6 +35,7 @@ pub enum ArrowDataType {
 impl ArrowDataType {
     /// Returns whether the list size of every fixed-size list, at every depth, is at most
     /// 4,294,967,295.
+    #[tactic(auto, using(crate::proofs::Types::widths_fit_struct))]
     #[cycle(widths_fit)]
     pub fn widths_fit(&self) -> bool
         ensures { result ≡ widths_fit self.now }

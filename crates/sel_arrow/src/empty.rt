@@ -108,6 +108,7 @@ fn no_lists(alloc: Global, offsets: OffsetsBuffer<i64>, child: Column) -> Polars
 
 /// Returns a fixed-size list column without rows, of list size `size`, over an empty child. Fails
 /// only with `OutOfMemory`.
+#[tactic(auto, using(crate::proofs::NoRows::blocks_of_none))]
 fn no_blocks(alloc: Global, size: usize, child: Column) -> PolarsResult<Column>
     requires narrow { size ≤ max_rows }
     requires formed { IsWellFormed child }
@@ -124,6 +125,7 @@ fn no_blocks(alloc: Global, size: usize, child: Column) -> PolarsResult<Column>
 }
 
 /// Returns a struct column without rows over empty fields.
+#[tactic(auto, using(crate::proofs::NoRows::no_tuples))]
 fn no_struct_rows(fields: Vec<Column>) -> Column
     requires { All (IsField 0) fields.items }
     ensures rows { rows result ≡ [] }

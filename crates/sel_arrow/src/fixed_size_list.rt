@@ -41,6 +41,7 @@ impl FixedSizeListArray {
     /// 4,294,967,295, `Width` if `size` exceeds 4,294,967,295, `ChildLength` if the child does not
     /// have `len * size` rows, `ValidityLength` if the length of the validity is not `len`.
     /// `OutOfMemory` if no rule is broken and an allocation fails.
+    #[tactic(auto, using(crate::proofs::NestedMakers::making))]
     pub fn try_new(
         alloc: Global,
         size: usize,
@@ -149,6 +150,7 @@ impl FixedSizeListArray {
 
     /// Returns `len` lists from list `off` on, of the column with these parts. Fails only with
     /// `OutOfMemory`.
+    #[tactic(auto, using(crate::proofs::NestedParts::block_steps))]
     #[cycle(slicing)]
     pub(crate) fn part_of(
         size: usize,
@@ -184,6 +186,7 @@ impl FixedSizeListArray {
     }
 
     /// Returns a copy of the column with these parts. Fails only with `OutOfMemory`.
+    #[tactic(auto, using(crate::proofs::NestedParts::block_steps))]
     #[cycle(copying)]
     pub(crate) fn copy_of(
         size: usize,

@@ -46,6 +46,7 @@ impl ListArray<i64> {
     /// 4,294,967,295 lists, `OffsetRange` if the last offset exceeds the number of rows of the
     /// child, `ValidityLength` if the length of the validity is not the number of lists.
     /// `OutOfMemory` if no rule is broken and an allocation fails.
+    #[tactic(auto, using(crate::proofs::NestedMakers::making))]
     pub fn try_new(
         alloc: Global,
         offsets: OffsetsBuffer<i64>,
@@ -144,6 +145,7 @@ impl ListArray<i64> {
 
     /// Returns `len` lists from list `off` on, of the column with these parts. Fails only with
     /// `OutOfMemory`.
+    #[tactic(auto, using(crate::proofs::NestedParts::list_steps))]
     pub(crate) fn part_of(
         offsets: &OffsetsBuffer<i64>,
         values: &Box<Column>,
@@ -174,6 +176,7 @@ impl ListArray<i64> {
     }
 
     /// Returns a copy of the column with these parts. Fails only with `OutOfMemory`.
+    #[tactic(auto, using(crate::proofs::NestedParts::list_steps))]
     #[cycle(copying)]
     pub(crate) fn copy_of(
         offsets: &OffsetsBuffer<i64>,

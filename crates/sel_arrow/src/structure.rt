@@ -70,6 +70,7 @@ impl StructArray {
     }
 
     /// Returns the fields, in order.
+    #[tactic(auto, using(crate::proofs::Trees::has_fields))]
     pub fn values(&self) -> &[Column]
         ensures columns { result.now ≡ self.now.fields.items }
         ensures formed { All (IsField self.now.len) result.now }
@@ -121,6 +122,7 @@ impl StructArray {
 
     /// Returns `len` rows from row `off` on, of the column with these parts. Fails only with
     /// `OutOfMemory`.
+    #[tactic(auto, using(crate::proofs::NestedParts::tuple_steps))]
     #[cycle(slicing)]
     pub(crate) fn part_of(
         _count: usize,
@@ -150,6 +152,7 @@ impl StructArray {
     }
 
     /// Returns a copy of the column with these parts. Fails only with `OutOfMemory`.
+    #[tactic(auto, using(crate::proofs::NestedParts::tuple_steps))]
     #[cycle(copying)]
     pub(crate) fn copy_of(
         len: usize,

@@ -1,6 +1,5 @@
 use Rattle.std.proofs.Common.{◌≤◌, ◌+◌, ◌*◌, ◌∙◌, ap, sym, subst, map, length, All, rules, arith}
 use Rattle.std.proofs.lemmas.List.Elements.{All-get_or, All-push}
-use Rattle.sel_arrow.specs.Shape.{of_fixed_size_list}
 use Rattle.sel_arrow.specs.Rows.{rows, buffers_held, type_of, well_formed, IsField, IsWellFormed}
 use Rattle.sel_arrow.specs.declared.column.Column.{Column}
 use Rattle.sel_arrow.proofs.NestedParts.{blocks_inside, blocks_fit, blocks_cover, blocks_within, blocks_part, blocks_part_rows, tuples_inside, fields_cover, fields_within, tuples_part, tuples_part_rows, tuples_type, tuples_held, part_rows, mapped_more, part_is_field}
@@ -29,10 +28,6 @@ fixed_size_list::FixedSizeListArray::part_of-returns-clause-rows t c =
     let inside = blocks_inside c.args.size c.args._count c.args.values.now c.args.validity.now c.args.off c.args.len c.requires.inside in
     blocks_part_rows c.args.size c.args._count c.args.values.now c.in_ok-values-2.values c.args.validity.now c.in_ok-validity.validity c.args.off c.args.len inside
     (ap rows c.in_ok-values-2.ensures.ok ∙ c.in_ok-values.ensures.rows ∙ ap (part_rows (c.args.off * c.args.size) (c.args.len * c.args.size)) c.deref.ensures) c.in_ok-validity.ensures.value
-
-pub fixed_size_list::FixedSizeListArray::part_of-returns-clause-child : goal.fixed_size_list::FixedSizeListArray::part_of-returns-clause-child
-fixed_size_list::FixedSizeListArray::part_of-returns-clause-child t c =
-    ap rows c.in_ok-values-2.ensures.ok ∙ c.in_ok-values.ensures.rows ∙ ap (part_rows (c.args.off * c.args.size) (c.args.len * c.args.size)) c.deref.ensures
 
 pub structure::StructArray::part_of-parts_of-requires : goal.structure::StructArray::part_of-parts_of-requires
 structure::StructArray::part_of-parts_of-requires t c =
@@ -101,11 +96,3 @@ fixed_size_list::FixedSizeListArray::part_of-overflow_mul-len t c =
     let inside = blocks_inside c.args.size c.args._count c.args.values.now c.args.validity.now c.args.off c.args.len c.requires.inside in
     let fit = blocks_fit c.args.size c.args._count c.args.values.now c.args.validity.now c.args.len c.requires.formed (omega (arith, inside)) in
     omega (arith, fit)
-
-pub fixed_size_list::FixedSizeListArray::part_of-returns-clause-dtype : goal.fixed_size_list::FixedSizeListArray::part_of-returns-clause-dtype
-fixed_size_list::FixedSizeListArray::part_of-returns-clause-dtype t c =
-    ap (λ shape. of_fixed_size_list shape c.args.size) (ap type_of c.in_ok-values-2.ensures.ok ∙ c.in_ok-values.ensures.dtype ∙ ap type_of c.deref.ensures)
-
-pub fixed_size_list::FixedSizeListArray::part_of-returns-clause-buffers : goal.fixed_size_list::FixedSizeListArray::part_of-returns-clause-buffers
-fixed_size_list::FixedSizeListArray::part_of-returns-clause-buffers t c =
-    ap buffers_held c.in_ok-values-2.ensures.ok ∙ c.in_ok-values.ensures.buffers ∙ ap buffers_held c.deref.ensures

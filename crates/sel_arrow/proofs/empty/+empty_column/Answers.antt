@@ -1,10 +1,11 @@
 use Rattle.std.proofs.Common.{rules, arith, ◌∙◌, sym, ap}
 use Rattle.std.proofs.lemmas.List.Elements.{All-push}
 use Rattle.sel_arrow.specs.DataType.{shape_of}
-use Rattle.sel_arrow.specs.Rows.{IsField}
+use Rattle.sel_arrow.specs.Rows.{IsField, type_of}
 use Rattle.sel_arrow.specs.Shape.{of_struct, shapes_of}
 use Rattle.sel_arrow.specs.declared.datatype.ArrowDataType.{the_lemmas}
-use Rattle.sel_arrow.proofs.NoRows.{columns_more, field_of_none, fields_fit}
+use Rattle.sel_arrow.proofs.NoRows.{field_of_none, fields_fit}
+use Rattle.sel_arrow.proofs.NestedParts.{mapped_more}
 use Rattle.sel_arrow.proofs.Types.{struct_shape}
 use Rattle.sel_arrow.proofs.empty.+empty_column.Goals as goal
 
@@ -26,9 +27,9 @@ empty_column-empty_columns-requires t c =
 pub empty_columns-loop-dtype-preserved : goal.empty_columns-loop-dtype-preserved
 empty_columns-loop-dtype-preserved t c =
     let column = c.in_ok-empty_column in
-    let here = column.ensures.dtype ∙ ap shape_of c.dtype-item.is in
+    let pushed = c.in_ok-push.ensures.items in
     let one = field_of_none column.field-0 column.ensures.rows column.ensures.formed in
     record {
-      dtypes = rw c.in_ok-push.ensures.items (columns_more c.loop-dtype.columns.items column.field-0 c.args.dtypes.now c.loop-dtype.dtype-index _ (omega arith) c.loop-dtype.invariant.dtypes here);
-      fields = rw c.in_ok-push.ensures.items (All-push (IsField 0) c.loop-dtype.columns.items column.field-0 c.loop-dtype.invariant.fields one);
+      dtypes = mapped_more type_of shape_of c.args.dtypes.now c.loop-dtype.columns.items _ c.loop-dtype.dtype-index c.dtype-item.result column.field-0 (omega arith) c.dtype-item.is pushed column.ensures.dtype c.loop-dtype.invariant.dtypes;
+      fields = rw pushed (All-push (IsField 0) c.loop-dtype.columns.items column.field-0 c.loop-dtype.invariant.fields one);
     }
