@@ -1,5 +1,5 @@
 -- Functions applied bit by bit to lists and to words.
-use Rattle.std.proofs.Common.{◌≡◌, ℕ, zero, suc, ◌+◌, ◌-◌, ◌%◌, ◌^◌, ◌<◌, ◌≤◌, ◌∙◌, sym, refl, ap, subst, arith, min, max, List, [], ◌∷◌, ◌++◌, length, get_or, take, drop, map, Bool, true, false, cond, not, ◌&&◌, ◌||◌}
+use Rattle.std.proofs.Common.{◌≡◌, ℕ, zero, suc, ◌+◌, ◌-◌, ◌%◌, ◌^◌, ◌<◌, ◌≤◌, ◌∙◌, sym, refl, ap, subst, arith, min, max, List, [], ◌∷◌, ◌++◌, length, get_or, take, drop, map, Bool, false, cond, not, ◌&&◌, ◌||◌}
 use Rattle.std.specs.Prelude.{bit_and, bit_or, ◌==◌, if◌then◌else◌}
 use Rattle.std.specs.Int.{bit_at, bit_not, w64}
 use Rattle.std.proofs.Math.Seq.{take-add}
@@ -11,8 +11,8 @@ use Rattle.sel_bits.specs.Bits.{zip_with, zip_three}
 use Rattle.sel_bits.specs.Choose.{choose}
 use Rattle.sel_bits.specs.Words.{is_set, bits, word_of}
 use Rattle.sel_bits.proofs.Lists.{cond_of_bit}
-use Rattle.sel_bits.proofs.Padded.{bit_at_word_of, word_of_lt}
-use Rattle.sel_bits.proofs.Packed.{bits_word_of}
+use Rattle.sel_bits.proofs.Padded.{word_of_lt}
+use Rattle.sel_bits.proofs.Packed.{bits_word_of, is_set_word_of}
 use Rattle.sel_bits.proofs.Shifts.{bit_at_mod}
 use Rattle.sel_bits.proofs.WordsOf.{length_part, is_word_of}
 
@@ -63,14 +63,6 @@ of_choice (m ∷ ms) (t ∷ ts) [] = refl
 of_choice (m ∷ ms) (t ∷ ts) (f ∷ fs) = ap (λ l. (if m then t else f) ∷ l) (of_choice ms ts fs)
 
 -- Bits of words.
-test_of_cond : (b : Bool) → (cond b 1 0 == 1) ≡ b
-test_of_cond true = refl
-test_of_cond false = refl
-
--- Bit i of a list's word is entry i.
-pub is_set_word_of : (l : List Bool) (i : ℕ) → is_set (word_of l) i ≡ get_or l i false
-is_set_word_of l i = ap (λ b. b == 1) (bit_at_word_of l i) ∙ test_of_cond (get_or l i false)
-
 number_of_is_set : (w i : ℕ) → bit_at w i ≡ cond (is_set w i) 1 0
 number_of_is_set w i = sym (cond_of_bit (bit_at w i) (bit_at-lt w i))
 

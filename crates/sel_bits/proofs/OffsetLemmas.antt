@@ -12,25 +12,15 @@ not_less (pos a) (pos b) p q h = grind (arith, common_steps)
 not_less (pos a) (negsuc b) p q h = cc
 not_less (negsuc a) b p q h = cc
 
-or-left : (a b : Bool) → (a || b) ≡ false → a ≡ false
-or-left true b h = cc
-or-left false b h = refl
+or_parts : (a b : Bool) → (a || b) ≡ false → (a ≡ false) × (b ≡ false)
+or_parts true b h = cc
+or_parts false b h = (refl, h)
 
-or-right : (a b : Bool) → (a || b) ≡ false → b ≡ false
-or-right true b h = cc
-or-right false b h = h
+neg_parts : {T : Type 0} (number : T → ℤ) → (x : T) (xs : List T) → has_negative number (x ∷ xs) ≡ false → (is_negative (number x) ≡ false) × (has_negative number xs ≡ false)
+neg_parts number x xs h = or_parts (is_negative (number x)) (has_negative number xs) h
 
-neg_head : {T : Type 0} (number : T → ℤ) → (x : T) (xs : List T) → has_negative number (x ∷ xs) ≡ false → is_negative (number x) ≡ false
-neg_head number x xs h = or-left (is_negative (number x)) (has_negative number xs) h
-
-neg_tail : {T : Type 0} (number : T → ℤ) → (x : T) (xs : List T) → has_negative number (x ∷ xs) ≡ false → has_negative number xs ≡ false
-neg_tail number x xs h = or-right (is_negative (number x)) (has_negative number xs) h
-
-fall_head : {T : Type 0} (number : T → ℤ) → (x y : T) (xs : List T) → has_fall number (x ∷ (y ∷ xs)) ≡ false → is_below (number y) (number x) ≡ false
-fall_head number x y xs h = or-left (is_below (number y) (number x)) (falls_after number y xs) h
-
-fall_tail : {T : Type 0} (number : T → ℤ) → (x y : T) (xs : List T) → has_fall number (x ∷ (y ∷ xs)) ≡ false → has_fall number (y ∷ xs) ≡ false
-fall_tail number x y xs h = or-right (is_below (number y) (number x)) (falls_after number y xs) h
+fall_parts : {T : Type 0} (number : T → ℤ) → (x y : T) (xs : List T) → has_fall number (x ∷ (y ∷ xs)) ≡ false → (is_below (number y) (number x) ≡ false) × (has_fall number (y ∷ xs) ≡ false)
+fall_parts number x y xs h = or_parts (is_below (number y) (number x)) (falls_after number y xs) h
 
 shown : (z : ℤ) → is_negative z ≡ false → z ≡ pos (magnitude z)
 shown (pos n) h = refl
@@ -39,28 +29,21 @@ shown (negsuc n) h = cc
 pub positive : {T : Type 0} (number : T → ℤ) → (xs : List T) → has_negative number xs ≡ false → map number xs ≡ map pos (magnitudes number xs)
 positive number [] h = refl
 positive number (x ∷ xs) h =
-    cc (shown (number x) (neg_head number x xs h), positive number xs (neg_tail number x xs h))
-
-least : {T : Type 0} (number : T → ℤ) → (x : T) (xs : List T) → has_negative number (x ∷ xs) ≡ false → falls_after number x xs ≡ false → (k : ℕ) → k < length (x ∷ xs) → magnitude (number x) ≤ get_or (magnitudes number (x ∷ xs)) k 0
-least number x xs neg fall zero h = omega arith
-least number x [] neg fall (suc k) h = omega arith
-least number x (y ∷ ys) neg fall (suc k) h =
-    let later : has_negative number (y ∷ ys) ≡ false = neg_tail number x (y ∷ ys) neg in
-    let step : magnitude (number x) ≤ magnitude (number y) =
-    not_less (number x) (number y) (neg_head number x (y ∷ ys) neg) (neg_head number y ys later) (fall_head number x y ys fall)
-    in
-    let rest : magnitude (number y) ≤ get_or (magnitudes number (y ∷ ys)) k 0 =
-    least number y ys later (fall_tail number x y ys fall) k (omega arith)
-    in
-    omega arith
+    cc (shown (number x) (neg_parts number x xs h).0, positive number xs (neg_parts number x xs h).1)
 
 climbs : {T : Type 0} (number : T → ℤ) → (xs : List T) → has_negative number xs ≡ false → has_fall number xs ≡ false → (j k : ℕ) → j ≤ k → k < length xs → get_or (magnitudes number xs) j 0 ≤ get_or (magnitudes number xs) k 0
 climbs number [] neg fall j k le h = omega arith
-climbs number (x ∷ xs) neg fall zero k le h = least number x xs neg fall k h
+climbs number (x ∷ xs) neg fall zero zero le h = omega arith
 climbs number (x ∷ xs) neg fall (suc j) zero le h = omega arith
-climbs number (x ∷ []) neg fall (suc j) (suc k) le h = omega arith
+climbs number (x ∷ []) neg fall j (suc k) le h = omega arith
+climbs number (x ∷ (y ∷ ys)) neg fall zero (suc k) le h =
+    let here = neg_parts number x (y ∷ ys) neg in
+    let falls = fall_parts number x y ys fall in
+    let step : magnitude (number x) ≤ magnitude (number y) = not_less (number x) (number y) here.0 (neg_parts number y ys here.1).0 falls.0 in
+    let rest : magnitude (number y) ≤ get_or (magnitudes number (y ∷ ys)) k 0 = climbs number (y ∷ ys) here.1 falls.1 0 k (omega arith) (omega arith) in
+    omega arith
 climbs number (x ∷ (y ∷ ys)) neg fall (suc j) (suc k) le h =
-    climbs number (y ∷ ys) (neg_tail number x (y ∷ ys) neg) (fall_tail number x y ys fall) j k (omega arith) (omega arith)
+    climbs number (y ∷ ys) (neg_parts number x (y ∷ ys) neg).1 (fall_parts number x y ys fall).1 j k (omega arith) (omega arith)
 
 -- Numbers that break no rule are offsets.
 pub accepted : {T : Type 0} (number : T → ℤ) → (xs : List T) → offsets_fault number xs ≡ None → IsOffsets number xs

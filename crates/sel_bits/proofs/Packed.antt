@@ -1,12 +1,13 @@
 -- Words and bytes that are made of booleans.
-use Rattle.std.proofs.Common.{◌≡◌, ℕ, zero, suc, ◌+◌, ◌*◌, ◌/◌, ◌%◌, ◌^◌, ◌<◌, ◌≤◌, ◌∙◌, sym, refl, ap, arith, List, [], ◌∷◌, ◌++◌, length, get_or, take, drop, replicate, Bool, true, false, cond, append_assoc}
+use Rattle.std.proofs.Common.{◌≡◌, ℕ, ◌+◌, ◌*◌, ◌/◌, ◌%◌, ◌^◌, ◌<◌, ◌≤◌, ◌∙◌, sym, refl, ap, arith, List, [], ◌∷◌, ◌++◌, length, get_or, take, drop, replicate, Bool, true, false, cond, append_assoc}
 use Rattle.std.specs.Prelude.{◌==◌, not, count_by, if◌then◌else◌}
 use Rattle.std.specs.Int.{from_bool}
 use Rattle.std.proofs.Math.Nat.{pow-suc}
+use Rattle.std.proofs.lemmas.Bool.Decides.{nat_tests}
 use lib.Pow.{pow_mono}
 use Rattle.std.proofs.lemmas.Nat.{shl_whole}
 use Rattle.std.proofs.lemmas.Nat.Bits.{bit_at_ones, bit_at-zero}
-use Rattle.std.proofs.lemmas.List.{same_lists, take_more, length-take, length-replicate, get_or-replicate, take-append-drop}
+use Rattle.std.proofs.lemmas.List.{get_or_default, same_lists, take_more, length-take, length-replicate, get_or-replicate, take-append-drop}
 use Rattle.std.proofs.lemmas.List.Sums.{sum_by-cons}
 use Rattle.sel_bits.specs.Words.{is_set, bits, word_of}
 use Rattle.sel_bits.specs.Bits.{bits_from}
@@ -14,22 +15,20 @@ use Rattle.sel_bits.proofs.BitLists.{length_bits_from, get_bits_from}
 use Rattle.sel_bits.proofs.Packs.{length_bits, get_bits}
 use Rattle.sel_bits.proofs.Padded.{bit_at_word_of, word_of_lt}
 
+test_of_cond : (b : Bool) → (cond b 1 0 == 1) ≡ b
+test_of_cond b = grind (arith, nat_tests)
+
+-- Bit i of a list's word is entry i.
+pub is_set_word_of : (l : List Bool) (i : ℕ) → is_set (word_of l) i ≡ get_or l i false
+is_set_word_of l i = ap (λ b. b == 1) (bit_at_word_of l i) ∙ test_of_cond (get_or l i false)
+
 -- The bits of the word of a list are the list.
 pub bits_word_of : (l : List Bool) → bits (length l) (word_of l) ≡ l
 bits_word_of l =
     same_lists (bits (length l) (word_of l)) l (length_bits (length l) (word_of l))
     (λ i d lt.
     let low : i < length l = omega (arith, length_bits (length l) (word_of l), lt) in
-    get_bits (length l) (word_of l) i d low ∙ ap (λ x. x == 1) (bit_at_word_of l i) ∙ read l i d low)
-  where
-    test : (b : Bool) → (cond b 1 0 == 1) ≡ b
-    test true = refl
-    test false = refl
-
-    read : (l : List Bool) (i : ℕ) (d : Bool) → i < length l → (cond (get_or l i false) 1 0 == 1) ≡ get_or l i d
-    read [] i d lt = absurd (omega arith)
-    read (b ∷ l) zero d lt = test b
-    read (b ∷ l) (suc i) d lt = read l i d (omega arith)
+    get_bits (length l) (word_of l) i d low ∙ is_set_word_of l i ∙ get_or_default l i false d low)
 
 -- One more boolean as the highest bit.
 pub word_of-push : (l : List Bool) (b : Bool) → word_of (l ++ b ∷ []) ≡ word_of l + from_bool b * 2 ^ length l
