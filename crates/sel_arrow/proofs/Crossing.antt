@@ -1,5 +1,4 @@
 -- A column may go to another thread, and several threads may read it.
-use mathlib.Core.List.{[]}
 use denote.Param.Send.{IsSend, IsSync, sendable, struct_send, struct_sync, recorded_send, recorded_sync}
 use denote.Struct.Declared.{shape}
 use Rattle.std.proofs.Crossing as std

@@ -1,5 +1,5 @@
 -- The rules for columns with children agree with `well_formed`.
-use Rattle.std.proofs.Common.{◌≡◌, ℕ, ◌*◌, Bool, true, false, not, ◌&&◌, nat_le, nat_lt, ◌==◌, List, [], ◌∷◌, length, Option, None, is_some, is_none, refl, ap, sym, ◌∙◌, arith}
+use Rattle.std.proofs.Common.{◌≡◌, ℕ, ◌*◌, Bool, true, false, not, ◌&&◌, nat_le, nat_lt, ◌==◌, List, [], ◌∷◌, length, Option, None, is_some, is_none, ap, sym, ◌∙◌, arith}
 use Rattle.sel_arrow.proofs.Common.{nat_tests, max_rows, Bits, IsRising, list_fault, block_fault, struct_length_fault, covers, is_few, too_many, validity_differs, rows_between, last_offset, is_rising, rows, row_count, well_formed, Column}
 use Rattle.sel_bits.specs.Faults.{first_broken}
 use Rattle.sel_bits.specs.declared.faults.Malformed.{Malformed}

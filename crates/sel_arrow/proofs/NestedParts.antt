@@ -1,6 +1,6 @@
 -- Slices and copies of columns with children.
 use Rattle.std.proofs.Common.{◌≡◌, ℕ, ◌+◌, ◌-◌, ◌*◌, ◌≤◌, ◌<◌, true, List, [], ◌∷◌, ◌++◌, length, take, drop, map, get_or, Option, All, Vec, Box, Global, refl, ap, sym, subst, ◌∙◌, arith, suc, suc-mul, add-mul}
-use Rattle.sel_arrow.proofs.Common.{flat_map, range_with_len, slice_range, ForSome, option_map, length-map, map_more, map_push, get_or-take, get_or-drop, take-take, drop-drop, drop-take, All-weaker, All-nil, All-cons, All-head, All-tail, max_rows, Bits, masked, part_of, Covers, list_of, list_rows, blocks, block_rows, struct_at, struct_rows, pieces, rows_between, rows, row_count, buffers_held, type_of, well_formed, IsField, IsWellFormed, of_struct, shapes_of, Value, Null, Tuple, values_of, Column, LargeList, FixedSizeList, Struct}
+use Rattle.sel_arrow.proofs.Common.{flat_map, range_with_len, slice_range, ForSome, option_map, length-map, map_more, map_push, get_or-take, get_or-drop, take-take, drop-drop, drop-take, All-weaker, max_rows, Bits, masked, part_of, Covers, list_of, list_rows, blocks, block_rows, struct_at, struct_rows, pieces, rows_between, rows, row_count, buffers_held, type_of, well_formed, IsField, IsWellFormed, of_struct, shapes_of, Value, Null, Tuple, values_of, Column, LargeList, FixedSizeList, Struct}
 use Rattle.std.proofs.lemmas.List.FromFn.{length-map-range_with_len, get_or-map-range_with_len, fill_by_all}
 use Rattle.std.proofs.lemmas.Nat.{mul-le}
 use Rattle.sel_arrow.proofs.ByteRows.{part-pieces, part_rising, part_few, part_last, part_covered}

@@ -1,8 +1,7 @@
 -- Columns without rows.
-use Rattle.std.proofs.Common.{◌≡◌, ℕ, pos, ◌+◌, ◌≤◌, ◌<◌, ◌*◌, true, ◌&&◌, ◌==◌, List, [], ◌∷◌, ◌++◌, map, length, take, get_or, None, Vec, Global, refl, ap, sym, ◌∙◌, arith}
-use Rattle.sel_arrow.proofs.Common.{All, list_all, nat_tests, map-append, map_more, All-head, All-tail, max_rows, IsOffsets, IsRising, shape_of, widths_fit, covers, is_few, rows, row_count, type_of, well_formed, all_well_formed, IsField, Column, Struct as StructColumn, Row_of-Column, end_of-Column, more_of-Column, items-the_row-Column, items_hidden-the_row-Column-0}
+use Rattle.std.proofs.Common.{◌≡◌, ℕ, pos, ◌≤◌, ◌*◌, true, ◌&&◌, ◌==◌, List, [], ◌∷◌, map, length, None, Vec, Global, refl, ap, sym, ◌∙◌, arith}
+use Rattle.sel_arrow.proofs.Common.{All, list_all, max_rows, IsOffsets, IsRising, widths_fit, covers, is_few, rows, row_count, well_formed, IsField, Column, Struct as StructColumn}
 use Rattle.sel_arrow.specs.declared.datatype.ArrowDataType.{ArrowDataType, Struct}
-use Rattle.sel_arrow.proofs.Lists.{both}
 use Rattle.sel_arrow.proofs.NestedRows.{length-rows, blocks_formed}
 use Rattle.sel_arrow.proofs.Trees.{fields_make}
 use Rattle.sel_arrow.proofs.Types.{columns_in, type_of-Struct, widths_fit_struct}

@@ -1,5 +1,5 @@
 -- Rows that are strings.
-use Rattle.std.proofs.Common.{◌≡◌, ℕ, ◌<◌, Bool, true, false, List, length, take, drop, refl, ◌∙◌, ap, get_or, IsTrue}
+use Rattle.std.proofs.Common.{◌≡◌, ℕ, ◌<◌, true, false, List, length, take, drop, ◌∙◌, ap, get_or, IsTrue}
 use Rattle.std.specs.Str.{IsUtf8, is_utf8}
 use Rattle.std.proofs.lemmas.Str.{IsUtf8-from_is_utf8, is_utf8-from_IsUtf8}
 use Rattle.sel_arrow.specs.Texts.{all_text, is_text}
