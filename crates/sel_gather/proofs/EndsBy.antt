@@ -11,9 +11,7 @@ module _ {A : Type 0} (part : Value → List A) where
 
   pub ends_by-append : (start : ℕ) (a b : List Value) → ends_by start (a ++ b) ≡ ends_by start a ++ ends_by (start + length (flat_map part a)) b
   ends_by-append start [] b = let same : start + 0 ≡ start = omega arith in rw same refl
-  ends_by-append start (v ∷ a) b =
-      let same : start + length (part v ++ flat_map part a) ≡ (start + length (part v)) + length (flat_map part a) = omega (arith, length-append (part v) (flat_map part a)) in
-      rw same (ap (λ l. (start + length (part v)) ∷ l) (ends_by-append (start + length (part v)) a b))
+  ends_by-append start (v ∷ a) b = grind (arith, common_steps, length-append, (ends_by-append (start + length (part v)) a b))
 
   length-ends_by : (start : ℕ) (vs : List Value) → length (ends_by start vs) ≡ length vs
   length-ends_by start [] = refl
@@ -46,13 +44,7 @@ module _ {A : Type 0} (part : Value → List A) where
   -- The pieces after `before` are the parts.
   pub pieces_by : (before : List A) (vs : List Value) → pieces_after (length before) (ends_by (length before) vs) (before ++ flat_map part vs) ≡ map part vs
   pieces_by before [] = refl
-  pieces_by before (v ∷ vs) =
-      let here : slice_range (before ++ (part v ++ flat_map part vs)) (length before) (length before + length (part v)) ≡ part v = grind (arith, common_steps) in
-      let rest = pieces_by (before ++ part v) vs in
-      let same : length (before ++ part v) ≡ length before + length (part v) = length-append before (part v) in
-      let whole : (before ++ part v) ++ flat_map part vs ≡ before ++ (part v ++ flat_map part vs) = append_assoc before (part v) (flat_map part vs) in
-      let shown : pieces_after (length before + length (part v)) (ends_by (length before + length (part v)) vs) (before ++ (part v ++ flat_map part vs)) ≡ map part vs = rw (← same, ← whole) rest in
-      cc (here, shown)
+  pieces_by before (v ∷ vs) = grind (arith, common_steps, common_steps, length-append, append_assoc, (pieces_by (before ++ part v) vs))
 
 -- The ends of lists, and of bytes.
 pub list_ends : (start : ℕ) (vs : List Value) → item_ends start vs ≡ ends_by (items_in 0) start vs

@@ -1,5 +1,5 @@
 -- Gathering rows one row reference at a time.
-use Rattle.sel_gather.proofs.Common.{All-map, ◌≡◌, ℕ, ◌+◌, ◌*◌, ◌%◌, ◌^◌, ◌≤◌, ◌<◌, All, Bool, true, false, List, [], ◌∷◌, ◌++◌, length, take, drop, map}
+use Rattle.sel_gather.proofs.Common.{common_steps, All-map, ◌≡◌, ℕ, ◌+◌, ◌*◌, ◌%◌, ◌^◌, ◌≤◌, ◌<◌, All, Bool, true, false, List, [], ◌∷◌, ◌++◌, length, take, drop, map}
 use Rattle.sel_gather.proofs.Common.{replicate, get_or, Option, Some, None, zero, suc, refl, ap, sym, subst, ◌∙◌, arith, append_assoc, take-add, length-map}
 use Rattle.sel_gather.proofs.Common.{get_or-map, take_more, map_push, map-append, get_or-take, get_or-drop, drop-map, drop-drop, length-drop, All-get_or}
 use Rattle.sel_gather.proofs.Common.{All-head, All-tail, All-drop, Bits, bits, word_of, valid_at, found, pick, bit_found, bits_found, IsPicked}
@@ -25,10 +25,7 @@ none_at (v ∷ vs) (suc s) h = none_at vs s (All-tail (λ x. x ≡ None) v vs h)
 pub all_there : (vs : List (Option Bits)) (ps : List (Option (ℕ × ℕ))) → All (λ v. v ≡ None) vs → All IsPicked ps → replicate (length ps) true ≡ bits_found vs ps
 all_there vs [] h picked = refl
 all_there vs (None ∷ ps) h picked = absurd (All-head IsPicked None ps picked)
-all_there vs (Some p ∷ ps) h picked =
-    let here : valid_at (get_or vs p.0 None) p.1 ≡ true = ap (λ v. valid_at v p.1) (none_at vs p.0 h) in
-    let rest = all_there vs ps h (All-tail IsPicked (Some p) ps picked) in
-    (λ i. sym here i ∷ rest i)
+all_there vs (Some p ∷ ps) h picked = grind (arith, common_steps, none_at, All-tail, (all_there vs ps h (All-tail IsPicked (Some p) ps picked)))
 
 pub all_none : {S : Type 0} (f : S → Option Bits) (ss : List S) → All (λ s. f s ≡ None) ss → All (λ v. v ≡ None) (map f ss)
 all_none f ss h = All-map (λ v. v ≡ None) f ss h
@@ -37,9 +34,7 @@ all_none f ss h = All-map (λ v. v ≡ None) f ss h
 
 -- The next row reference, followed by the remaining ones.
 pub next_is : (ps rest : List (Option (ℕ × ℕ))) (p : Option (ℕ × ℕ)) (k : ℕ) → drop k ps ≡ p ∷ rest → get_or ps k None ≡ p
-next_is ps rest p k e =
-    let there : k + 0 ≡ k = omega arith in
-    ap (λ n. get_or ps n None) (sym there) ∙ sym (get_or-drop k ps 0 None) ∙ ap (λ l. get_or l 0 None) e
+next_is ps rest p k e = grind (arith, common_steps, get_or-drop)
 
 pub rest_is : (ps rest : List (Option (ℕ × ℕ))) (p : Option (ℕ × ℕ)) (k : ℕ) → drop k ps ≡ p ∷ rest → rest ≡ drop (k + 1) ps
 rest_is ps rest p k e = sym (ap (drop 1) e) ∙ drop-drop 1 k ps
@@ -54,9 +49,7 @@ next_all P ps rest p k e all = subst P (next_is ps rest p k e) (All-get_or P ps 
 -- One more value.
 pub values_next : {A : Type 0} (d : A) (xss : List (List A)) (ps rest : List (Option (ℕ × ℕ))) (p : Option (ℕ × ℕ)) (k : ℕ) (old new : List A) (x : A) → drop k ps ≡ p ∷ rest →
     old ≡ pick d xss (take k ps) → x ≡ found d xss p → new ≡ old ++ x ∷ [] → new ≡ pick d xss (take (k + 1) ps)
-values_next d xss ps rest p k old new x e is there more =
-    more ∙ ap (λ l. l ++ x ∷ []) is ∙ ap (λ y. pick d xss (take k ps) ++ y ∷ []) (there ∙ ap (found d xss) (sym (next_is ps rest p k e)))
-    ∙ sym (pick_next d xss ps k (next_below ps rest p k e))
+values_next d xss ps rest p k old new x e is there more = grind (arith, common_steps, next_is, pick_next, next_below)
 
 -- One more value, after given ones.
 pub values_behind : {A : Type 0} (d : A) (xss : List (List A)) (ps rest : List (Option (ℕ × ℕ))) (p : Option (ℕ × ℕ)) (k : ℕ) (front old new : List A) (x : A) → drop k ps ≡ p ∷ rest →
@@ -69,11 +62,7 @@ values_behind d xss ps rest p k front old new x e is there more =
 -- The values at several more row references.
 pub values_more : {A : Type 0} (d : A) (xss : List (List A)) (ps left : List (Option (ℕ × ℕ))) (old new : List A) (at count : ℕ) → left ≡ drop at ps → old ≡ pick d xss (take at ps) →
     new ≡ old ++ pick d xss (take count left) → new ≡ pick d xss (take (at + count) ps)
-values_more d xss ps left old new at count behind is more =
-    more ∙ ap (λ l. l ++ pick d xss (take count left)) is
-    ∙ ap (λ l. pick d xss (take at ps) ++ pick d xss (take count l)) behind
-    ∙ sym (map-append (found d xss) (take at ps) (take count (drop at ps)))
-    ∙ ap (pick d xss) (sym (take-add at count ps))
+values_more d xss ps left old new at count behind is more = grind (arith, common_steps, map-append, take-add)
 
 there_at : (vs : List (Option Bits)) (ps rest : List (Option (ℕ × ℕ))) (p : Option (ℕ × ℕ)) (count i : ℕ) → drop i ps ≡ p ∷ rest → i < count →
     get_or (take count (bits_found vs ps)) i false ≡ bit_found vs p

@@ -1,5 +1,5 @@
 -- Rows under a validity, to which parts of other rows are appended.
-use Rattle.sel_gather.proofs.Common.{found, ◌≡◌, ℕ, zero, suc, ◌+◌, ◌≤◌, ◌<◌, get_or, Bool, true, false, List, [], ◌∷◌, ◌++◌, length, take, drop, map}
+use Rattle.sel_gather.proofs.Common.{common_steps, found, ◌≡◌, ℕ, zero, suc, ◌+◌, ◌≤◌, ◌<◌, get_or, Bool, true, false, List, [], ◌∷◌, ◌++◌, length, take, drop, map}
 use Rattle.sel_gather.proofs.Common.{replicate, Option, Some, None, refl, ap, sym, ◌∙◌, arith, length-append, map-append, get_or-map, length-map}
 use Rattle.sel_gather.proofs.Common.{length-replicate, Bits, Value, Null, hidden, masked, Covers, length-part, part-mapped, pick, part_bits, bits_for}
 
@@ -29,11 +29,7 @@ part_hidden f xs (Some validity) a n h = part-mapped f xs (Some validity) a n
 -- The values and the validity after nulls are appended.
 pub grown_nulls : {A : Type 0} (f : A → Value) (old new : List A) (x : A) (bits longer : List Bool) (n : ℕ) → length bits ≡ length old →
     new ≡ old ++ replicate n x → longer ≡ bits ++ replicate n false → hidden longer (map f new) ≡ hidden bits (map f old) ++ replicate n Null
-grown_nulls f old new x bits longer n long e g =
-    let part = replicate n x in
-    ap (λ l. hidden l (map f new)) g ∙ ap (λ l. hidden (bits ++ replicate n false) (map f l)) e ∙ ap (λ l. hidden (bits ++ replicate n false) l) (map-append f old part)
-    ∙ hidden-append bits (replicate n false) (map f old) (map f part) (long ∙ sym (length-map old f))
-    ∙ ap (λ l. hidden bits (map f old) ++ l) (hidden_none n (map f part) (length-map part f ∙ length-replicate n x))
+grown_nulls f old new x bits longer n long e g = grind (arith, common_steps, map-append, hidden-append, length-map, hidden_none, length-replicate)
 
 -- The number of appended bits.
 pub length-part_bits : (a n : ℕ) (validity : Option Bits) (count : ℕ) → Covers validity count → a + n ≤ count → length (part_bits a n validity) ≡ n
@@ -57,10 +53,7 @@ length-hidden (b ∷ bs) (v ∷ vs) = ap suc (length-hidden bs vs)
 -- After a part of a source is appended, there are still as many bits as values.
 pub grown_lengths : {A : Type 0} (old new xs : List A) (bits longer : List Bool) (validity : Option Bits) (a n : ℕ) → length bits ≡ length old → a + n ≤ length xs → Covers validity (length xs) →
     new ≡ old ++ take n (drop a xs) → longer ≡ bits ++ part_bits a n validity → length longer ≡ length new
-grown_lengths old new xs bits longer validity a n long inside covers e g =
-    let part = length-part xs a n inside in
-    let more = length-part_bits a n validity (length xs) covers inside in
-    rw (e, g, length-append, length-append) (omega (arith, long, part, more))
+grown_lengths old new xs bits longer validity a n long inside covers e g = grind (arith, common_steps, length-part, length-part_bits, length-append)
 
 -- There are as many bits as rows, and as many as row references.
 pub counted : {A : Type 0} (f : A → Value) (xs : List A) (bits : List Bool) (out : List Value) (n : ℕ) → length bits ≡ length xs → hidden bits (map f xs) ≡ out → length out ≡ n → length bits ≡ n
@@ -74,6 +67,4 @@ from_none f xs bits xss yss ps out e g h is = is ∙ rw (e, g, h) refl
 -- There are as many of them as row references.
 pub made_rows : {A : Type 0} (f : A → Value) (old xs : List A) (none bits : List Bool) (xss : List (List Value)) (ps : List (Option (ℕ × ℕ))) (n : ℕ) → length bits ≡ length xs → old ≡ [] → none ≡ [] → length ps ≡ n →
     hidden bits (map f xs) ≡ hidden none (map f old) ++ pick Null xss ps → (hidden bits (map f xs) ≡ pick Null xss ps) × (length bits ≡ n)
-made_rows f old xs none bits xss ps n same e g long is =
-    let total = from_none f old none xss xss ps (hidden bits (map f xs)) e g refl is in
-    (total, counted f xs bits (pick Null xss ps) n same total (length-map ps (found Null xss) ∙ long))
+made_rows f old xs none bits xss ps n same e g long is = grind (arith, common_steps, from_none, counted, length-map)

@@ -1,5 +1,5 @@
 -- Runs of the child rows of lists.
-use Rattle.sel_gather.proofs.Common.{All-replicate, ◌≡◌, All, Bor, ℤ, pos, ℕ, ◌+◌, ◌≤◌, ◌<◌, List, [], ◌∷◌, ◌++◌, length, take, drop, map, replicate, Option}
+use Rattle.sel_gather.proofs.Common.{common_steps, All-replicate, ◌≡◌, All, Bor, ℤ, pos, ℕ, ◌+◌, ◌≤◌, ◌<◌, List, [], ◌∷◌, ◌++◌, length, take, drop, map, replicate, Option}
 use Rattle.sel_gather.proofs.Common.{Some, None, refl, ap, sym, subst, ◌∙◌, arith, get_or, length-append, append_assoc, length-map, take_more, take_all}
 use Rattle.sel_gather.proofs.Common.{take-append-drop, map-append, append-nil, flat_map-append, All-append, rows, Value, Null, values_of, listed, Column, child}
 use Rattle.sel_gather.proofs.Common.{items_in, joined_items, item_ends, found, pick, PickFits, expand, unrolled, Run}
@@ -42,8 +42,7 @@ joined-one w v = append-nil (items_in w v)
 
 -- One more row.
 pub joined_more : (w : ℕ) (rows : List Value) (i : ℕ) → i < length rows → joined_items w (take (i + 1) rows) ≡ joined_items w (take i rows) ++ items_in w (get_or rows i Null)
-joined_more w rows i h =
-    ap (joined_items w) (take_more rows i Null h) ∙ joined-append w (take i rows) (get_or rows i Null ∷ []) ∙ ap (λ l. joined_items w (take i rows) ++ l) (joined-one w (get_or rows i Null))
+joined_more w rows i h = grind (arith, common_steps, take_more, joined-append, joined-one)
 
 -- A prefix of the rows has at most as many child rows as all rows.
 pub joined_prefix : (w : ℕ) (a b : List Value) → length (joined_items w a) ≤ length (joined_items w (a ++ b))
@@ -86,8 +85,7 @@ all_rows f xss r i h = ap f (take_all i (pick Null xss (unrolled r)) (omega (ari
 -- The child rows after a run is appended.
 pub pushed : (yss : List (List Value)) (old new : List Run) (r : Run) (before more : List Value) → expand new ≡ expand old ++ unrolled r → pick Null yss (expand old) ≡ before → pick Null yss (unrolled r) ≡ more →
     pick Null yss (expand new) ≡ before ++ more
-pushed yss old new r before more e f g =
-    ap (pick Null yss) e ∙ map-append (found Null yss) (expand old) (unrolled r) ∙ ap (λ l. l ++ pick Null yss (unrolled r)) f ∙ ap (λ l. before ++ l) g
+pushed yss old new r before more e f g = grind (arith, common_steps, map-append)
 
 pub pushed_fit : (yss : List (List Value)) (old new : List Run) (r : Run) → expand new ≡ expand old ++ unrolled r → All (PickFits yss) (expand old) → All (PickFits yss) (unrolled r) → All (PickFits yss) (expand new)
 pushed_fit yss old new r e f g = subst (All (PickFits yss)) (sym e) (All-append (PickFits yss) (expand old) (unrolled r) f g)

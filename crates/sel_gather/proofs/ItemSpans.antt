@@ -1,5 +1,5 @@
 -- The items of the lists of one column, by the start of each list and the ends of all.
-use Rattle.sel_gather.proofs.Common.{◌≡◌, ◌∙◌, ◌+◌, ◌-◌, ◌≤◌, ◌<◌, ◌∷◌, [], ◌++◌, All, Bor, ℕ, ℤ, List, Option, Some, None, true, not, nat_le, ◌&&◌, refl, ap, sym, subst, arith, length, map, pos, take, drop, get_or}
+use Rattle.sel_gather.proofs.Common.{common_steps, ◌≡◌, ◌∙◌, ◌+◌, ◌-◌, ◌≤◌, ◌<◌, ◌∷◌, [], ◌++◌, All, Bor, ℕ, ℤ, List, Option, Some, None, true, not, nat_le, ◌&&◌, refl, ap, sym, subst, arith, length, map, pos, take, drop, get_or}
 use Rattle.sel_gather.proofs.Common.{length-append, length-map-range_with_len, All-append, All-head, All-nil, All-tail, take_all, take_more, le-leb, leb-true, and_first, and_second, both, max_rows, type_of, IsWellFormed}
 use Rattle.sel_gather.proofs.Common.{Null, Value, Column, is_listing, items_in, joined_items, item_ends, item_picks, items_at, found, pick, PickFits, IsPicked, expand, picks_of, unrolled, Run}
 use Rattle.std.proofs.Common.{negsuc, of_z, rules, to_z, w64}
@@ -28,10 +28,7 @@ starts_more cs (q ∷ ps) (t ∷ starts) p s n are is = (are.0, starts_more cs p
 -- One more list.
 pub started_more : (cs : List (Bor Column)) (ps rest : List (Option (ℕ × ℕ))) (p : Option (ℕ × ℕ)) (k s n : ℕ) (old new : List ℕ) → drop k ps ≡ p ∷ rest → picks_of 0 s n ≡ item_picks cs 0 p →
     AreStarts cs (take k ps) old → new ≡ old ++ s ∷ [] → AreStarts cs (take (k + 1) ps) new
-started_more cs ps rest p k s n old new next is are pushed =
-    let more = starts_more cs (take k ps) old p s n are is in
-    let taken = take_more ps k None (next_below ps rest p k next) ∙ ap (λ q. take k ps ++ q ∷ []) (next_is ps rest p k next) in
-    subst (λ l. AreStarts cs l new) (sym taken) (subst (AreStarts cs (take k ps ++ p ∷ [])) (sym pushed) more)
+started_more cs ps rest p k s n old new next is are pushed = grind (arith, common_steps, starts_more, take_more, next_below, next_is)
 
 -- ---- ends
 
@@ -47,15 +44,7 @@ positive (pos n) is = refl
 positive (negsuc n) is = absurd (cc is)
 
 pub first_end : (at : ℕ) (end : ℤ) (ends : List ℤ) → are_ends at (end ∷ ends) ≡ true → FirstEnd at end ends
-first_end at end ends are =
-    let three = and_first (not (is_negative end) && nat_le at (magnitude end) && nat_le (magnitude end) max_rows) (are_ends (magnitude end) ends) are in
-    let two = and_first (not (is_negative end) && nat_le at (magnitude end)) (nat_le (magnitude end) max_rows) three in
-    record {
-      is = positive end (and_first (not (is_negative end)) (nat_le at (magnitude end)) two);
-      rises = leb-true at (magnitude end) (and_second (not (is_negative end)) (nat_le at (magnitude end)) two);
-      few = leb-true (magnitude end) max_rows (and_second (not (is_negative end) && nat_le at (magnitude end)) (nat_le (magnitude end) max_rows) three);
-      after = and_second (not (is_negative end) && nat_le at (magnitude end) && nat_le (magnitude end) max_rows) (are_ends (magnitude end) ends) are;
-    }
+first_end at end ends are = grind (arith, common_steps, and_first, nat_le, positive, leb-true, and_second)
 
 -- The ends of lists.
 pub ends_are : (rows : List Value) (at : ℕ) → at + length (joined_items 0 rows) ≤ max_rows → are_ends at (map pos (item_ends at rows)) ≡ true
@@ -113,9 +102,7 @@ shown end is few = to_z-of_z w64 end (search (rules, is, few))
 -- The end of the next list is not before the end so far.
 next_rises : (at : ℕ) (ends : List ℤ) (end : ℕ) → are_ends at ends ≡ true → 0 < length ends → pos end ≡ to_z w64 (of_z w64 (get_or ends 0 (pos 0))) → at ≤ end
 next_rises at [] end are more is = absurd (omega (arith, more))
-next_rises at (e ∷ ends) end are more is =
-    let first = first_end at e ends are in
-    omega (arith, first.rises, ap magnitude (sym (is ∙ shown e first.is first.few)))
+next_rises at (e ∷ ends) end are more is = grind (arith, common_steps, first_end, shown)
 
 -- Items are left, but none of the run before.
 module _ (first : Run) (starts : List ℕ) (at : ℕ) (ends : List ℤ) (all : List (Option (ℕ × ℕ))) (empty : first.len ≡ 0) (picks : unrolled first ++ expand (spans starts at ends) ≡ all) (some : 0 < length all) where

@@ -1,5 +1,5 @@
 -- Concatenated binary rows, and the column that is built from them.
-use Rattle.sel_gather.proofs.Common.{map-id, ◌≡◌, ℕ, suc, ◌+◌, ◌≤◌, ℤ, pos, List, [], ◌∷◌, ◌++◌, length, take, drop, map, Option, refl, ap, sym}
+use Rattle.sel_gather.proofs.Common.{common_steps, map-id, ◌≡◌, ℕ, suc, ◌+◌, ◌≤◌, ℤ, pos, List, [], ◌∷◌, ◌++◌, length, take, drop, map, Option, refl, ap, sym}
 use Rattle.sel_gather.proofs.Common.{◌∙◌, arith, get_or, length-append, append_assoc, if◌then◌else◌, take-append-drop, append-nil, map-append}
 use Rattle.sel_gather.proofs.Common.{flat_map-append, Bits, IsOffsets, IsRising, magnitudes, Value, Null, Bytes, validities, is_valid, hidden, pieces}
 use Rattle.sel_gather.proofs.Common.{pieces_after, byte_rows, rows_between, last_offset, length-pieces, Run, ends_from, IsBytesRow, bytes_of, joined_bytes}
@@ -43,19 +43,7 @@ pub grew_none : (j : Joined) → GrewBy [] j j
 grew_none j = record { ends = sym (append-nil j.ends.items); bytes = sym (append-nil j.bytes.items); bits = sym (append-nil j.validity) }
 
 pub grew_more : (a b : List Value) (s t u : Joined) → GrewBy a s t → GrewBy b t u → GrewBy (a ++ b) s u
-grew_more a b s t u first second =
-    let long = grew_length a s t first in
-    record {
-      ends = second.ends ∙ ap (λ l. l ++ map pos (ends_from (length t.bytes.items) b)) first.ends
-          ∙ ap (λ n. (s.ends.items ++ map pos (ends_from (length s.bytes.items) a)) ++ map pos (ends_from n b)) long
-          ∙ append_assoc s.ends.items (map pos (ends_from (length s.bytes.items) a)) (map pos (ends_from (length s.bytes.items + bytes_needed a) b))
-          ∙ ap (λ l. s.ends.items ++ l) (sym (map-append pos (ends_from (length s.bytes.items) a) (ends_from (length s.bytes.items + bytes_needed a) b)))
-          ∙ ap (λ l. s.ends.items ++ map pos l) (sym (ends-append (length s.bytes.items) a b));
-      bytes = second.bytes ∙ ap (λ l. l ++ joined_bytes b) first.bytes ∙ append_assoc s.bytes.items (joined_bytes a) (joined_bytes b)
-          ∙ ap (λ l. s.bytes.items ++ l) (sym (flat_map-append bytes_of a b));
-      bits = second.bits ∙ ap (λ l. l ++ validities b) first.bits ∙ append_assoc s.validity (validities a) (validities b)
-          ∙ ap (λ l. s.validity ++ l) (sym (map-append is_valid a b));
-    }
+grew_more a b s t u first second = grind (arith, common_steps, grew_length, append_assoc, map-append, ends-append, flat_map-append)
 
 -- ---- rows that are null or bytes
 
@@ -116,9 +104,7 @@ pub same_numbers : (ms ns : List ℕ) → map pos ms ≡ map pos ns → ms ≡ n
 same_numbers ms ns e = sym (magnitudes_of pos ms ms refl) ∙ magnitudes_of pos ms ns e
 
 pub offsets_of : {T : Type 0} (number : T → ℤ) → (xs : List T) (ns : List ℕ) → map number xs ≡ map pos ns → IsRising ns → IsOffsets number xs
-offsets_of number xs ns e rises =
-    let same : magnitudes number xs ≡ ns = magnitudes_of number xs ns e in
-    record { positive = rw same e; rising = rw same rises }
+offsets_of number xs ns e rises = grind (arith, common_steps, magnitudes_of)
 
 -- Offsets that represent the ends.
 pub ends_shown : {T : Type 0} (number : T → ℤ) → (xs : List T) (offsets : List ℕ) (rows : List Value) → map number xs ≡ map pos (0 ∷ ends_from 0 rows) → map number xs ≡ map pos offsets → offsets ≡ 0 ∷ ends_from 0 rows
@@ -130,8 +116,7 @@ map_same xs = map-id xs
 -- ---- rows that are appended to none
 
 pub all_ends : (rows : List Value) (s t : Joined) → s.ends.items ≡ pos 0 ∷ [] → s.bytes.items ≡ [] → GrewBy rows s t → map (λ (x : ℤ). x) t.ends.items ≡ map pos (0 ∷ ends_from 0 rows)
-all_ends rows s t e f grew =
-    map_same t.ends.items ∙ grew.ends ∙ ap (λ l. l ++ map pos (ends_from (length s.bytes.items) rows)) e ∙ ap (λ (l : List ℕ). pos 0 ∷ map pos (ends_from (length l) rows)) f
+all_ends rows s t e f grew = grind (arith, common_steps, map_same)
 
 pub all_bytes : (rows : List Value) (s t : Joined) → s.bytes.items ≡ [] → GrewBy rows s t → t.bytes.items ≡ joined_bytes rows
 all_bytes rows s t f grew = grew.bytes ∙ ap (λ l. l ++ joined_bytes rows) f

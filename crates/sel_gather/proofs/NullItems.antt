@@ -1,5 +1,5 @@
 -- Lists of nulls: their child rows are null.
-use Rattle.sel_gather.proofs.Common.{take, part_of, All-replicate, zero, suc, refl, ap, sym, ◌∙◌, ◌≡◌, All, Bor, ℕ, ◌<◌, true, List, [], ◌∷◌, length, drop}
+use Rattle.sel_gather.proofs.Common.{common_steps, take, part_of, All-replicate, zero, suc, refl, ap, sym, ◌∙◌, ◌≡◌, All, Bor, ℕ, ◌<◌, true, List, [], ◌∷◌, length, drop}
 use Rattle.sel_gather.proofs.Common.{replicate, Option, Some, None, subst, arith, get_or, All-append, All-take, All-drop, rows, type_of, well_formed}
 use Rattle.sel_gather.proofs.Common.{IsWellFormed, of_null, Value, Null, Column, NullColumn, child, is_listing, items_in, joined_items, found, pick, PickFits}
 use Rattle.sel_gather.proofs.Common.{get_or_default, length-map}
@@ -38,9 +38,7 @@ row_null c lists formed is w i h = by (part_of c i) (part_is c i lists formed h)
   where
     by : (o : Option (ℕ × ℕ)) → IsPart c i o → AreNull (items_in w (get_or (rows c) i Null))
     by None null = subst AreNull (sym (ap (items_in w) null)) (nulls_are w)
-    by (Some part) row =
-        let items = take part.1 (drop part.0 (rows (child c))) in
-        subst AreNull (sym (ap (items_in w) row.0 ∙ listed_values items)) (All-take (λ v. v ≡ Null) part.1 (drop part.0 (rows (child c))) (All-drop (λ v. v ≡ Null) part.0 (rows (child c)) (null_column (child c) is)))
+    by (Some part) row = grind (arith, common_steps, rows, listed_values, All-take, All-drop, null_column, is)
 
 module _ (w : ℕ) where
   module _ (cs : List (Bor Column)) (lists : All (λ c. is_listing (type_of c.now) ≡ true) cs) (formed : All (λ c. IsWellFormed c.now) cs) (is : All (λ c. type_of (child c.now) ≡ of_null) cs) where

@@ -1,5 +1,5 @@
 -- The row references of runs, one by one and as an iterator, and the bits at them.
-use Rattle.sel_gather.proofs.Common.{bit_found, rows, ◌≡◌, All, Bor, ℕ, zero, suc, ◌+◌, ◌-◌, ◌%◌, ◌^◌, ◌<◌, ◌≤◌, false, List, [], ◌∷◌, length, take, replicate}
+use Rattle.sel_gather.proofs.Common.{common_steps, bit_found, rows, ◌≡◌, All, Bor, ℕ, zero, suc, ◌+◌, ◌-◌, ◌%◌, ◌^◌, ◌<◌, ◌≤◌, false, List, [], ◌∷◌, length, take, replicate}
 use Rattle.sel_gather.proofs.Common.{get_or, Option, Some, None, refl, ap, sym, subst, ◌∙◌, arith, ForSome, drop_more, All-get_or, length-map-range_with_len}
 use Rattle.sel_gather.proofs.Common.{get_or-map-range_with_len, Bits, valid_at, IsWellFormed, Column, length-rows, MayGather, PickFits, HasBit, IsNear}
 use Rattle.sel_gather.proofs.Common.{bits_found, unrolled, unrolled_from, picks_of, part_bits, Run}
@@ -20,9 +20,7 @@ first_of (Some s) a = Some (s, a)
 pub next_pick : (o : Option ℕ) (a n : ℕ) → 0 < n → All IsNear (unrolled_from o a n) → unrolled_from o a n ≡ first_of o a ∷ unrolled_from o ((a + 1) % 2 ^ 32) (n - 1)
 next_pick o a zero some near = absurd (omega (arith, some))
 next_pick None a (suc n) some near = let less : n ≡ suc n - 1 = omega arith in ap (λ m. None ∷ replicate m None) less
-next_pick (Some s) a (suc n) some near =
-    let less : n ≡ suc n - 1 = omega arith in
-    first_pick s a ((a + 1) % 2 ^ 32) n near refl ∙ ap (λ m. Some (s, a) ∷ picks_of s ((a + 1) % 2 ^ 32) m) less
+next_pick (Some s) a (suc n) some near = grind (arith, common_steps, first_pick)
 
 -- The positions of rows are less than 2^32.
 pub near_at : (cs : List (Bor Column)) (s i : ℕ) → All (λ c. IsWellFormed c.now) cs → i < length (get_or (rows_of cs) s []) → i < 2 ^ 32

@@ -50,10 +50,7 @@ hidden_again {A} P f h back null (v ∷ vs) all =
     ap (λ x. x ∷ hidden (validities vs) (map f (map h vs))) (one (is_valid v) refl) ∙ ap (λ l. v ∷ l) rest
 
 pub only_null : (v : Value) → is_valid v ≡ false → v ≡ Null
-only_null v = elim v as (λ w. is_valid w ≡ false → w ≡ Null) [
-  | Null ↦ λ e. refl
-  | _ ↦ λ e. absurd (cc e)
-]
+only_null v = grind (arith, common_steps)
 
 -- ---- lists with offsets
 
@@ -67,11 +64,7 @@ pub ends_last : (vs : List Value) → last_offset (0 ∷ item_ends 0 vs) ≡ len
 ends_last vs = rw list_ends (ends_by_last (items_in 0) vs)
 
 list_back : (v : Value) → IsListed v → is_valid v ≡ true → list_of (items_in 0 v) ≡ v
-list_back v = elim v as (λ w. IsListed w → is_valid w ≡ true → list_of (items_in 0 w) ≡ w) [
-  | Null ↦ λ h e. absurd (cc e)
-  | Items values ↦ λ h e. ap Items (values_listed values)
-  | _ ↦ λ h e. absurd h
-]
+list_back v = grind (arith, common_steps, values_listed)
 
 -- A list column that is built from its rows has these rows.
 pub lists_rebuilt : (vs : List Value) (offsets : List ℕ) (child : List Value) (validity : Option Bits) (n : ℕ) → ((k : ℕ) → IsListed (get_or vs k Null)) → length vs ≡ n →
@@ -87,26 +80,12 @@ lists_rebuilt vs offsets child validity n all long ends below valid =
 -- The parts of the column fit together.
 pub lists_fit : (vs : List Value) (offsets : List ℕ) (values : Column) (validity : Option Bits) (n : ℕ) → length vs ≡ n → n ≤ max_rows →
     offsets ≡ 0 ∷ item_ends 0 vs → rows values ≡ joined_items 0 vs → Covers validity n → well_formed values ≡ true → HasLists offsets values validity
-lists_fit vs offsets values validity n long few ends below covered formed =
-    let count : rows_between offsets ≡ n = ap rows_between ends ∙ ends_between vs ∙ long in
-    let size : row_count values ≡ length (joined_items 0 vs) = sym (length-rows values) ∙ ap length below in
-    let last : last_offset offsets ≡ length (joined_items 0 vs) = ap last_offset ends ∙ ends_last vs in
-    record {
-      rising = subst IsRising (sym ends) (rising_ends vs);
-      few = omega (arith, count, few);
-      ends = omega (arith, size, last);
-      covered = subst (Covers validity) (sym count) covered;
-      child = formed;
-    }
+lists_fit vs offsets values validity n long few ends below covered formed = grind (arith, common_steps, ends_between, length-rows, ends_last, rising_ends)
 
 -- ---- fixed-size lists
 
 block_length : (w : ℕ) (v : Value) → IsBlock w v → length (items_in w v) ≡ w
-block_length w v = elim v as (λ x. IsBlock w x → length (items_in w x) ≡ w) [
-  | Null ↦ λ h. length-replicate w Null
-  | Items _ ↦ λ h. h
-  | _ ↦ λ h. absurd h
-]
+block_length w v = grind (arith, common_steps, length-replicate)
 
 pub blocks_length : (w : ℕ) (vs : List Value) → ((k : ℕ) → IsBlock w (get_or vs k Null)) → length (joined_items w vs) ≡ length vs * w
 blocks_length w [] all = omega arith
@@ -144,11 +123,7 @@ blocks_of w n vs all long =
     ∙ ap (λ m. take m (drop (k * w) xs)) width ∙ block_at w vs k all (omega (arith, below, long)) ∙ sym (get_or-map (items_in w) vs k Null [] (omega (arith, below, long))))
 
 block_back : (w : ℕ) (v : Value) → IsBlock w v → is_valid v ≡ true → list_of (items_in w v) ≡ v
-block_back w v = elim v as (λ x. IsBlock w x → is_valid x ≡ true → list_of (items_in w x) ≡ x) [
-  | Null ↦ λ h e. absurd (cc e)
-  | Items values ↦ λ h e. ap Items (values_listed values)
-  | _ ↦ λ h e. absurd h
-]
+block_back w v = grind (arith, common_steps, values_listed)
 
 -- A fixed-size list column that is built from its rows has these rows.
 pub blocks_rebuilt : (w : ℕ) (vs : List Value) (child : List Value) (validity : Option Bits) (n : ℕ) → ((k : ℕ) → IsBlock w (get_or vs k Null)) → length vs ≡ n →
@@ -161,15 +136,7 @@ blocks_rebuilt w vs child validity n all long below valid =
 
 pub blocks_fit : (w : ℕ) (vs : List Value) (values : Column) (validity : Option Bits) (n : ℕ) → ((k : ℕ) → IsBlock w (get_or vs k Null)) → length vs ≡ n → n ≤ max_rows → w ≤ max_rows →
     rows values ≡ joined_items w vs → Covers validity n → well_formed values ≡ true → HasBlocks w n values validity
-blocks_fit w vs values validity n all long few narrow below covered formed =
-    let size : row_count values ≡ length (joined_items w vs) = sym (length-rows values) ∙ ap length below in
-    record {
-      few = few;
-      narrow = narrow;
-      fills = size ∙ blocks_length w vs all ∙ ap (λ m. m * w) long;
-      covered = covered;
-      child = formed;
-    }
+blocks_fit w vs values validity n all long few narrow below covered formed = grind (arith, common_steps, length-rows, blocks_length)
 
 -- ---- struct rows
 

@@ -1,5 +1,5 @@
 -- Runs, their row references, and the rows that these refer to.
-use Rattle.sel_gather.proofs.Common.{◌≡◌, ◌-◌, All, subst, ℕ, ◌<◌, ◌≤◌, ◌+◌, List, [], ◌∷◌, ◌++◌, map, length, replicate, get_or, take, drop, refl, sym, ap}
+use Rattle.sel_gather.proofs.Common.{common_steps, ◌≡◌, ◌-◌, All, subst, ℕ, ◌<◌, ◌≤◌, ◌+◌, List, [], ◌∷◌, ◌++◌, map, length, replicate, get_or, take, drop, refl, sym, ap}
 use Rattle.sel_gather.proofs.Common.{◌∙◌, arith, append_assoc, length-append, slice_set, Option, Some, None, is_none, false, suc, zero, zero-add, length-map}
 use Rattle.sel_gather.proofs.Common.{take-append-le, drop-append-le, take_all, drop_all, take_more, drop_more, take-append-drop, replicate-append-replicate}
 use Rattle.sel_gather.proofs.Common.{map-append, length-replicate, append-nil, length-map-range_with_len, get_or-map-range_with_len, All-append, All-drop}
@@ -27,9 +27,7 @@ pub length-unrolled : (r : Run) → length (unrolled r) ≡ r.len
 length-unrolled r = length-unrolled_from r.source r.start r.len
 
 range-append : (n m a b : ℕ) → a + n ≡ b → range_with_len a (n + m) ≡ range_with_len a n ++ range_with_len b m
-range-append zero m a b e =
-    let same : a ≡ b = omega (arith, e) in
-    rw (zero-add m, same) refl
+range-append zero m a b e = grind (arith, common_steps, zero-add)
 range-append (suc n) m a b e =
     let more : suc n + m ≡ suc (n + m) = omega arith in
     let next : (a + 1) + n ≡ b = omega (arith, e) in
@@ -55,21 +53,15 @@ joined_rows r s a b e f same next = rw (e, f, ← same) (picks_of-append a r.sta
 -- The last run is replaced by one that also contains the next run.
 pub last_joined : (rs : List Run) (i : ℕ) (last both run : Run) → i + 1 ≡ length rs → last ≡ get_or rs i last → unrolled both ≡ unrolled last ++ unrolled run → expand (slice_set rs i both) ≡ expand rs ++ unrolled run
 last_joined [] i last both run end is joined = absurd (omega (arith, end))
-last_joined (r ∷ []) zero last both run end is joined =
-    append-nil (unrolled both) ∙ joined ∙ ap (λ l. unrolled l ++ unrolled run) is ∙ ap (λ l. l ++ unrolled run) (sym (append-nil (unrolled r)))
+last_joined (r ∷ []) zero last both run end is joined = grind (arith, common_steps, append-nil)
 last_joined (r ∷ []) (suc i) last both run end is joined = absurd (omega (arith, end))
 last_joined (r ∷ s ∷ rs) zero last both run end is joined = absurd (omega (arith, end))
-last_joined (r ∷ s ∷ rs) (suc i) last both run end is joined =
-    ap (λ l. unrolled r ++ l) (last_joined (s ∷ rs) i last both run (omega (arith, end)) is joined) ∙ sym (append_assoc (unrolled r) (expand (s ∷ rs)) (unrolled run))
+last_joined (r ∷ s ∷ rs) (suc i) last both run end is joined = grind (arith, common_steps, append_assoc, (last_joined (s ∷ rs) i last both run (omega (arith, end)) is joined))
 
 pub one_len : (rs : List Run) (i : ℕ) (run : Run) → i < length rs → run ≡ get_or rs i run → run.len ≤ length (expand rs)
 one_len [] i run inside is = absurd (omega (arith, inside))
-one_len (r ∷ rs) zero run inside is =
-    let same = ap (λ (x : Run). x.len) is in
-    omega (arith, same, length-unrolled r, length-append (unrolled r) (expand rs))
-one_len (r ∷ rs) (suc i) run inside is =
-    let rest = one_len rs i run (omega (arith, inside)) is in
-    omega (arith, rest, length-append (unrolled r) (expand rs))
+one_len (r ∷ rs) zero run inside is = grind (arith, common_steps, length-unrolled, length-append)
+one_len (r ∷ rs) (suc i) run inside is = grind (arith, common_steps, length-append, (one_len rs i run (omega (arith, inside)) is))
 
 -- An empty run.
 pub none_unrolled : (r : Run) → r.len ≡ 0 → unrolled r ≡ []
@@ -120,8 +112,7 @@ room_at rs i inside =
     omega (arith, e, f, length-unrolled (run_at rs i))
 
 pub length_more : (rs : List Run) (i : ℕ) → i < length rs → length (expand (take (i + 1) rs)) ≡ length (expand (take i rs)) + (run_at rs i).len
-length_more rs i inside =
-    ap length (expand_more rs i inside) ∙ length-append (expand (take i rs)) (unrolled (run_at rs i)) ∙ ap (λ n. length (expand (take i rs)) + n) (length-unrolled (run_at rs i))
+length_more rs i inside = grind (arith, common_steps, expand_more, length-append, length-unrolled)
 
 pub All-left : {A : Type 0} (P : A → Type 0) (xs ys : List A) → All P (xs ++ ys) → All P xs
 All-left P xs ys h = subst (All P) (take-append-le (length xs) xs ys (omega arith) ∙ take_all (length xs) xs (omega arith)) (All-take P (length xs) (xs ++ ys) h)
@@ -186,19 +177,14 @@ picked_run (Some s) a n named = picked_rows s a n
 
 pub named_picked : (rs : List Run) → All (λ r. is_none r.source ≡ false) rs → All IsPicked (expand rs)
 named_picked [] named = All-nil IsPicked
-named_picked (r ∷ rs) named =
-    let here = picked_run r.source r.start r.len (All-head (λ r. is_none r.source ≡ false) r rs named) in
-    let rest = named_picked rs (All-tail (λ r. is_none r.source ≡ false) r rs named) in
-    All-append IsPicked (unrolled r) (expand rs) here rest
+named_picked (r ∷ rs) named = grind (arith, common_steps, picked_run, All-head, is_none, All-tail, All-append, (named_picked rs (All-tail (λ r. is_none r.source ≡ false) r rs named)))
 
 -- ---- a run and the row references after it
 
 -- The run with the next row reference, which continues it.
 pub run_extended : (all both one : Run) (ps : List (Option (ℕ × ℕ))) (at : ℕ) (p : Option (ℕ × ℕ)) → at < length ps → p ≡ get_or ps at None → unrolled one ≡ p ∷ [] → unrolled both ≡ unrolled all ++ unrolled one →
     unrolled all ++ drop at ps ≡ unrolled both ++ drop (at + 1) ps
-run_extended all both one ps at p h is of_one joined =
-    ap (λ l. unrolled all ++ l) (drop_more ps at None h) ∙ ap (λ q. unrolled all ++ (q ∷ drop (at + 1) ps)) (sym is)
-    ∙ ap (λ l. unrolled all ++ (l ++ drop (at + 1) ps)) (sym of_one) ∙ sym (append_assoc (unrolled all) (unrolled one) (drop (at + 1) ps)) ∙ ap (λ l. l ++ drop (at + 1) ps) (sym joined)
+run_extended all both one ps at p h is of_one joined = grind (arith, common_steps, drop_more, append_assoc)
 
 pub length-extended : (all both one : Run) → unrolled both ≡ unrolled all ++ unrolled one → both.len ≡ all.len + one.len
 length-extended all both one joined =

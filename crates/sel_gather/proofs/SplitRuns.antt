@@ -1,5 +1,5 @@
 -- Validity bits of gathered rows, and row references to null rows.
-use Rattle.sel_gather.proofs.Common.{◌≡◌, ◌≢◌, All, Bor, ℕ, zero, suc, ◌+◌, ◌≤◌, ◌<◌, Bool, true, false, List, [], ◌∷◌, ◌++◌, length, map, replicate, Option, Some}
+use Rattle.sel_gather.proofs.Common.{common_steps, ◌≡◌, ◌≢◌, All, Bor, ℕ, zero, suc, ◌+◌, ◌≤◌, ◌<◌, Bool, true, false, List, [], ◌∷◌, ◌++◌, length, map, replicate, Option, Some}
 use Rattle.sel_gather.proofs.Common.{None, refl, ap, sym, ◌∙◌, arith, get_or, if◌then◌else◌, length-map, get_or-map, Bits, IsValidityOf, rows, Shape, of_null}
 use Rattle.sel_gather.proofs.Common.{Value, Null, is_valid, validities, Column, cleared, kept_by, found, pick, PickFits, unrolled, picks_of, Run, subst}
 use Rattle.sel_gather.proofs.Common.{All-get_or, get_or-replicate, type_of}
@@ -10,16 +10,12 @@ use Rattle.sel_gather.proofs.{Gathers.map-replicate, KeptBlocks.all_kept, ItemRu
 pub told_length : (s : Shape) (v : Option Bits) (vs : List Value) → s ≢ of_null → IsValidityOf s v vs → (b : Bits) → v ≡ Some b → length b.bits ≡ length vs
 told_length of_null v vs other tells b is = absurd (other refl)
 told_length s None vs other tells b is = absurd cc
-told_length s (Some x) vs other tells b is =
-    let same : x ≡ b = cc in
-    rw (← same, ← tells) (length-map vs is_valid)
+told_length s (Some x) vs other tells b is = grind (arith, common_steps, length-map)
 
 pub told_bits : (s : Shape) (v : Option Bits) (vs : List Value) → s ≢ of_null → IsValidityOf s v vs → (b : Bits) → v ≡ Some b → validities vs ≡ b.bits
 told_bits of_null v vs other tells b is = absurd (other refl)
 told_bits s None vs other tells b is = absurd cc
-told_bits s (Some x) vs other tells b is =
-    let same : x ≡ b = cc in
-    rw (← same) tells
+told_bits s (Some x) vs other tells b is = grind (arith, common_steps)
 
 pub told_valid : (s : Shape) (v : Option Bits) (vs : List Value) → s ≢ of_null → IsValidityOf s v vs → v ≡ None → validities vs ≡ replicate (length vs) true
 told_valid of_null v vs other tells is = absurd (other refl)
@@ -53,16 +49,11 @@ module _ (cs : List (Bor Column)) (r : Run) (s : ℕ) (c : Bor Column) (is : r.s
   found_at k = ap (λ l. get_or l k Null) at_source
 
   kept_is : (bits : List Bool) → validities (rows c.now) ≡ bits → (k : ℕ) → kept_by bits (Some (s, k)) ≡ cleared (rows_of cs) (Some (s, k))
-  kept_is bits tells k =
-      let valid : get_or bits k false ≡ is_valid (get_or (rows c.now) k Null) = ap (λ l. get_or l k false) (sym tells) ∙ bit_at (rows c.now) k in
-      ap (λ (b : Bool). let p : Option (ℕ × ℕ) = if b then Some (s, k) else None in p) (valid ∙ ap is_valid (sym (found_at k)))
+  kept_is bits tells k = grind (arith, common_steps, rows, bit_at, found_at)
 
   kept_picks : (bits : List Bool) → validities (rows c.now) ≡ bits → (a n : ℕ) → map (kept_by bits) (picks_of s a n) ≡ map (cleared (rows_of cs)) (picks_of s a n)
   kept_picks bits tells a zero = refl
-  kept_picks bits tells a (suc n) =
-      let here = kept_is bits tells a in
-      let rest = kept_picks bits tells (a + 1) n in
-      ap (λ x. x ∷ map (kept_by bits) (picks_of s (a + 1) n)) here ∙ ap (λ l. cleared (rows_of cs) (Some (s, a)) ∷ l) rest
+  kept_picks bits tells a (suc n) = grind (arith, common_steps, kept_is, (kept_picks bits tells (a + 1) n))
 
   kept_bits : (bits : List Bool) → validities (rows c.now) ≡ bits → map (kept_by bits) (unrolled r) ≡ map (cleared (rows_of cs)) (unrolled r)
   kept_bits bits tells = rw is (kept_picks bits tells r.start r.len)

@@ -1,6 +1,6 @@
 -- Rows of a column, some of them dropped and some replaced by null. They exceed no limit, since the
 -- column does not.
-use Rattle.sel_gather.proofs.Common.{◌≡◌, ◌⊎◌, inl, inr, ℕ, zero, suc, ◌+◌, ◌-◌, ◌*◌, ◌≤◌, ◌<◌, pos, Bool, true, false, ◌&&◌, ◌==◌, List, [], ◌∷◌, ◌++◌, length}
+use Rattle.sel_gather.proofs.Common.{common_steps, ◌≡◌, ◌⊎◌, inl, inr, ℕ, zero, suc, ◌+◌, ◌-◌, ◌*◌, ◌≤◌, ◌<◌, pos, Bool, true, false, ◌&&◌, ◌==◌, List, [], ◌∷◌, ◌++◌, length}
 use Rattle.sel_gather.proofs.Common.{take, drop, map, replicate, Option, Some, None, refl, ap, sym, subst, ◌∙◌, arith, get_or, length-take, range_with_len}
 use Rattle.sel_gather.proofs.Common.{slice_range, ints, drop-drop, get_or-map, length-drop, length-map, fill_by_all, max_rows, Bits, IsRising, Limit, RowLimit}
 use Rattle.sel_gather.proofs.Common.{ByteLimit, PolarsError, OutOfMemory, SizeLimit, ComputeError, hidden, masked, list_of, list_rows, blocks, block_rows}
@@ -99,9 +99,7 @@ nulled (suc n) ms [] h = absurd (omega (arith, h))
 nulled (suc n) ms (v ∷ vs) h = ap (λ l. Null ∷ l) (nulled n ms vs (omega (arith, h)))
 
 further : (a b : ℕ) (vs : List Value) → a ≤ b → drop b vs ≡ drop (b - a) (drop a vs)
-further a b vs h =
-    let same : b ≡ a + (b - a) = omega (arith, h) in
-    ap (λ n. drop n vs) same ∙ sym (drop-drop (b - a) a vs)
+further a b vs h = grind (arith, common_steps, drop-drop)
 
 -- ---- lists with offsets
 
@@ -162,13 +160,8 @@ entry_drawn : (w k n : ℕ) (below : List Value) (ms : List Mark) (m : Mark) →
     joined_items w (draw ms (map list_of (map (block_at w below) (range_with_len (k + 1) n)))) ≡ draw (entry_marks w n ms) (drop w (drop (k * w) below)) →
     joined_items w (draw (m ∷ ms) (map list_of (map (block_at w below) (range_with_len k (suc n))))) ≡ draw (entry_marks w (suc n) (m ∷ ms)) (drop (k * w) below)
 entry_drawn w k n below ms skip room rest = rest ∙ sym (skipped w (entry_marks w n ms) (drop (k * w) below))
-entry_drawn w k n below ms hide room rest =
-    let inside : w ≤ length (drop (k * w) below) = omega (arith, length-drop (k * w) below, room) in
-    ap (λ l. replicate w Null ++ l) rest ∙ sym (nulled w (entry_marks w n ms) (drop (k * w) below) inside)
-entry_drawn w k n below ms keep room rest =
-    let width : (k * w + w) - k * w ≡ w = omega arith in
-    ap (λ l. l ++ joined_items w (draw ms (map list_of (map (block_at w below) (range_with_len (k + 1) n))))) (listed_values (block_at w below k) ∙ ap (λ i. take i (drop (k * w) below)) width)
-    ∙ ap (λ l. take w (drop (k * w) below) ++ l) rest ∙ sym (kept w (entry_marks w n ms) (drop (k * w) below))
+entry_drawn w k n below ms hide room rest = grind (arith, common_steps, length-drop, nulled)
+entry_drawn w k n below ms keep room rest = grind (arith, common_steps, listed_values, kept)
 
 entries_drawn : (w k n : ℕ) (below : List Value) (ms : List Mark) → k * w + n * w ≤ length below →
     joined_items w (draw ms (map list_of (map (block_at w below) (range_with_len k n)))) ≡ draw (entry_marks w n ms) (drop (k * w) below)
@@ -191,9 +184,7 @@ blocks_drawn w n below validity ms fills =
 
 parts_found : (fs : List (List Value)) (j k n : ℕ) → j < length fs → map (part_at j) (map (struct_at fs) (range_with_len k n)) ≡ map (λ i. get_or (get_or fs j []) i Null) (range_with_len k n)
 parts_found fs j k zero h = refl
-parts_found fs j k (suc n) h =
-    ap (λ x. x ∷ map (part_at j) (map (struct_at fs) (range_with_len (k + 1) n))) (part_found fs j k h)
-    ∙ ap (λ l. get_or (get_or fs j []) k Null ∷ l) (parts_found fs j (k + 1) n h)
+parts_found fs j k (suc n) h = grind (arith, common_steps, part_found, (parts_found fs j (k + 1) n h))
 
 -- The values j of the struct rows are the rows of field j.
 part_rows : (n : _) (row : Row_of-Column n) (len j : ℕ) (c : Column) → all_well_formed len row ≡ true → j < length (columns_in row) →
@@ -241,8 +232,7 @@ few_items n _ few h = h
 -- The remaining rows of a child exceed no limit.
 below_fits : (c : Column) (ms : List Mark) (items : List Value) (limit : Limit) → well_formed c ≡ true → items ≡ draw ms (rows c) → (exceeded_limits (type_of c) (draw ms (rows c)) limit → ⊥) →
     ExceedsRows (length items) limit ⊎ exceeded_limits (type_of c) items limit → ⊥
-below_fits c ms items limit formed is deeper (inl h) =
-    few_items (length items) limit (omega (arith, ap length is, drawn_few ms (rows c), length-rows c, few_rows c formed)) h
+below_fits c ms items limit formed is deeper (inl h) = grind (arith, common_steps, few_items, drawn_few, rows, length-rows, few_rows)
 below_fits c ms items limit formed is deeper (inr h) = deeper (subst (λ l. exceeded_limits (type_of c) l limit) is h)
 
 mutual

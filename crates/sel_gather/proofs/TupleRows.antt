@@ -1,5 +1,5 @@
 -- The values of struct rows are rows of the fields.
-use Rattle.sel_gather.proofs.Common.{All-map, ◌≡◌, All, Bor, ℕ, zero, suc, ◌<◌, Bool, true, false, ◌&&◌, ◌==◌, List, [], ◌∷◌, length, map, Option, Some, None}
+use Rattle.sel_gather.proofs.Common.{common_steps, All-map, ◌≡◌, All, Bor, ℕ, zero, suc, ◌<◌, Bool, true, false, ◌&&◌, ◌==◌, List, [], ◌∷◌, length, map, Option, Some, None}
 use Rattle.sel_gather.proofs.Common.{refl, ap, sym, ◌∙◌, arith, get_or, if◌then◌else◌, range_with_len, length-map, get_or-map, length-map-range_with_len}
 use Rattle.sel_gather.proofs.Common.{get_or-map-range_with_len, Bits, hidden, masked, struct_at, rows, rows_of_each, row_count, type_of, types_of_each}
 use Rattle.sel_gather.proofs.Common.{well_formed, all_well_formed, IsField, IsWellFormed, Shape, Shapes, of_struct, shape_list, Value, Null, is_valid, Column}
@@ -25,17 +25,11 @@ type_in n (more_of-Column x rest) (suc j) c d h = type_in _ rest j c d (omega ar
 
 pub formed_in : (n : _) (row : Row_of-Column n) (len j : ℕ) (c : Column) → all_well_formed len row ≡ true → j < length (columns_in row) → IsField len (get_or (columns_in row) j c)
 formed_in n end_of-Column len j c all h = absurd (omega (arith, h))
-formed_in n (more_of-Column x rest) len zero c all h =
-    let two = and_first ((row_count x == len) && well_formed x) (all_well_formed len rest) all in
-    let same : row_count x ≡ len = let e = and_first (row_count x == len) (well_formed x) two in grind (arith, nat_tests, e) in
-    (same, and_second (row_count x == len) (well_formed x) two)
+formed_in n (more_of-Column x rest) len zero c all h = grind (arith, common_steps, and_first, and_second)
 formed_in n (more_of-Column x rest) len (suc j) c all h = formed_in _ rest len j c (and_second ((row_count x == len) && well_formed x) (all_well_formed len rest) all) (omega arith)
 
 pub field_type : (c : Column) (ss : Shapes) (j : ℕ) (d : Shape) → type_of c ≡ of_struct ss → j < length (shape_list ss) → type_of (field j c) ≡ get_or (shape_list ss) j d
-field_type (Struct' len n fields validity) ss j d is h =
-    let same : types_of_each fields ≡ ss = cc is in
-    let inside : j < length (columns_in fields) = omega (arith, h, count_in _ fields, ap (λ l. length (shape_list l)) same) in
-    type_in _ fields j (Struct' len n fields validity) d inside ∙ ap (λ l. get_or (shape_list l) j d) same
+field_type (Struct' len n fields validity) ss j d is h = grind (arith, common_steps, count_in, type_in)
 field_type c ss j d is h = absurd (cc is)
 
 pub field_formed : (c : Column) (ss : Shapes) (j : ℕ) → type_of c ≡ of_struct ss → well_formed c ≡ true → j < length (shape_list ss) → IsField (row_count c) (field j c)
@@ -109,8 +103,7 @@ module _ (ss : Shapes) (j : ℕ) (h : j < length (shape_list ss)) where
   -- The values of gathered struct rows are gathered from the fields.
   pub picked_parts : (cs : List (Bor Column)) → All (λ c. type_of c.now ≡ of_struct ss) cs → (ps : List (Option (ℕ × ℕ))) → pick Null (field_rows j cs) (map (cleared (rows_of cs)) ps) ≡ map (part_at j) (pick Null (rows_of cs) ps)
   picked_parts cs types [] = refl
-  picked_parts cs types (p ∷ ps) =
-      ap (λ x. x ∷ pick Null (field_rows j cs) (map (cleared (rows_of cs)) ps)) (found_part cs types p) ∙ ap (λ l. part_at j (found Null (rows_of cs) p) ∷ l) (picked_parts cs types ps)
+  picked_parts cs types (p ∷ ps) = grind (arith, common_steps, found_part, (picked_parts cs types ps))
 
   field_length : (cs : List (Bor Column)) (s i : ℕ) → All (λ c. type_of c.now ≡ of_struct ss) cs → All (λ c. IsWellFormed c.now) cs → i < length (get_or (rows_of cs) s []) → i < length (get_or (field_rows j cs) s [])
   field_length [] s i types formed below = absurd (omega (arith, below))

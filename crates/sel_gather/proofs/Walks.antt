@@ -1,5 +1,5 @@
 -- Gathered lists that are read once.
-use Rattle.sel_gather.proofs.Common.{take-map, ◌≡◌, ◌≢◌, All, Bor, ℤ, pos, ℕ, zero, suc, ◌+◌, ◌≤◌, ◌<◌, true, false, List, [], ◌∷◌, ◌++◌, length, take, drop}
+use Rattle.sel_gather.proofs.Common.{common_steps, take-map, ◌≡◌, ◌≢◌, All, Bor, ℤ, pos, ℕ, zero, suc, ◌+◌, ◌≤◌, ◌<◌, true, false, List, [], ◌∷◌, ◌++◌, length, take, drop}
 use Rattle.sel_gather.proofs.Common.{map, get_or, Option, Some, None, refl, ap, sym, subst, ◌∙◌, arith, length-append, ForSome, Result, take-add, get_or-map}
 use Rattle.sel_gather.proofs.Common.{map-append, take-append-le, drop-append-le, take_all, drop_all, length-drop, get_or-replicate, Bits, max_rows, Limit}
 use Rattle.sel_gather.proofs.Common.{RowLimit, PolarsError, valid_at, IsValidityOf, rows, type_of, IsWellFormed, Shape, of_null, of_fixed_size_list}
@@ -14,16 +14,10 @@ use Rattle.sel_gather.proofs.{SplitRuns.told_valid}
 
 module _ (ps left rest : List (Option (ℕ × ℕ))) (run : Run) (at : ℕ) (behind : left ≡ drop at ps) (next : left ≡ unrolled run ++ rest) where
   first_picks : take run.len left ≡ unrolled run
-  first_picks =
-      let long = length-unrolled run in
-      ap (take run.len) next ∙ ap (λ n. take n (unrolled run ++ rest)) (sym long)
-      ∙ take-append-le (length (unrolled run)) (unrolled run) rest (omega arith) ∙ take_all (length (unrolled run)) (unrolled run) (omega arith)
+  first_picks = grind (arith, common_steps, length-unrolled, take-append-le, take_all)
 
   other_picks : rest ≡ drop run.len left
-  other_picks =
-      let long = length-unrolled run in
-      sym (ap (drop run.len) next ∙ ap (λ n. drop n (unrolled run ++ rest)) (sym long)
-      ∙ drop-append-le (length (unrolled run)) (unrolled run) rest (omega arith) ∙ ap (λ l. l ++ rest) (drop_all (length (unrolled run)) (unrolled run) (omega arith)))
+  other_picks = grind (arith, common_steps, length-unrolled, drop-append-le, drop_all)
 
   pub run_behind : rest ≡ drop (at + run.len) ps
   run_behind = left_behind ps left rest at run.len behind other_picks
@@ -50,17 +44,11 @@ pub items_behind : (w : ℕ) (now before more : List Value) → now ≡ before +
 items_behind w now before more is = ap (joined_items w) is ∙ joined-append w before more
 
 pub counts_behind : (w : ℕ) (now before more : List Value) (old new : ℕ) → now ≡ before ++ more → old ≡ length (joined_items w before) → new ≡ old + length (joined_items w more) → new ≡ length (joined_items w now)
-counts_behind w now before more old new is e f =
-    let split = ap length (items_behind w now before more is) ∙ length-append (joined_items w before) (joined_items w more) in
-    omega (arith, split, e, f)
+counts_behind w now before more old new is e f = grind (arith, common_steps, items_behind, length-append)
 
 pub ends_behind : (now before more : List Value) (end : ℕ) (old new : List ℤ) → now ≡ before ++ more → end ≡ length (joined_items 0 before) → old ≡ map pos (0 ∷ item_ends 0 before) →
     new ≡ old ++ map pos (item_ends end more) → new ≡ map pos (0 ∷ item_ends 0 now)
-ends_behind now before more end old new is e f g =
-    let split = ap (item_ends 0) is ∙ ends-append 0 before more in
-    let there : end ≡ 0 + length (joined_items 0 before) = omega (arith, e) in
-    g ∙ ap (λ l. l ++ map pos (item_ends end more)) f ∙ ap (λ n. (pos 0 ∷ map pos (item_ends 0 before)) ++ map pos (item_ends n more)) there
-    ∙ ap (λ l. pos 0 ∷ l) (sym (map-append pos (item_ends 0 before) (item_ends (0 + length (joined_items 0 before)) more)) ∙ ap (map pos) (sym split))
+ends_behind now before more end old new is e f g = grind (arith, common_steps, ends-append, map-append)
 
 -- A prefix of the lists has at most as many child rows as all lists.
 pub joined_first : (w : ℕ) (xss : List (List Value)) (ps : List (Option (ℕ × ℕ))) (k : ℕ) → length (joined_items w (pick Null xss (take k ps))) ≤ length (joined_items w (pick Null xss ps))
@@ -75,8 +63,7 @@ past_more m n le _ h = h
 pub told_row : (s : Shape) (v : Option Bits) (vs : List Value) (i : ℕ) → s ≢ of_null → IsValidityOf s v vs → i < length vs → valid_at v i ≡ is_valid (get_or vs i Null)
 told_row s None vs i other tells h =
     sym (get_or-replicate (length vs) i true false h) ∙ ap (λ l. get_or l i false) (sym (told_valid s None vs other tells refl)) ∙ get_or-map is_valid vs i Null false h
-told_row s (Some b) vs i other tells h =
-    ap (λ l. get_or l i false) (sym (told_bits s (Some b) vs other tells b refl)) ∙ get_or-map is_valid vs i Null false h
+told_row s (Some b) vs i other tells h = grind (arith, common_steps, told_bits, get_or-map)
 
 told_at : (vs : List (Option Bits)) (cs : List (Bor Column)) (s i : ℕ) → AreValidities vs (columns_of cs) → All (λ c. type_of c.now ≢ of_null) cs → i < length (get_or (rows_of cs) s []) →
     (valid_at (get_or vs s None) i ≡ is_valid (get_or (get_or (rows_of cs) s []) i Null)) × (s < length vs) × ForSome (get_or vs s None) (λ b. i < length b.bits)
@@ -127,8 +114,7 @@ one_told (x ∷ y ∷ cs) c v some one is told = absurd (omega (arith, one))
 pub two_told : (cs : List (Bor Column)) (c d : Bor Column) (v w : Option Bits) → 2 ≤ length cs → length cs < 3 → c ≡ get_or cs 0 c → d ≡ get_or cs 1 d → IsValidityOf (type_of c.now) v (rows c.now) → IsValidityOf (type_of d.now) w (rows d.now) → AreValidities (v ∷ w ∷ []) (columns_of cs)
 two_told [] c d v w some two is other told more = absurd (omega (arith, some))
 two_told (x ∷ []) c d v w some two is other told more = absurd (omega (arith, some))
-two_told (x ∷ y ∷ []) c d v w some two is other told more =
-    (subst (λ (z : Bor Column). IsValidityOf (type_of z.now) v (rows z.now)) is told, (subst (λ (z : Bor Column). IsValidityOf (type_of z.now) w (rows z.now)) other more, tt))
+two_told (x ∷ y ∷ []) c d v w some two is other told more = grind (arith, common_steps, rows)
 two_told (x ∷ y ∷ z ∷ cs) c d v w some two is other told more = absurd (omega (arith, two))
 
 -- Sources without a validity.
