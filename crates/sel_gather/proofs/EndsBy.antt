@@ -1,6 +1,6 @@
 -- The ends of concatenated parts: those of lists, and those of bytes.
 use Rattle.sel_gather.proofs.Common.{◌≡◌, ℕ, zero, suc, ◌+◌, ◌≤◌, ◌<◌, List, [], ◌∷◌, ◌++◌, length, map, refl, ap, arith, get_or, length-append, append_assoc}
-use Rattle.sel_gather.proofs.Common.{flat_map, slice_range, common_steps, IsRising, Value, Bytes, rows_between, last_offset, pieces_after, items_in, item_ends}
+use Rattle.sel_gather.proofs.Common.{flat_map, common_steps, IsRising, Value, Bytes, rows_between, last_offset, pieces_after, items_in, item_ends}
 use Rattle.sel_gather.proofs.Common.{byte_count, bytes_of, ends_from}
 
 module _ {A : Type 0} (part : Value → List A) where

@@ -2,7 +2,7 @@
 use Rattle.sel_gather.proofs.Common.{common_steps, All-map, ◌≡◌, ℕ, ◌+◌, ◌*◌, ◌%◌, ◌^◌, ◌≤◌, ◌<◌, All, Bool, true, false, List, [], ◌∷◌, ◌++◌, length, take, drop, map}
 use Rattle.sel_gather.proofs.Common.{replicate, get_or, Option, Some, None, zero, suc, refl, ap, sym, subst, ◌∙◌, arith, append_assoc, take-add, length-map}
 use Rattle.sel_gather.proofs.Common.{get_or-map, take_more, map_push, map-append, get_or-take, get_or-drop, drop-map, drop-drop, length-drop, All-get_or}
-use Rattle.sel_gather.proofs.Common.{All-head, All-tail, All-drop, Bits, bits, word_of, valid_at, found, pick, bit_found, bits_found, IsPicked}
+use Rattle.sel_gather.proofs.Common.{All-head, All-tail, All-drop, Bits, bits, word_of, found, pick, bit_found, bits_found, IsPicked}
 use Rattle.std.specs.Int.{from_bool}
 use Rattle.std.proofs.lemmas.List.{length-take}
 use Rattle.sel_bits.proofs.Combining.{packed_more}

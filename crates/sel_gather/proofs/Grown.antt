@@ -1,5 +1,5 @@
 -- Rows under a validity, to which parts of other rows are appended.
-use Rattle.sel_gather.proofs.Common.{common_steps, found, ◌≡◌, ℕ, zero, suc, ◌+◌, ◌≤◌, ◌<◌, get_or, Bool, true, false, List, [], ◌∷◌, ◌++◌, length, take, drop, map}
+use Rattle.sel_gather.proofs.Common.{common_steps, ◌≡◌, ℕ, zero, suc, ◌+◌, ◌≤◌, ◌<◌, get_or, Bool, true, false, List, [], ◌∷◌, ◌++◌, length, take, drop, map}
 use Rattle.sel_gather.proofs.Common.{replicate, Option, Some, None, refl, ap, sym, ◌∙◌, arith, length-append, map-append, get_or-map, length-map}
 use Rattle.sel_gather.proofs.Common.{length-replicate, Bits, Value, Null, hidden, masked, Covers, length-part, part-mapped, pick, part_bits, bits_for}
 

@@ -1,5 +1,5 @@
 -- Row references to the items of lists.
-use Rattle.sel_gather.proofs.Common.{◌≡◌, ◌≢◌, All, Bor, ℤ, pos, ℕ, ◌+◌, ◌^◌, ◌≤◌, ◌<◌, true, List, [], ◌∷◌, ◌++◌, length, take, drop}
+use Rattle.sel_gather.proofs.Common.{common_steps, ◌≡◌, ◌≢◌, All, Bor, ℤ, pos, ℕ, ◌+◌, ◌^◌, ◌≤◌, ◌<◌, true, List, [], ◌∷◌, ◌++◌, length, take, drop}
 use Rattle.sel_gather.proofs.Common.{map, Option, Some, None, refl, ap, sym, subst, ◌∙◌, arith, get_or, append-nil, get_or-map, length-map, map-append}
 use Rattle.sel_gather.proofs.Common.{get_or-replicate, get_or-map-range_with_len, All-append, All-head, All-nil, All-tail, IsValidityOf, rows, type_of}
 use Rattle.sel_gather.proofs.Common.{IsWellFormed, Shape, of_null, Value, Null, is_valid, Column, child, is_listing, items_in, joined_items, item_ends, part_of}
@@ -99,9 +99,7 @@ module _ (cs : List (Bor Column)) (listing : All (λ c. is_listing (type_of c.no
   row_inside s is = subst (λ o. PickFits (rows_of cs) (first_of o (r.start + i))) is row_pick_fits
 
   pub row_items : (w : ℕ) (list : Run) → unrolled list ≡ item_picks cs w (first_of r.source (r.start + i)) → HasItems cs w (get_or (pick Null (rows_of cs) (unrolled r)) i Null) (unrolled list)
-  row_items w list is =
-      let row = get_or-map (found Null (rows_of cs)) (unrolled r) i None Null inside ∙ ap (found Null (rows_of cs)) pick_at in
-      rw (is, row) (has_items cs w (first_of r.source (r.start + i)) listing formed row_pick_fits)
+  row_items w list is = grind (arith, common_steps, get_or-map, inside, pick_at, has_items, formed, row_pick_fits)
 
 near_child : (cs : List (Bor Column)) (s i : ℕ) → All (λ c. is_listing (type_of c.now) ≡ true) cs → All (λ c. IsWellFormed c.now) cs → i < length (get_or (below_of cs) s []) → i < 2 ^ 32
 near_child cs s i listing formed h =

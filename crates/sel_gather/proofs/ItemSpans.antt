@@ -1,5 +1,5 @@
 -- The items of the lists of one column, by the start of each list and the ends of all.
-use Rattle.sel_gather.proofs.Common.{common_steps, ◌≡◌, ◌∙◌, ◌+◌, ◌-◌, ◌≤◌, ◌<◌, ◌∷◌, [], ◌++◌, All, Bor, ℕ, ℤ, List, Option, Some, None, true, not, nat_le, ◌&&◌, refl, ap, sym, subst, arith, length, map, pos, take, drop, get_or}
+use Rattle.sel_gather.proofs.Common.{common_steps, ◌≡◌, ◌∙◌, ◌+◌, ◌-◌, ◌≤◌, ◌<◌, ◌∷◌, [], ◌++◌, All, Bor, ℕ, ℤ, List, Option, Some, true, not, nat_le, ◌&&◌, refl, ap, sym, arith, length, map, pos, take, drop, get_or}
 use Rattle.sel_gather.proofs.Common.{length-append, length-map-range_with_len, All-append, All-head, All-nil, All-tail, take_all, take_more, le-leb, leb-true, and_first, and_second, both, max_rows, type_of, IsWellFormed}
 use Rattle.sel_gather.proofs.Common.{Null, Value, Column, is_listing, items_in, joined_items, item_ends, item_picks, items_at, found, pick, PickFits, IsPicked, expand, picks_of, unrolled, Run}
 use Rattle.std.proofs.Common.{negsuc, of_z, rules, to_z, w64}

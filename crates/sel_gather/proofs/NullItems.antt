@@ -1,5 +1,5 @@
 -- Lists of nulls: their child rows are null.
-use Rattle.sel_gather.proofs.Common.{common_steps, take, part_of, All-replicate, zero, suc, refl, ap, sym, ◌∙◌, ◌≡◌, All, Bor, ℕ, ◌<◌, true, List, [], ◌∷◌, length, drop}
+use Rattle.sel_gather.proofs.Common.{common_steps, part_of, All-replicate, zero, suc, refl, ap, sym, ◌∙◌, ◌≡◌, All, Bor, ℕ, ◌<◌, true, List, [], ◌∷◌, length}
 use Rattle.sel_gather.proofs.Common.{replicate, Option, Some, None, subst, arith, get_or, All-append, All-take, All-drop, rows, type_of, well_formed}
 use Rattle.sel_gather.proofs.Common.{IsWellFormed, of_null, Value, Null, Column, NullColumn, child, is_listing, items_in, joined_items, found, pick, PickFits}
 use Rattle.sel_gather.proofs.Common.{get_or_default, length-map}

@@ -1,5 +1,5 @@
 -- Views into the data buffers of several columns, concatenated in order.
-use Rattle.sel_gather.proofs.Common.{◌≡◌, ℕ, zero, suc, ◌+◌, ◌≤◌, ◌<◌, get_or, Bool, true, false, ◌&&◌, List, [], ◌∷◌, ◌++◌, length, take, drop, map, replicate}
+use Rattle.sel_gather.proofs.Common.{common_steps, ◌≡◌, ℕ, zero, suc, ◌+◌, ◌≤◌, ◌<◌, get_or, Bool, true, false, ◌&&◌, List, [], ◌∷◌, ◌++◌, length, take, drop, map, replicate}
 use Rattle.sel_gather.proofs.Common.{Option, refl, ap, sym, ◌∙◌, arith, length-append, append_assoc, zero-add, subst, leb, ltb, flat_map, list_all}
 use Rattle.sel_gather.proofs.Common.{range_with_len, slice_range, ltb-true, lt-ltb, lt-leb, append-nil, length-map, length-replicate, map-append, take_more}
 use Rattle.sel_gather.proofs.Common.{get_or-flat_map, get_or-map-range_with_len, length-map-range_with_len, map-range_with_len_more, Bits, hidden, masked}
@@ -18,9 +18,7 @@ Behind d all some k = (i : ℕ) → i < length some → (i + k < length all) × 
 
 -- The parts before a position, followed by the one at the position.
 pub join_more : {X A : Type 0} (part : X → List A) (xs : List X) (i : ℕ) (x : X) → i < length xs → x ≡ get_or xs i x → flat_map part (take (i + 1) xs) ≡ flat_map part (take i xs) ++ part x
-join_more part xs i x h is =
-    ap (flat_map part) (take_more xs i x h) ∙ flat_map-append part (take i xs) (get_or xs i x ∷ []) ∙ ap (λ l. flat_map part (take i xs) ++ l) (append-nil (part (get_or xs i x)))
-    ∙ ap (λ y. flat_map part (take i xs) ++ part y) (sym is)
+join_more part xs i x h is = grind (arith, common_steps, take_more, flat_map-append, append-nil)
 
 -- The number of their entries.
 pub count_more : {X A : Type 0} (part : X → List A) (xs : List X) (i : ℕ) (x : X) → i < length xs → x ≡ get_or xs i x → length (flat_map part (take (i + 1) xs)) ≡ length (flat_map part (take i xs)) + length (part x)
@@ -46,13 +44,7 @@ starts_more part xs old new i k e is g =
     g ∙ ap (λ l. l ++ k ∷ []) e ∙ ap (λ n. map start (range_with_len 0 i) ++ n ∷ []) is ∙ sym (map-range_with_len_more start 0 i i (zero-add i))
 
 part_behind : {X A : Type 0} (d : A) (part : X → List A) (xs : List X) (i : ℕ) (x : X) (k : ℕ) → i < length xs → x ≡ get_or xs i x → k ≡ length (flat_map part (take i xs)) → Behind d (flat_map part xs) (part x) k
-part_behind d part xs i x k h is e = λ j inside.
-    let same = ap (λ y. length (part y)) is in
-    let there : j < length (part (get_or xs i x)) = omega (arith, same, inside) in
-    let place : j + k ≡ length (flat_map part (take i xs)) + j = omega (arith, e) in (
-      omega (arith, e, inside, count_room part xs i x h is),
-      ap (λ m. get_or (flat_map part xs) m d) place ∙ get_or-flat_map part xs i j x d h there ∙ ap (λ y. get_or (part y) j d) (sym is),
-    )
+part_behind d part xs i x k h is e = grind (arith, common_steps, count_room, get_or-flat_map)
 
 pub source_behind : {X A : Type 0} (d : A) (part : X → List A) (xs : List X) (all : List A) (starts : List ℕ) (i : ℕ) (x : X) → flat_map part xs ≡ all → starts ≡ starts_of part xs → i < length xs → x ≡ get_or xs i x →
     Behind d all (part x) (get_or starts i 0)
@@ -110,10 +102,7 @@ far_placed bs v e = rw e refl
 
 -- The data buffer of a view exists.
 far_there : (bs : List (List ℕ)) (v : View) → is_inline v ≡ false → is_placed bs v ≡ true → v.buffer_idx < length bs
-far_there bs v e placed =
-    let bytes = get_or bs v.buffer_idx [] in
-    let inside = ltb v.buffer_idx (length bs) in
-    ltb-true _ _ (and_first inside (fits bytes v) (and_first (inside && fits bytes v) (starts bytes v) (sym (far_placed bs v e) ∙ placed)))
+far_there bs v e placed = grind (arith, common_steps, ltb-true, and_first, far_placed)
 
 -- The buffer index of a view can be increased.
 pub room_to_raise : (bs : List (List ℕ)) (v : View) (k m : ℕ) → is_placed bs v ≡ true → k + length bs ≤ m → 12 < v.length → v.buffer_idx + k ≤ m
@@ -150,24 +139,16 @@ raised_placed all some k v behind placed = decided (is_inline v) refl
 
 pub raised_values : (all some : List (List ℕ)) (k : ℕ) (vs : List View) → Behind [] all some k → list_all (is_placed some) vs ≡ true → map (view_value all) (map (λ v. raised v k) vs) ≡ map (view_value some) vs
 raised_values all some k [] behind placed = refl
-raised_values all some k (v ∷ vs) behind placed =
-    let here = raised_value all some k v behind (and_first (is_placed some v) (list_all (is_placed some) vs) placed) in
-    let rest = raised_values all some k vs behind (and_second (is_placed some v) (list_all (is_placed some) vs) placed) in
-    ap (λ x. x ∷ map (view_value all) (map (λ v. raised v k) vs)) here ∙ ap (λ l. view_value some v ∷ l) rest
+raised_values all some k (v ∷ vs) behind placed = grind (arith, common_steps, raised_value, and_first, and_second, (raised_values all some k vs behind (and_second (is_placed some v) (list_all (is_placed some) vs) placed)))
 
 pub all_raised : (all some : List (List ℕ)) (k : ℕ) (vs : List View) → Behind [] all some k → list_all (is_placed some) vs ≡ true → list_all (is_placed all) (map (λ v. raised v k) vs) ≡ true
 all_raised all some k [] behind placed = refl
-all_raised all some k (v ∷ vs) behind placed =
-    both (is_placed all (raised v k)) (list_all (is_placed all) (map (λ v. raised v k) vs)) (raised_placed all some k v behind (and_first (is_placed some v) (list_all (is_placed some) vs) placed))
-    (all_raised all some k vs behind (and_second (is_placed some v) (list_all (is_placed some) vs) placed))
+all_raised all some k (v ∷ vs) behind placed = grind (arith, common_steps, both, raised_placed, and_first, and_second, (all_raised all some k vs behind (and_second (is_placed some v) (list_all (is_placed some) vs) placed)))
 
 -- One more view of a part.
 pub raised_more : {A B : Type 0} (f : A → B) (old so_far new : List B) (xs ys : List A) (a i : ℕ) (d : A) (y : B) → a + i < length xs → so_far ≡ old ++ map f (take i (drop a xs)) → ys ≡ xs → y ≡ f (get_or ys (a + i) d) →
     new ≡ so_far ++ y ∷ [] → new ≡ old ++ map f (take (i + 1) (drop a xs))
-raised_more f old so_far new xs ys a i d y h e same is g =
-    let part = take i (drop a xs) in
-    g ∙ ap (λ l. l ++ y ∷ []) e ∙ append_assoc old (map f part) (y ∷ []) ∙ ap (λ z. old ++ (map f part ++ z ∷ [])) (is ∙ ap (λ l. f (get_or l (a + i) d)) same)
-    ∙ ap (λ l. old ++ l) (sym (ap (map f) (window_more xs a i d h) ∙ map-append f part (get_or xs (a + i) d ∷ [])))
+raised_more f old so_far new xs ys a i d y h e same is g = grind (arith, common_steps, append_assoc, window_more, map-append)
 
 -- ---- views after a part of a source, or nulls, are appended
 
@@ -186,11 +167,7 @@ grown_views all some k old new xs bits longer validity a n long inside behind pl
 
 pub views_lengths : (k : ℕ) (old new xs : List View) (bits longer : List Bool) (validity : Option Bits) (a n : ℕ) → length bits ≡ length old → a + n ≤ length xs → Covers validity (length xs) →
     new ≡ old ++ map (λ v. raised v k) (take n (drop a xs)) → longer ≡ bits ++ part_bits a n validity → length longer ≡ length new
-views_lengths k old new xs bits longer validity a n long inside covers e g =
-    let part = take n (drop a xs) in
-    let first = grown_lengths old (old ++ part) xs bits longer validity a n long inside covers refl g ∙ length-append old part in
-    let up = ap length e ∙ length-append old (map (λ v. raised v k) part) in
-    omega (arith, first, up, length-map part (λ v. raised v k))
+views_lengths k old new xs bits longer validity a n long inside covers e g = grind (arith, common_steps, grown_lengths, length-append, length-map)
 
 pub views_placed : (all some : List (List ℕ)) (k : ℕ) (old new xs : List View) (a n : ℕ) → Behind [] all some k → list_all (is_placed some) xs ≡ true → list_all (is_placed all) old ≡ true →
     new ≡ old ++ map (λ v. raised v k) (take n (drop a xs)) → list_all (is_placed all) new ≡ true
@@ -205,11 +182,7 @@ all_same p x zero e = refl
 all_same p x (suc n) e = both (p x) (list_all p (replicate n x)) e (all_same p x n e)
 
 pub nulls_placed : (p : View → Bool) (old new : List View) (x : View) (n : ℕ) → p x ≡ true → list_all p old ≡ true → new ≡ old ++ replicate n x → list_all p new ≡ true
-nulls_placed p old new x n here before e =
-    ap (list_all p) e ∙ list_all-append p old (replicate n x) ∙ both (list_all p old) (list_all p (replicate n x)) before (all_same p x n here)
+nulls_placed p old new x n here before e = grind (arith, common_steps, both, all_same)
 
 pub nulls_lengths : (old new : List View) (x : View) (bits longer : List Bool) (n : ℕ) → length bits ≡ length old → new ≡ old ++ replicate n x → longer ≡ bits ++ replicate n false → length longer ≡ length new
-nulls_lengths old new x bits longer n long e g =
-    let first = ap length g ∙ length-append bits (replicate n false) in
-    let second = ap length e ∙ length-append old (replicate n x) in
-    omega (arith, first, second, long, length-replicate n false, length-replicate n x)
+nulls_lengths old new x bits longer n long e g = grind (arith, common_steps, length-append, length-replicate)

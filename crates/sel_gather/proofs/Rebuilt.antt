@@ -1,9 +1,9 @@
 -- Columns with children that are built from their rows.
 use Rattle.sel_gather.proofs.Common.{fill_by_all, length-range_with_len, ◌≡◌, ℕ, zero, suc, ◌+◌, ◌-◌, ◌*◌, ◌≤◌, ◌<◌, true, false, Bool, List, [], ◌∷◌, ◌++◌}
-use Rattle.sel_gather.proofs.Common.{length, take, drop, map, Option, refl, ap, sym, subst, ◌∙◌, arith, get_or, length-append, if◌then◌else◌, slice_range}
+use Rattle.sel_gather.proofs.Common.{length, take, drop, map, Option, refl, ap, sym, ◌∙◌, arith, get_or, length-append, if◌then◌else◌, slice_range}
 use Rattle.sel_gather.proofs.Common.{range_with_len, length-map, get_or-map, length-replicate, ext_get_or, length-map-range_with_len, get_or-map-range_with_len}
 use Rattle.sel_gather.proofs.Common.{common_steps, max_rows, Bits, IsRising, hidden, Covers, list_of, list_rows, blocks, block_rows, struct_at, struct_rows}
-use Rattle.sel_gather.proofs.Common.{pieces, pieces_after, rows_between, last_offset, rows, row_count, well_formed, Value, Values, no_values, next_value, Null}
+use Rattle.sel_gather.proofs.Common.{pieces, pieces_after, rows_between, last_offset, rows, well_formed, Value, Values, no_values, next_value, Null}
 use Rattle.sel_gather.proofs.Common.{Items, Tuple, values_of, listed, is_valid, validities, Column, length-pieces, HasLists, HasBlocks, length-rows}
 use Rattle.sel_gather.proofs.Common.{length-blocks, items_in, joined_items, part_at, parts_of, item_ends, bits_for}
 use Rattle.std.proofs.lemmas.Simd.{map-map}

@@ -1,6 +1,6 @@
 -- Validity bits of gathered rows, and row references to null rows.
 use Rattle.sel_gather.proofs.Common.{common_steps, ◌≡◌, ◌≢◌, All, Bor, ℕ, zero, suc, ◌+◌, ◌≤◌, ◌<◌, Bool, true, false, List, [], ◌∷◌, ◌++◌, length, map, replicate, Option, Some}
-use Rattle.sel_gather.proofs.Common.{None, refl, ap, sym, ◌∙◌, arith, get_or, if◌then◌else◌, length-map, get_or-map, Bits, IsValidityOf, rows, Shape, of_null}
+use Rattle.sel_gather.proofs.Common.{None, refl, ap, sym, ◌∙◌, arith, get_or, length-map, get_or-map, Bits, IsValidityOf, rows, Shape, of_null}
 use Rattle.sel_gather.proofs.Common.{Value, Null, is_valid, validities, Column, cleared, kept_by, found, pick, PickFits, unrolled, picks_of, Run, subst}
 use Rattle.sel_gather.proofs.Common.{All-get_or, get_or-replicate, type_of}
 use Rattle.sel_gather.proofs.{Gathers.map-replicate, KeptBlocks.all_kept, ItemRuns.rows_of, ItemRuns.source_there, RunLists.run_there, RunLists.pick_nulls}

@@ -5,7 +5,6 @@ use Rattle.sel_gather.proofs.Common.{get_or-map-range_with_len, Bits, hidden, ma
 use Rattle.sel_gather.proofs.Common.{well_formed, all_well_formed, IsField, IsWellFormed, Shape, Shapes, of_struct, shape_list, Value, Null, is_valid, Column}
 use Rattle.sel_gather.proofs.Common.{Row_of-Column, end_of-Column, more_of-Column, Struct', and_first, and_second, length-rows, struct_covered, columns_in}
 use Rattle.sel_gather.proofs.Common.{field, part_at, cleared, found, pick, PickFits}
-use Rattle.std.proofs.lemmas.Bool.Decides.{nat_tests}
 use Rattle.sel_gather.proofs.{ItemRuns.rows_of, ItemRuns.listed_values, Rebuilt.only_null}
 
 -- ---- the fields, by position

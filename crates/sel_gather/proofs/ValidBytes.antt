@@ -1,10 +1,10 @@
 -- Binary rows without nulls: their bytes are contiguous.
-use Rattle.sel_gather.proofs.Common.{All-map, ◌≡◌, All, ℕ, zero, suc, ◌+◌, ◌-◌, ◌≤◌, ◌<◌, pos, Bool, true, false, List, [], ◌∷◌, ◌++◌, length, take, drop, map}
+use Rattle.sel_gather.proofs.Common.{common_steps, All-map, ◌≡◌, All, ℕ, zero, suc, ◌+◌, ◌-◌, ◌≤◌, ◌<◌, pos, Bool, true, false, List, [], ◌∷◌, ◌++◌, length, take, drop, map}
 use Rattle.sel_gather.proofs.Common.{replicate, Option, Some, None, refl, ap, sym, subst, ◌∙◌, arith, get_or, true≢false, if◌then◌else◌, is_some, slice_range}
 use Rattle.sel_gather.proofs.Common.{take-add, take_more, take_all, append-nil, drop-drop, get_or-take, get_or-drop, get_or-replicate, length-map}
 use Rattle.sel_gather.proofs.Common.{flat_map-append, Bits, IsRising, binary_rows, Covers, valid_at, byte_rows, last_offset, rows_between, Value, Null, Bytes}
 use Rattle.sel_gather.proofs.Common.{is_valid, validities, length-byte_rows, null_bytes, valid_bytes, length-part, cleared, IsLive, ends_from, bytes_of}
-use Rattle.sel_gather.proofs.Common.{joined_bytes, byte_count, bytes_needed, found, pick, PickFits, picks_of, unrolled, unrolled_from, IsNear, Run}
+use Rattle.sel_gather.proofs.Common.{joined_bytes, byte_count, bytes_needed, found, pick, PickFits, picks_of, unrolled, IsNear, Run}
 use Rattle.sel_gather.proofs.Common.{Collects, Column, ExceedsBytes, ExceedsNone, IfOk, IsLimitOrMemory, IsWellFormed, PolarsError, Result, rows, type_of}
 use Rattle.std.specs.Prelude.{IfErr}
 use Rattle.sel_arrow.specs.Shape.{of_large_binary}
@@ -42,13 +42,7 @@ pub record LivePart (offsets bytes : List ℕ) (validity : Option Bits) (start l
 -- The same for a column.
 pub live_part : {O : Type 0} {type : Ghosts O} (column : BinaryArray O type) (start len : ℕ) → start + len ≤ length (binary_rows column) → validities (take len (drop start (binary_rows column))) ≡ replicate len true
     → LivePart column.offsets column.values column.validity start len
-live_part column start len inside live = record {
-  rises = column.rising;
-  ends = column.values_fit;
-  covered = column.validity_fits;
-  inside = omega (arith, inside, length-byte_rows column.offsets column.values column.validity);
-  live = live;
-}
+live_part column start len inside live = grind (arith, common_steps, length-byte_rows)
 
 module _ {offsets bytes : List ℕ} {validity : Option Bits} {start len : ℕ} (given : LivePart offsets bytes validity start len) where
   abbrev part : List Value
@@ -113,10 +107,7 @@ module _ {offsets bytes : List ℕ} {validity : Option Bits} {start len : ℕ} (
       ap (λ k. slice_range bytes (get_or offsets k 0) (at len)) first ∙ sym (so_far len (omega arith)) ∙ ap joined_bytes (take_all len part (omega (arith, part_length)))
 
   pub part_needed : (i : ℕ) → i ≤ len → bytes_needed (take i part) + get_or offsets start 0 ≡ at i
-  part_needed i below =
-      let first = first_at in
-      let count = sym (length-joined (take i part)) ∙ ap (λ (l : List ℕ). length l) (so_far i below) ∙ length-range bytes (at 0) (at i) (part_climbs 0 i (omega arith) below) (part_below i below) in
-      omega (arith, first, count, part_climbs 0 i (omega arith) below)
+  part_needed i below = grind (arith, common_steps, first_at, length-joined, so_far, length-range, part_climbs, part_below)
 
   pub part_room : (i : ℕ) → i ≤ len → (before n : ℕ) → before + bytes_needed part ≤ n → before + (at i - get_or offsets start 0) ≤ n
   part_room i below before n room = omega (arith, part_needed i below, needed_part part i, room)
@@ -143,9 +134,7 @@ nulls_bytes (suc n) = nulls_bytes n
 
 pub nulls_ends : (before n : ℕ) → ends_from before (replicate n Null) ≡ replicate n before
 nulls_ends before zero = refl
-nulls_ends before (suc n) =
-    let same : before + 0 ≡ before = omega arith in
-    rw same (ap (λ l. before ∷ l) (nulls_ends before n))
+nulls_ends before (suc n) = grind (arith, common_steps, (nulls_ends before n))
 
 pub same_ends : (n before : ℕ) → map pos (replicate n before) ≡ replicate n (pos before)
 same_ends n before = map-replicate pos n before
@@ -158,9 +147,7 @@ module _ (xss : List (List Value)) where
       (λ i. here i ∷ live_rows s (a + 1) n (λ k d h. live (suc k) d (omega (arith, h))) i)
 
   pub live_run : (r : Run) (s : ℕ) → r.source ≡ Some s → All (IsLive xss) (unrolled r) → validities (pick Null xss (unrolled r)) ≡ replicate r.len true
-  live_run r s is live =
-      let picks : All (IsLive xss) (picks_of s r.start r.len) = subst (λ o. All (IsLive xss) (unrolled_from o r.start r.len)) is live in
-      rw is (live_rows s r.start r.len picks)
+  live_run r s is live = grind (arith, common_steps, live_rows)
 
   -- The validity of the rows of such a run.
   pub live_bits : (r : Run) → All (IsLive xss) (unrolled r) → replicate r.len (is_some r.source) ≡ validities (pick Null xss (unrolled r))
@@ -229,13 +216,7 @@ module _ (yss xss : List (List Value)) (same : yss ≡ xss) (ps qs : List (Optio
 
 pub binary_collected : (r : Result Column PolarsError) (columns : List Column) (vs ws : List Value) → vs ≡ ws → IfOk r (λ column. rows column ≡ vs) → IfOk r (λ column. type_of column ≡ of_large_binary) →
     IfOk r (λ column. IsWellFormed column) → IfOk r (λ column. ExceedsNone (ExceedsBytes (pos 9223372036854775807) vs)) → IfErr r (IsLimitOrMemory (ExceedsBytes (pos 9223372036854775807) vs)) → Collects r of_large_binary columns ws
-binary_collected r columns vs ws same has dtype formed within refusal = record {
-  rows = subst (λ l. IfOk r (λ column. rows column ≡ l)) same has;
-  dtype = dtype;
-  formed = formed;
-  within = subst (λ l. IfOk r (λ column. ExceedsNone (ExceedsBytes (pos 9223372036854775807) l))) same within;
-  refusal = subst (λ l. IfErr r (IsLimitOrMemory (ExceedsBytes (pos 9223372036854775807) l))) same refusal;
-}
+binary_collected r columns vs ws same has dtype formed within refusal = grind (arith, common_steps)
 
 -- ---- the source of a run that is not empty
 

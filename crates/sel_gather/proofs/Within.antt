@@ -1,5 +1,5 @@
 -- If a column is returned, no limit is exceeded.
-use Rattle.sel_gather.proofs.Common.{◌≡◌, ◌⊎◌, inl, inr, ℕ, suc, ◌+◌, ◌≤◌, ◌<◌, true, List, [], ◌∷◌, length, map, sym, subst, arith, get_or, cases_lt}
+use Rattle.sel_gather.proofs.Common.{common_steps, ◌≡◌, ◌⊎◌, inl, inr, ℕ, suc, ◌+◌, ◌≤◌, ◌<◌, true, List, [], ◌∷◌, length, map, subst, arith, get_or, cases_lt}
 use Rattle.sel_gather.proofs.Common.{max_buffers, max_rows, Limit, RowLimit, BufferLimit, rows, type_of, well_formed, Shape, of_null, shapes_of, Value, Column}
 use Rattle.sel_gather.proofs.Common.{field, part_at, ExceedsRows, ExceedsBuffers, ExceedsNone, exceeded_limits, exceeded_taken, exceeded_in_fields}
 use Rattle.sel_gather.proofs.Thinned.{whole_fits}
@@ -18,8 +18,7 @@ passes_neither P Q p q limit (inr h) = q limit h
 
 -- The rows of a well-formed column exceed no limit of its type.
 pub rows_pass : (c : Column) (s : Shape) (vs : List Value) → well_formed c ≡ true → type_of c ≡ s → rows c ≡ vs → ExceedsNone (exceeded_limits s vs)
-rows_pass c s vs formed kind same limit h =
-    whole_fits c formed limit (subst (λ l. exceeded_limits (type_of c) l limit) (sym same) (subst (λ t. exceeded_limits t vs limit) (sym kind) h))
+rows_pass c s vs formed kind same limit h = grind (arith, common_steps, whole_fits)
 
 -- If no field exceeds a limit, the struct exceeds none.
 pub fields_pass : (ss : List Shape) (start : ℕ) (columns : List Column) (vs : List Value) →
