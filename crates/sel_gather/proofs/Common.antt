@@ -44,7 +44,7 @@ pub use Rattle.sel_gather.specs.Validity.{bits_for, part_bits}
 pub use Rattle.sel_gather.specs.declared.runs.Run.{Run}
 pub use Rattle.std.proofs.Common.{[], add_assoc, All, ap, append_assoc, arith, Bool, Bor, Box, cond, drop, false, get_or, Global, inl, inr, is_none, length}
 pub use Rattle.std.proofs.Common.{length-append, length-take, List, map, nat_le, None, OnOk, Option, pos, refl, replicate, rules, slice_set, Some, subst, suc}
-pub use Rattle.std.proofs.Common.{sym, take, true, true≢false, Vec, vec_capacity, vec_len, w64, zero, zero-add, ℕ, ℤ, ◌%◌, ◌&&◌, ◌*◌, ◌++◌, ◌+◌, ◌-◌, ◌<◌, ◌==◌}
+pub use Rattle.std.proofs.Common.{sym, take, true, true≢false, Vec, vec_capacity, vec_len, w64, zero, zero-add, add-zero, ℕ, ℤ, ◌%◌, ◌&&◌, ◌*◌, ◌++◌, ◌+◌, ◌-◌, ◌<◌, ◌==◌}
 pub use Rattle.std.proofs.Common.{◌^◌, ◌↔◌, ◌∙◌, ◌∷◌, ◌≡◌, ◌≢◌, ◌≤◌, ◌⊎◌}
 pub use Rattle.std.proofs.Math.Seq.{take-add, take-append-add}
 pub use Rattle.std.proofs.lemmas.Bool.{cases_lt, le-leb, leb-true, lt-leb, lt-ltb, ltb-true}

@@ -30,6 +30,7 @@ pub mod SplitRuns
 pub mod Thinned
 pub mod TupleRows
 pub mod ValidBytes
+pub mod ValidLists
 pub mod Walks
 pub mod Windows
 pub mod Within

@@ -33,7 +33,7 @@ range-append (suc n) m a b e =
     let next : (a + 1) + n ≡ b = omega (arith, e) in
     rw more (ap (λ l. a ∷ l) (range-append n m (a + 1) b next))
 
-picks_of-append : (s a b n m : ℕ) → a + n ≡ b → picks_of s a (n + m) ≡ picks_of s a n ++ picks_of s b m
+pub picks_of-append : (s a b n m : ℕ) → a + n ≡ b → picks_of s a (n + m) ≡ picks_of s a n ++ picks_of s b m
 picks_of-append s a b n m e =
     ap (map (λ i. Some (s, i))) (range-append n m a b e) ∙ map-append (λ i. Some (s, i)) (range_with_len a n) (range_with_len b m)
 

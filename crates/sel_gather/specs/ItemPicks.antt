@@ -1,6 +1,6 @@
 -- Row references to lists, as row references to their items, for its internal steps.
 use Rattle.std.specs.Prelude.{ℕ, ◌+◌, ◌-◌, ◌*◌, ◌<◌, List, [], length, map, replicate, Option}
-use Rattle.std.specs.Prelude.{Some, None, slice_index_or}
+use Rattle.std.specs.Prelude.{Some, None, slice_index_or, ◌≡◌}
 use Rattle.std.specs.Option.{ForSome}
 use Rattle.std.specs.Prelude.{if◌then◌else◌}
 use Rattle.std.specs.Borrow.{Bor}
@@ -10,6 +10,7 @@ use Rattle.sel_arrow.specs.Value.{Value}
 use Rattle.sel_arrow.specs.declared.column.Column.{Column}
 use Rattle.sel_arrow.specs.declared.column.Column.TheVariants.{LargeList', FixedSizeList'}
 use Rattle.sel_gather.specs.Runs.{picks_of}
+use Rattle.sel_gather.specs.declared.runs.Run.{Run}
 
 -- The row reference is none or refers to a row, as `PickFits` says by cases.
 abbrev pub IsRow : List (List Value) → Option (ℕ × ℕ) → Type 0
@@ -44,3 +45,22 @@ item_picks sources width (Some p) =
 -- The row references to the items of all lists.
 abbrev pub items_at : List (Bor Column) → ℕ → List (Option (ℕ × ℕ)) → List (Option (ℕ × ℕ))
 items_at sources width ps = flat_map (item_picks sources width) ps
+
+-- The lists of the source lie between its offsets, and none is null.
+abbrev pub HasOffsets : List (Bor Column) → Option ℕ → List ℕ → Type 0
+HasOffsets sources None offsets = ⊥
+HasOffsets sources (Some s) offsets =
+    (i : ℕ) → slice_index_or (map (λ c. part_of c.now) sources) s (λ i. None) i ≡ Some (
+      slice_index_or offsets i 0,
+      slice_index_or offsets (i + 1) 0 - slice_index_or offsets i 0,
+    )
+
+-- Offset i, moved so that offset `first` becomes `start`.
+abbrev pub moved_end : List ℕ → ℕ → ℕ → ℕ → ℕ
+moved_end offsets first start i =
+    start + (slice_index_or offsets i 0 - slice_index_or offsets first 0)
+
+-- The number of items between the first and the last offset of a run.
+abbrev pub item_count : List ℕ → Run → ℕ
+item_count offsets run =
+    slice_index_or offsets (run.start + run.len) 0 - slice_index_or offsets run.start 0

@@ -1,8 +1,37 @@
-use Rattle.sel_gather.proofs.Common.{◌≡◌, ◌∙◌, ◌++◌, ◌∷◌, [], ◌+◌, ◌<◌, arith, ap, sym, map, pos, w64, length, length-append, take, refl, to_z_pos, Null}
+use Rattle.sel_gather.proofs.Common.{◌≡◌, ◌∙◌, ◌++◌, ◌∷◌, [], ◌+◌, ◌<◌, arith, ap, sym, map, pos, w64, length, length-append, take, refl, to_z_pos, Null, All, All-append, err_from_is_err_and, found, map-append, subst, PickFits}
 use Rattle.sel_gather.proofs.Common.{joined_items, item_ends, pick, expand, unrolled}
 use Rattle.sel_gather.proofs.ItemRuns.{rows_of, below_of, counted_row, joined_part, ends_more, items_more, pushed_fit, all_rows}
 use Rattle.sel_gather.proofs.RunLists.{length-pick}
+use Rattle.sel_gather.proofs.ValidLists.{valid_count, valid_ends, valid_fit, valid_items}
 use Rattle.sel_gather.proofs.list_walk.push_lists.Goals as goal
+
+-- ---- lists of which none is null
+
+pub returns-in_err-end-clause-refusal : goal.returns-in_err-end-clause-refusal
+returns-in_err-end-clause-refusal c =
+    let count = valid_count c.args.sources.now c.requires.lists c.requires.formed _ c.in-Some.ensures.rising c.args.run c.in-Some.ensures.parts c.in-Some.ensures.inside c.requires.fits in
+    let p = err_from_is_err_and c.from_residual.result c.from_residual.ensures.1 in
+    rw (p.1, p.2, ← count) c.in_err-end.ensures.refusal
+
+pub returns-in-Some-clause-ends : goal.returns-in-Some-clause-ends
+returns-in-Some-clause-ends c =
+    c.in_ok-end.ensures.ends ∙ ap (λ l. c.args.ends.now.items ++ map pos l) (valid_ends c.args.sources.now c.requires.lists c.requires.formed _ c.in-Some.ensures.rising c.args.run c.in-Some.ensures.parts c.in-Some.ensures.inside c.requires.fits c.args.start)
+
+pub returns-in-Some-clause-items : goal.returns-in-Some-clause-items
+returns-in-Some-clause-items c =
+    let yss = below_of c.args.sources.now in
+    let old = expand (c.args.below.now.items ++ c.args.last.now ∷ []) in
+    ap (pick Null yss) c.in_ok-end.ensures.items ∙ map-append (found Null yss) old _ ∙ ap (λ l. pick Null yss old ++ l) (valid_items c.args.sources.now c.requires.lists c.requires.formed _ c.in-Some.ensures.rising c.args.run c.in-Some.ensures.parts c.in-Some.ensures.inside c.requires.fits)
+
+pub returns-in-Some-clause-sound : goal.returns-in-Some-clause-sound
+returns-in-Some-clause-sound c =
+    let yss = below_of c.args.sources.now in
+    subst (All (PickFits yss)) (sym c.in_ok-end.ensures.items) (All-append (PickFits yss) (expand (c.args.below.now.items ++ c.args.last.now ∷ [])) _ c.requires.sound (valid_fit c.args.sources.now c.requires.lists c.requires.formed _ c.in-Some.ensures.rising c.args.run c.in-Some.ensures.parts c.in-Some.ensures.inside c.requires.fits))
+
+pub returns-in-Some-clause-end : goal.returns-in-Some-clause-end
+returns-in-Some-clause-end c = c.in_ok-end.ensures.end ∙ ap (λ n. c.args.start + n) (valid_count c.args.sources.now c.requires.lists c.requires.formed _ c.in-Some.ensures.rising c.args.run c.in-Some.ensures.parts c.in-Some.ensures.inside c.requires.fits)
+
+-- ---- lists one by one
 
 pub put_run-requires : goal.put_run-requires
 put_run-requires c =
