@@ -1,7 +1,6 @@
 -- The child rows of lists.
-use Rattle.std.proofs.Common.{◌<◌, replicate, ◌≡◌, ℕ, ◌+◌, ◌*◌, Bool, true, false, ◌||◌, ◌==◌, List, [], ◌∷◌, ◌++◌, map, length, Option, Some, refl, sym, ap, ◌∙◌, arith, append_assoc, length-append, not, nat_lt}
-use Rattle.sel_text.proofs.Common.{max_rows, of_null, exceeds_limit, eq-eqb, flat_map, list_all, slice_range, range_with_len, nat_tests, length-replicate, list_all-append, Bits, Malformed, ChildLength, OffsetRange, TooManyRows, ValidityLength, Width, masked, too_many, validity_differs, Covers, list_fault, block_fault, list_of, list_rows, block_rows, rows_between, last_offset, rows, Shape, of_large_list, of_fixed_size_list, Value, Null, Items, Values, no_values, next_value, listed, is_valid, Column, both, and_first, and_second, offsets_below, fits, all_fit, block_in, entries_in, ShowsRows, NullSlots}
-use Rattle.sel_text.specs.declared.build.NullSlots.TheVariants.{Zeros, Others}
+use Rattle.std.proofs.Common.{◌<◌, replicate, ◌≡◌, ℕ, ◌+◌, ◌*◌, Bool, true, ◌||◌, List, [], ◌∷◌, ◌++◌, map, length, Option, Some, refl, sym, ap, ◌∙◌, arith, append_assoc, length-append}
+use Rattle.sel_text.proofs.Common.{common_steps, max_rows, of_null, exceeds_limit, eq-eqb, flat_map, list_all, slice_range, range_with_len, nat_tests, length-replicate, list_all-append, Bits, Malformed, masked, too_many, Covers, list_fault, block_fault, list_of, list_rows, block_rows, rows, Shape, of_large_list, of_fixed_size_list, Value, Null, Values, no_values, next_value, listed, is_valid, Column, both, and_first, and_second, offsets_below, fits, all_fit, block_in, entries_in, ShowsRows, NullSlots}
 use Rattle.sel_text.proofs.FittingRows.{nulls_fit}
 use Rattle.sel_text.proofs.ItemRows.{values_back}
 use Rattle.sel_text.proofs.Making.{all_nulls, first_of_three, first_of_four}
@@ -16,28 +15,19 @@ listed_fit s (next_value v vs) fit = both (fits s v) (list_all (fits s) (listed 
 -- ---- the child rows of each row of a list type
 
 list_entries : (s : Shape) (b : NullSlots) (row : Value) → fits (of_large_list s) row ≡ true → is_valid row ≡ true → row ≡ list_of (entries_in b row)
-list_entries s b (Items es) fit valid = ap Items (sym (values_back es))
-list_entries s b row fit valid = absurd cc
+list_entries s b row fit valid = grind (arith, common_steps, values_back)
 
 pub list_below : (s : Shape) (b : NullSlots) (row : Value) → fits (of_large_list s) row ≡ true → list_all (fits s) (entries_in b row) ≡ true
-list_below s Zeros Null fit = refl
-list_below s Others Null fit = refl
-list_below s b (Items es) fit = listed_fit s es fit
-list_below s b row fit = absurd cc
+list_below s b row fit = grind (arith, common_steps, listed_fit)
 
 block_entries : (s : Shape) (size : ℕ) (row : Value) → fits (of_fixed_size_list s size) row ≡ true → is_valid row ≡ true → row ≡ list_of (block_in size row)
-block_entries s size (Items es) fit valid = ap Items (sym (values_back es))
-block_entries s size row fit valid = absurd cc
+block_entries s size row fit valid = grind (arith, common_steps, values_back)
 
 pub block_below : (s : Shape) (size : ℕ) (row : Value) → fits (of_fixed_size_list s size) row ≡ true → list_all (fits s) (block_in size row) ≡ true
-block_below s size Null fit = nulls_fit s size
-block_below s size (Items es) fit = listed_fit s es (and_second (length (listed es) == size) (all_fit s es) fit)
-block_below s size row fit = absurd cc
+block_below s size row fit = grind (arith, common_steps, nulls_fit, listed_fit, and_second)
 
 block_long : (s : Shape) (size : ℕ) (row : Value) → fits (of_fixed_size_list s size) row ≡ true → length (block_in size row) ≡ size
-block_long s size Null fit = length-replicate size Null
-block_long s size (Items es) fit = let same = and_first (length (listed es) == size) (all_fit s es) fit in grind (arith, nat_tests, same)
-block_long s size row fit = absurd cc
+block_long s size row fit = grind (arith, nat_tests, length-replicate, and_first)
 
 -- ---- if the rows of a list fit a type
 
@@ -57,10 +47,7 @@ module _ (below : Value → List Value) (p : Value → Bool) where
   -- Fixed-size lists.
   blocks_long : (size : ℕ) → ((row : Value) → p row ≡ true → length (below row) ≡ size) → (rows : List Value) → list_all p rows ≡ true → length (flat_map below rows) ≡ length rows * size
   blocks_long size each [] fit = omega arith
-  blocks_long size each (row ∷ rows) fit =
-      let here : length (below row) ≡ size = each row (and_first _ _ fit) in
-      let rest : length (flat_map below rows) ≡ length rows * size = blocks_long size each rows (and_second (p row) (list_all p rows) fit) in
-      omega (arith, length-append (below row) (flat_map below rows))
+  blocks_long size each (row ∷ rows) fit = grind (arith, common_steps, and_first, and_second, (blocks_long size each rows (and_second (p row) (list_all p rows) fit)))
 
   -- The parts of the child with this size are the lists.
   blocks_from : (size : ℕ) → ((row : Value) → p row ≡ true → length (below row) ≡ size) → (rows pre child : List Value) (k : ℕ) → list_all p rows ≡ true → length pre ≡ k * size → child ≡ pre ++ flat_map below rows →
@@ -86,8 +73,7 @@ pub same_lists : (o p : List ℕ) (c d : Column) (v w : Option Bits) → o ≡ p
 same_lists o p c d v w offsets child validity = ap (λ x. list_rows x (rows c) v) offsets ∙ ap (λ x. list_rows p (rows x) v) child ∙ ap (λ x. list_rows p (rows d) x) validity
 
 pub same_blocks : (size side n m : ℕ) (c d : Column) (v w : Option Bits) → size ≡ side → n ≡ m → c ≡ d → v ≡ w → block_rows size n (rows c) v ≡ block_rows side m (rows d) w
-same_blocks size side n m c d v w width count child validity =
-    ap (λ x. block_rows x n (rows c) v) width ∙ ap (λ x. block_rows side x (rows c) v) count ∙ ap (λ x. block_rows side m (rows x) v) child ∙ ap (λ x. block_rows side m (rows d) x) validity
+same_blocks size side n m c d v w width count child validity = grind (arith, common_steps)
 
 pub lists_made : (b : NullSlots) (s : Shape) (vs child : List Value) (offsets : List ℕ) (validity : Option Bits) → list_all (fits (of_large_list s)) vs ≡ true → offsets ≡ offsets_below (entries_in b) vs → child ≡ flat_map (entries_in b) vs →
     ((plain : List Value) → ShowsRows vs plain → masked validity plain ≡ vs) → list_rows offsets child validity ≡ vs
@@ -96,11 +82,7 @@ lists_made b s vs child offsets validity fit ends is hides =
 
 pub lists_past : (below : Value → List Value) (vs : List Value) (offsets : List ℕ) (count : ℕ) (validity : Option Bits) (m : Malformed) → offsets ≡ offsets_below below vs → count ≡ length (flat_map below vs) → Covers validity (length vs) →
     list_fault offsets count validity ≡ Some m → too_many (length vs) ≡ true
-lists_past below vs offsets count validity m ends long covers is =
-    let many = count_between below vs offsets ends in
-    let inside = ends_inside below vs offsets ends count long in
-    let kept : validity_differs validity (rows_between offsets) ≡ false = ap (validity_differs validity) many ∙ no_difference validity (length vs) covers in
-    sym (ap too_many many) ∙ first_of_three (too_many (rows_between offsets)) (nat_lt count (last_offset offsets)) (validity_differs validity (rows_between offsets)) TooManyRows OffsetRange ValidityLength m inside kept is
+lists_past below vs offsets count validity m ends long covers is = grind (arith, nat_tests, count_between, ends_inside, no_difference, first_of_three)
 
 pub blocks_made : (s : Shape) (size : ℕ) (vs child : List Value) (n : ℕ) (validity : Option Bits) → list_all (fits (of_fixed_size_list s size)) vs ≡ true → n ≡ length vs → child ≡ flat_map (block_in size) vs →
     ((plain : List Value) → ShowsRows vs plain → masked validity plain ≡ vs) → block_rows size n child validity ≡ vs
@@ -115,23 +97,15 @@ blocks_count s size n vs fit same = blocks_long (block_in size) (fits (of_fixed_
 
 pub blocks_past : (s : Shape) (size : ℕ) (vs : List Value) (n count : ℕ) (validity : Option Bits) (m : Malformed) → list_all (fits (of_fixed_size_list s size)) vs ≡ true → n ≡ length vs → count ≡ length (flat_map (block_in size) vs) → Covers validity (length vs) →
     block_fault size n count validity ≡ Some m → (too_many (length vs) || too_many size) ≡ true
-blocks_past s size vs n count validity m fit same long covers is =
-    let fills : count ≡ n * size = long ∙ blocks_long (block_in size) (fits (of_fixed_size_list s size)) size (block_long s size) vs fit ∙ ap (λ k. k * size) (sym same) in
-    let kept : validity_differs validity n ≡ false = ap (validity_differs validity) same ∙ no_difference validity (length vs) covers in
-    ap (λ k. too_many k || too_many size) (sym same) ∙ first_of_four (too_many n) (too_many size) (not (count == n * size)) (validity_differs validity n) TooManyRows Width ChildLength ValidityLength m (ap not (eq-eqb count (n * size) fills)) kept is
+blocks_past s size vs n count validity m fit same long covers is = grind (arith, common_steps, blocks_long, fits, block_long, no_difference, first_of_four, eq-eqb)
 
 -- Too many child rows exceed a limit.
 pub blocks_many : (b : NullSlots) (s : Shape) (size n : ℕ) (vs : List Value) → list_all (fits (of_fixed_size_list s size)) vs ≡ true → n ≡ length vs → max_rows < n * size → exceeds_limit b s (flat_map (block_in size) vs) ≡ true
-blocks_many b s size n vs fit same many =
-    let count = blocks_count s size n vs fit same in
-    let more : max_rows < length (flat_map (block_in size) vs) = omega (arith, count, many) in
-    many_past b s (flat_map (block_in size) vs) (grind (arith, nat_tests, more))
+blocks_many b s size n vs fit same many = grind (arith, common_steps, blocks_count, many_past, nat_tests)
 
 -- Child rows of the null type are as many nulls.
 pub blocks_null : (size n : ℕ) (vs : List Value) → list_all (fits (of_fixed_size_list of_null size)) vs ≡ true → n ≡ length vs → replicate (n * size) Null ≡ flat_map (block_in size) vs
-blocks_null size n vs fit same =
-    ap (λ k. replicate k Null) (sym (blocks_count of_null size n vs fit same))
-    ∙ all_nulls (flat_map (block_in size) vs) (all_below (block_in size) (fits (of_fixed_size_list of_null size)) (fits of_null) (block_below of_null size) vs fit)
+blocks_null size n vs fit same = grind (arith, common_steps, blocks_count, all_nulls, all_below, fits, block_below)
 
 -- The same if their number has more than 64 bits.
 pub blocks_wide : (b : NullSlots) (s : Shape) (size n : ℕ) (vs : List Value) → list_all (fits (of_fixed_size_list s size)) vs ≡ true → n ≡ length vs → (n * size < 18446744073709551616 → ⊥) → exceeds_limit b s (flat_map (block_in size) vs) ≡ true

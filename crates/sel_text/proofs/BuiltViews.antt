@@ -1,8 +1,7 @@
 -- Views into one data buffer that grows.
 use Rattle.std.proofs.Common.{◌≡◌, ℕ, ◌+◌, ◌≤◌, ◌<◌, Bool, true, false, cond, Bor, List, [], ◌∷◌, ◌++◌, length, take, drop, map, arith, refl, ap, sym, subst, ◌∙◌, length-append, leb, IsTrue, leb-true, ltb-true}
-use Rattle.sel_text.proofs.Common.{list_all, nat_tests, map-append, length-map, take-append-drop, max_buffer_bytes, Value, Null, Bytes, Shape, all_placed, inline_bytes, view_of, view_value, View, and_first, and_second, fits as fits_type, item_value, rows_read, all_placed_bytes, bytes_placed, exceeds_max, bytes_behind, bytes_stored, NullSlots, Item}
+use Rattle.sel_text.proofs.Common.{common_steps, list_all, nat_tests, map-append, length-map, take-append-drop, max_buffer_bytes, Value, Bytes, Shape, all_placed, inline_bytes, view_of, view_value, View, and_first, and_second, fits as fits_type, item_value, rows_read, all_placed_bytes, bytes_placed, exceeds_max, bytes_behind, bytes_stored, NullSlots, Item}
 use Rattle.sel_arrow.proofs.GrownViews.{Named, far_new, near_new, placed_more}
-use Rattle.sel_text.specs.declared.build.NullSlots.TheVariants.{Zeros, Others}
 use Rattle.sel_text.proofs.Shown.{IsOfBytes, stored_bytes}
 
 -- ---- the view of the bytes that are appended
@@ -50,14 +49,7 @@ views_count store views ps so = sym (length-map views (view_value (store ∷ [])
 -- ---- the number of bytes that rows need in the data buffer
 
 bytes_in_row : (s : Shape) → IsOfBytes s → (beneath : NullSlots) (row : Value) → fits_type s row ≡ true → length (bytes_behind (bytes_stored beneath row)) ≡ bytes_placed row
-bytes_in_row s of Zeros Null fit = refl
-bytes_in_row s of Others Null fit = refl
-bytes_in_row s of beneath (Bytes bs) fit = decided (leb (length bs) 12)
-  where
-    decided : (b : Bool) → length (cond b [] bs) ≡ cond b 0 (length bs)
-    decided true = refl
-    decided false = refl
-bytes_in_row s of beneath row fit = absurd (let other = (of row fit refl).1 in cc)
+bytes_in_row s of beneath row fit = grind (arith, common_steps)
 
 all_in_rows : (s : Shape) → IsOfBytes s → (beneath : NullSlots) (items : List (Bor Item)) → list_all (fits_type s) (rows_read items) ≡ true → total_behind (stored_bytes beneath items) ≡ all_placed_bytes (rows_read items)
 all_in_rows s of beneath [] fit = refl
@@ -85,8 +77,4 @@ past_bytes s of beneath items i store p views fit so next past =
 -- The rows need no more bytes than the data buffer has.
 pub bytes_within : (s : Shape) → IsOfBytes s → (beneath : NullSlots) (items : List (Bor Item)) (store : List ℕ) (views : List View) → list_all (fits_type s) (rows_read items) ≡ true →
     Views store views (stored_bytes beneath items) → length store ≤ max_buffer_bytes → exceeds_max (all_placed_bytes (rows_read items)) ≡ false
-bytes_within s of beneath items store views fit so few =
-    let all = all_in_rows s of beneath items fit in
-    let held = so.held in
-    let small : all_placed_bytes (rows_read items) ≤ max_buffer_bytes = omega (arith, all, held, few) in
-    grind (arith, nat_tests, small)
+bytes_within s of beneath items store views fit so few = grind (arith, common_steps, all_in_rows, nat_tests)

@@ -1,6 +1,6 @@
 -- One row of a column with children.
 use Rattle.std.proofs.Common.{◌≡◌, ℕ, ◌+◌, ◌-◌, ◌*◌, ◌≤◌, ◌<◌, true, false, All, List, [], length, map, Option, Vec, Box, Global, ap, sym, ◌∙◌, arith, get_or, IsTrue}
-use Rattle.sel_text.proofs.Common.{slice_range, range_with_len, is_utf8, All-weaker, max_rows, Bits, Covers, valid_at, list_of, struct_at, blocks, pieces, rows_between, rows, row_count, type_of, well_formed, IsWellFormed, IsField, shapes_of, Null, Column, LargeList, FixedSizeList, Struct, utf8view_rows, is_text, is_placed, view_bytes, view_rows, View, all_at, HasCellRow, part_shapes}
+use Rattle.sel_text.proofs.Common.{slice_range, range_with_len, is_utf8, All-weaker, max_rows, Bits, valid_at, list_of, struct_at, blocks, pieces, rows_between, rows, row_count, type_of, well_formed, IsWellFormed, IsField, shapes_of, Null, Column, LargeList, FixedSizeList, Struct, utf8view_rows, is_text, is_placed, view_bytes, view_rows, View, all_at, HasCellRow, part_shapes}
 use Rattle.std.specs.Option.{ForSome}
 use Rattle.std.proofs.lemmas.List.FromFn.{get_or-map-range_with_len, length-range_with_len, get_or-range_with_len}
 use Rattle.std.proofs.Math.Nat.{mul-le-mul_right}
@@ -21,22 +21,16 @@ module _ (c : Column) (offsets : List ℕ) (values : Box Column Global) (validit
   pub list_inside : i < rows_between offsets
   list_inside = let count = length-rows c in let same = ap row_count is in omega (arith, row.1, count, same)
 
-  list_count : i < length (pieces offsets (rows values.value))
-  list_count = rw length-pieces list_inside
-
-  list_covers : Covers validity (length (pieces offsets (rows values.value)))
-  list_covers = λ v there. rw length-pieces (list_has.covered v there)
-
   pub list_covered : ForSome validity (λ v. i < length v.bits)
   list_covered = λ v there. let same = list_has.covered v there in omega (arith, same, list_inside)
 
   pub list_valid : valid_at validity i ≡ true → list_of (slice_range (rows values.value) (get_or offsets i 0) (get_or offsets (i + 1) 0)) ≡ get_or (rows c) i Null
   list_valid valid =
-      sym (ap (λ x. get_or (rows x) i Null) is ∙ valid_mapped list_of (pieces offsets (rows values.value)) validity i [] valid list_count list_covers
+      sym (ap (λ x. get_or (rows x) i Null) is ∙ valid_mapped list_of (pieces offsets (rows values.value)) validity i [] valid (rw length-pieces list_inside) (λ v there. rw length-pieces (list_has.covered v there))
       ∙ ap list_of (get_or-pieces offsets (rows values.value) i list_inside))
 
   pub list_null : valid_at validity i ≡ false → Null ≡ get_or (rows c) i Null
-  list_null hidden = sym (ap (λ x. get_or (rows x) i Null) is ∙ null_mapped list_of (pieces offsets (rows values.value)) validity i hidden list_count list_covers)
+  list_null hidden = sym (ap (λ x. get_or (rows x) i Null) is ∙ null_mapped list_of (pieces offsets (rows values.value)) validity i hidden (rw length-pieces list_inside) (λ v there. rw length-pieces (list_has.covered v there)))
 
   pub list_bounds : IsWellFormed values.value × (get_or offsets i 0 ≤ get_or offsets (i + 1) 0) × (get_or offsets (i + 1) 0 ≤ length (rows values.value))
   list_bounds =
@@ -58,22 +52,16 @@ module _ (c : Column) (size len : ℕ) (values : Box Column Global) (validity : 
   block_inside : i < len
   block_inside = let count = length-rows c in let same = ap row_count is in omega (arith, row.1, count, same)
 
-  block_count : i < length (blocks size len (rows values.value))
-  block_count = rw length-blocks block_inside
-
-  block_covers : Covers validity (length (blocks size len (rows values.value)))
-  block_covers = λ v there. rw length-blocks (block_has.covered v there)
-
   pub block_covered : ForSome validity (λ v. i < length v.bits)
   block_covered = λ v there. let same = block_has.covered v there in omega (arith, same, block_inside)
 
   pub block_valid : valid_at validity i ≡ true → list_of (slice_range (rows values.value) (i * size) (i * size + size)) ≡ get_or (rows c) i Null
   block_valid valid =
-      sym (ap (λ x. get_or (rows x) i Null) is ∙ valid_mapped list_of (blocks size len (rows values.value)) validity i [] valid block_count block_covers
+      sym (ap (λ x. get_or (rows x) i Null) is ∙ valid_mapped list_of (blocks size len (rows values.value)) validity i [] valid (rw length-blocks block_inside) (λ v there. rw length-blocks (block_has.covered v there))
       ∙ ap list_of (get_or-map-range_with_len (λ k. slice_range (rows values.value) (k * size) (k * size + size)) 0 len i i [] block_inside (omega arith)))
 
   pub block_null : valid_at validity i ≡ false → Null ≡ get_or (rows c) i Null
-  block_null hidden = sym (ap (λ x. get_or (rows x) i Null) is ∙ null_mapped list_of (blocks size len (rows values.value)) validity i hidden block_count block_covers)
+  block_null hidden = sym (ap (λ x. get_or (rows x) i Null) is ∙ null_mapped list_of (blocks size len (rows values.value)) validity i hidden (rw length-blocks block_inside) (λ v there. rw length-blocks (block_has.covered v there)))
 
   block_end : i * size + size ≤ length (rows values.value)
   block_end =
@@ -98,28 +86,19 @@ module _ (c : Column) (len : ℕ) (fields : Vec Column Global) (validity : Optio
   tuple_inside : i < len
   tuple_inside = let count = length-rows c in let same = ap row_count is in omega (arith, row.1, count, same)
 
-  tuple_count : i < length (range_with_len 0 len)
-  tuple_count = rw length-range_with_len tuple_inside
-
-  tuple_covers : Covers validity (length (range_with_len 0 len))
-  tuple_covers = λ v there. rw length-range_with_len (tuple_has.covered v there)
-
   pub tuple_covered : ForSome validity (λ v. i < length v.bits)
   tuple_covered = λ v there. let same = tuple_has.covered v there in omega (arith, same, tuple_inside)
-
-  zero_more : 0 + i ≡ i
-  zero_more = omega arith
 
   pub tuple_valid : valid_at validity i ≡ true → struct_at (map rows fields.items) i ≡ get_or (rows c) i Null
   tuple_valid valid =
       sym (ap (λ x. get_or (rows x) i Null) is ∙ ap (λ l. get_or l i Null) (rows-Struct len fields validity)
-      ∙ valid_mapped (struct_at (map rows fields.items)) (range_with_len 0 len) validity i 0 valid tuple_count tuple_covers
-      ∙ ap (struct_at (map rows fields.items)) (get_or-range_with_len 0 len i 0 tuple_inside ∙ zero_more))
+      ∙ valid_mapped (struct_at (map rows fields.items)) (range_with_len 0 len) validity i 0 valid (rw length-range_with_len tuple_inside) (λ v there. rw length-range_with_len (tuple_has.covered v there))
+      ∙ ap (struct_at (map rows fields.items)) (get_or-range_with_len 0 len i 0 tuple_inside ∙ (let same : 0 + i ≡ i = omega arith in same)))
 
   pub tuple_null : valid_at validity i ≡ false → Null ≡ get_or (rows c) i Null
   tuple_null hidden =
       sym (ap (λ x. get_or (rows x) i Null) is ∙ ap (λ l. get_or l i Null) (rows-Struct len fields validity)
-      ∙ null_mapped (struct_at (map rows fields.items)) (range_with_len 0 len) validity i hidden tuple_count tuple_covers)
+      ∙ null_mapped (struct_at (map rows fields.items)) (range_with_len 0 len) validity i hidden (rw length-range_with_len tuple_inside) (λ v there. rw length-range_with_len (tuple_has.covered v there)))
 
   pub tuple_fields : All (HasCellRow i) fields.items
   tuple_fields = All-weaker (IsField len) (HasCellRow i) (λ field fit. (fit.1, let count = length-rows field in let same = fit.0 in let inside = tuple_inside in omega (arith, count, same, inside))) fields.items tuple_has.fields

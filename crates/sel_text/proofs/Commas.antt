@@ -1,6 +1,6 @@
 -- Parts followed by commas, as they are parsed.
-use Rattle.std.proofs.Common.{◌≡◌, ◌≢◌, ℕ, List, [], ◌∷◌, ◌++◌, refl, ap, sym, ◌∙◌, append_assoc, append-nil}
-use Rattle.sel_text.proofs.Common.{flat_map, join_with_byte, flat_map-append}
+use Rattle.std.proofs.Common.{arith, ◌≡◌, ◌≢◌, ℕ, List, [], ◌∷◌, ◌++◌, refl, sym, ◌∙◌, append_assoc, append-nil}
+use Rattle.sel_text.proofs.Common.{common_steps, flat_map, join_with_byte, flat_map-append}
 
 -- The parts from the second on, each after a comma, then the closing bracket and a rest.
 abbrev pub after : ℕ → List (List ℕ) → List ℕ → List ℕ
@@ -14,14 +14,10 @@ inside close (x ∷ xs) r = x ++ after close xs r
 
 joined_after : (close : ℕ) (x : List ℕ) (xs : List (List ℕ)) (r : List ℕ) → (join_with_byte 44 (x ∷ xs) ++ close ∷ []) ++ r ≡ x ++ after close xs r
 joined_after close x [] r = append_assoc x (close ∷ []) r
-joined_after close x (y ∷ xs) r =
-    append_assoc (x ++ (44 ∷ join_with_byte 44 (y ∷ xs))) (close ∷ []) r
-    ∙ append_assoc x (44 ∷ join_with_byte 44 (y ∷ xs)) (close ∷ r)
-    ∙ ap (λ l. x ++ (44 ∷ l)) (sym (append_assoc (join_with_byte 44 (y ∷ xs)) (close ∷ []) r) ∙ joined_after close y xs r)
+joined_after close x (y ∷ xs) r = grind (arith, common_steps, (joined_after close y xs r))
 
 pub joined_inside : (close : ℕ) (xs : List (List ℕ)) (r : List ℕ) → (join_with_byte 44 xs ++ close ∷ []) ++ r ≡ inside close xs r
-joined_inside close [] r = refl
-joined_inside close (x ∷ xs) r = joined_after close x xs r
+joined_inside close x1 r = grind (arith, common_steps, joined_after)
 
 -- A closing bracket or a comma follows each part.
 pub bracket_or_comma : (close : ℕ) (texts : List (List ℕ)) (next more : List ℕ) → next ≡ after close texts more → ((end : List ℕ) → next ≢ close ∷ end) → ((rest : List ℕ) → next ≢ 44 ∷ rest) → ⊥
@@ -36,18 +32,13 @@ commas parts = flat_map (λ part. part ++ 44 ∷ []) parts
 pub joined : (parts : List (List ℕ)) (part : List ℕ) → join_with_byte 44 (parts ++ part ∷ []) ≡ commas parts ++ part
 joined [] part = refl
 joined (x ∷ []) part = sym (append_assoc (x ++ 44 ∷ []) [] part ∙ append_assoc x (44 ∷ []) part)
-joined (x ∷ y ∷ parts) part =
-    ap (λ rest. x ++ (44 ∷ rest)) (joined (y ∷ parts) part) ∙ sym (append_assoc (x ++ 44 ∷ []) (commas (y ∷ parts)) part ∙ append_assoc x (44 ∷ []) (commas (y ∷ parts) ++ part))
+joined (x ∷ y ∷ parts) part = grind (arith, common_steps, (joined (y ∷ parts) part))
 
 -- One more part, followed by a comma.
 pub comma_more : (parts more : List (List ℕ)) (part all rest behind : List ℕ) → more ≡ parts ++ part ∷ [] → all ≡ commas parts ++ rest → rest ≡ part ++ (44 ∷ behind) → all ≡ commas more ++ behind
-comma_more parts more part all rest behind grown before here =
-    let whole : commas more ≡ commas parts ++ (part ++ 44 ∷ []) = ap commas grown ∙ flat_map-append (λ p. p ++ 44 ∷ []) parts (part ∷ []) ∙ ap (λ l. commas parts ++ l) (append-nil (part ++ 44 ∷ [])) in
-    before ∙ ap (λ l. commas parts ++ l) (here ∙ sym (append_assoc part (44 ∷ []) behind)) ∙ sym (append_assoc (commas parts) (part ++ 44 ∷ []) behind) ∙ ap (λ l. l ++ behind) (sym whole)
+comma_more parts more part all rest behind grown before here = grind (arith, common_steps, flat_map-append, append-nil)
 
 -- The last part, followed by the closing bracket.
 pub comma_last : (first close : ℕ) (parts more : List (List ℕ)) (part all rest behind : List ℕ) → more ≡ parts ++ part ∷ [] → all ≡ commas parts ++ rest → rest ≡ part ++ (close ∷ behind) →
     first ∷ all ≡ (first ∷ join_with_byte 44 more ++ close ∷ []) ++ behind
-comma_last first close parts more part all rest behind grown before here =
-    let whole : join_with_byte 44 more ≡ commas parts ++ part = ap (join_with_byte 44) grown ∙ joined parts part in
-    ap (λ l. first ∷ l) (before ∙ ap (λ l. commas parts ++ l) here ∙ sym (append_assoc (commas parts) part (close ∷ behind)) ∙ ap (λ l. l ++ (close ∷ behind)) (sym whole) ∙ sym (append_assoc (join_with_byte 44 more) (close ∷ []) behind))
+comma_last first close parts more part all rest behind grown before here = grind (arith, common_steps, joined)

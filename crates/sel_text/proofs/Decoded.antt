@@ -1,6 +1,6 @@
 -- Printed digits, and printed bytes in quotes, parse to the original.
-use Rattle.std.proofs.Common.{◌≡◌, ◌≢◌, ℕ, ℤ, pos, negsuc, suc, ◌+◌, ◌-◌, ◌*◌, ◌^◌, ◌/◌, ◌%◌, ◌<◌, false, List, [], ◌∷◌, ◌++◌, length, refl, ap, sym, ◌∙◌, arith, append_assoc, nat_lt, ◌==◌, if◌then◌else◌}
-use Rattle.sel_text.proofs.Common.{digit_char, digit_value, decimal, signed_decimal, mag, flat_map, AllDigits, digits_value, nat_tests, decimal_is_IsNumeral_wide, NoDigit, escaped, hex_byte}
+use Rattle.std.proofs.Common.{◌≡◌, ◌≢◌, ℕ, ℤ, pos, negsuc, ◌+◌, ◌-◌, ◌*◌, ◌^◌, ◌/◌, ◌%◌, ◌<◌, List, [], ◌∷◌, ◌++◌, length, refl, ap, sym, ◌∙◌, arith, append_assoc, nat_lt, ◌==◌, if◌then◌else◌}
+use Rattle.sel_text.proofs.Common.{common_steps, digit_char, decimal, signed_decimal, mag, flat_map, AllDigits, digits_value, nat_tests, decimal_is_IsNumeral_wide, NoDigit, escaped, hex_byte}
 use Rattle.sel_text.proofs.Ends.{digits_apart, few_digits}
 use Rattle.sel_text.proofs.Escapes.{each_escape}
 
@@ -16,24 +16,13 @@ decimal_apart m n r t sm sn nr nt e =
 -- Digits never begin with a minus sign.
 pub no_minus : (a r t : List ℕ) → 0 < length a → AllDigits 10 a → a ++ r ≡ 45 ∷ t → ⊥
 no_minus [] r t some da e = omega arith
-no_minus (x ∷ a) r t some da e =
-    let same : x ≡ 45 = cc in
-    let one = ap digit_value same in
-    omega (arith, one, da.0)
+no_minus (x ∷ a) r t some da e = grind (arith, common_steps)
 
 pub signed_apart : (y z : ℤ) (r t : List ℕ) → mag y < 2 ^ 128 → mag z < 2 ^ 128 → NoDigit r → NoDigit t → signed_decimal y ++ r ≡ signed_decimal z ++ t → (y ≡ z) × (r ≡ t)
 signed_apart (pos m) (pos n) r t sm sn nr nt e = let parts = decimal_apart m n r t (omega arith) (omega arith) nr nt e in (ap pos parts.0, parts.1)
-signed_apart (pos m) (negsuc n) r t sm sn nr nt e =
-    let dm = decimal_is_IsNumeral_wide m (few_digits m (omega arith)) in
-    absurd (no_minus (decimal m) r (decimal (suc n) ++ t) dm.0.0 dm.0.1 e)
-signed_apart (negsuc m) (pos n) r t sm sn nr nt e =
-    let dn = decimal_is_IsNumeral_wide n (few_digits n (omega arith)) in
-    absurd (no_minus (decimal n) t (decimal (suc m) ++ r) dn.0.0 dn.0.1 (sym e))
-signed_apart (negsuc m) (negsuc n) r t sm sn nr nt e =
-    let rest : decimal (suc m) ++ r ≡ decimal (suc n) ++ t = cc in
-    let parts = decimal_apart (suc m) (suc n) r t (omega arith) (omega arith) nr nt rest in
-    let same : m ≡ n = omega (arith, parts.0) in
-    (ap negsuc same, parts.1)
+signed_apart (pos m) (negsuc n) r t sm sn nr nt e = grind (arith, nat_tests, decimal_is_IsNumeral_wide, few_digits, no_minus)
+signed_apart (negsuc m) (pos n) r t sm sn nr nt e = grind (arith, nat_tests, decimal_is_IsNumeral_wide, few_digits, no_minus)
+signed_apart (negsuc m) (negsuc n) r t sm sn nr nt e = grind (arith, common_steps, decimal_apart)
 
 -- ---- bytes in hexadecimal
 
@@ -63,9 +52,6 @@ hex_apart (b ∷ bs) (c ∷ cs) r t e =
 abbrev pub hex_value : ℕ → ℕ
 hex_value c = if nat_lt c 58 then c - 48 else c - 87
 
-hex_value_back : (d : ℕ) → d < 16 → hex_value (digit_char d) ≡ d
-hex_value_back d small = grind (arith, nat_tests)
-
 -- The four digits after `\u` as a byte.
 abbrev pub read_hex : List ℕ → ℕ × List ℕ
 read_hex (a ∷ b ∷ c ∷ d ∷ rest) = (16 * hex_value c + hex_value d, rest)
@@ -92,14 +78,10 @@ abbrev pub one_then : ℕ → List ℕ → ℕ × List ℕ
 one_then a r = (a, r)
 
 plain_read : (a : ℕ) (r : List ℕ) → a ≢ 92 → read_one (a ∷ r) ≡ one_then a r
-plain_read a [] not = refl
-plain_read a (d ∷ r) not = let other : (a == 92) ≡ false = grind (arith, nat_tests, not) in ap (λ t. if t then read_escape d r else (a, d ∷ r)) other
+plain_read a x1 not = grind (arith, nat_tests)
 
 low_value : (a : ℕ) → a < 32 → 16 * hex_value (digit_char (a / 16)) + hex_value (digit_char (a % 16)) ≡ a
-low_value a low =
-    let h = hex_value_back (a / 16) (omega arith) in
-    let l = hex_value_back (a % 16) (omega arith) in
-    omega (arith, h, l)
+low_value a low = grind (arith, nat_tests)
 
 -- An escape parses to the byte.
 pub read_escaped : (a : ℕ) (r : List ℕ) → read_one (escaped a ++ r) ≡ one_then a r

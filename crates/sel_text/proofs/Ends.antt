@@ -1,21 +1,15 @@
 -- Decimal numbers, and the bytes after them.
-use Rattle.std.proofs.Common.{◌≡◌, inl, inr, ◌≢◌, ℕ, zero, suc, ◌/◌, ◌^◌, ◌≤◌, ◌<◌, List, [], ◌∷◌, ◌++◌, length, take, drop, get_or, refl, ap, sym, ◌∙◌, arith, lit<, length-take, subst, get_or-take, take-append-drop}
+use Rattle.std.proofs.Common.{◌≡◌, inl, inr, ◌≢◌, ℕ, zero, suc, ◌/◌, ◌^◌, ◌≤◌, ◌<◌, List, [], ◌∷◌, ◌++◌, length, take, drop, get_or, refl, ap, sym, ◌∙◌, arith, lit<, length-take, get_or-take, take-append-drop}
 use Rattle.std.proofs.lemmas.Bool.{cases_lt}
-use Rattle.sel_text.proofs.Common.{digit_value, decimal, AllDigits, IsNumeral, digits_value, decimal_is_IsNumeral_wide, decimal_digit, decimal_step_wide, NoDigit}
+use Rattle.sel_text.proofs.Common.{common_steps, decimal, AllDigits, IsNumeral, digits_value, decimal_is_IsNumeral_wide, decimal_digit, decimal_step_wide, NoDigit}
 use Rattle.std.proofs.Math.ListN.{get_or-append}
 
 pub digits_apart : (a b r t : List ℕ) → AllDigits 10 a → AllDigits 10 b → NoDigit r → NoDigit t → a ++ r ≡ b ++ t → (a ≡ b) × (r ≡ t)
 digits_apart [] [] r t da db nr nt e = (refl, e)
 digits_apart [] (y ∷ b) [] t da db nr nt e = cc
-digits_apart [] (y ∷ b) (c ∷ r) t da db nr nt e =
-    let same : c ≡ y = cc in
-    let one = ap digit_value same in
-    absurd (omega (arith, one, nr, db.0))
+digits_apart [] (y ∷ b) (c ∷ r) t da db nr nt e = grind (arith, common_steps)
 digits_apart (x ∷ a) [] r [] da db nr nt e = cc
-digits_apart (x ∷ a) [] r (c ∷ t) da db nr nt e =
-    let same : x ≡ c = cc in
-    let one = ap digit_value same in
-    absurd (omega (arith, one, nt, da.0))
+digits_apart (x ∷ a) [] r (c ∷ t) da db nr nt e = grind (arith, common_steps)
 digits_apart (x ∷ a) (y ∷ b) r t da db nr nt e =
     let same : x ≡ y = cc in
     let rest : a ++ r ≡ b ++ t = cc in
@@ -65,11 +59,7 @@ digits_told n bytes digits rest more small parts all end ends is =
 
 -- No decimal number is empty.
 pub no_numeral : (bytes : List ℕ) (count : ℕ) → count ≡ 0 → NoDigit (drop count bytes) → (n : ℕ) (more : List ℕ) → n < 2 ^ 128 → NoDigit more → bytes ≢ decimal n ++ more
-no_numeral bytes count none end n more small ends begins =
-    let told = numeral_told bytes [] bytes refl tt (subst NoDigit (ap (λ k. drop k bytes) none) end) n more small ends begins in
-    let long = ap length told.0 in
-    let has = (numeral_has n small).0 in
-    omega (arith, long, has)
+no_numeral bytes count none end n more small ends begins = grind (arith, common_steps, numeral_told, numeral_has)
 
 -- No decimal number has a leading zero.
 pub zero_first : (bytes : List ℕ) (count : ℕ) → count ≤ length bytes → AllDigits 10 (take count bytes) → NoDigit (drop count bytes) → 1 < count → get_or bytes 0 0 ≡ 48 →

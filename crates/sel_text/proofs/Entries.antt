@@ -1,6 +1,6 @@
 -- The values of lists and structs that are still to be parsed.
-use Rattle.std.proofs.Common.{◌≡◌, ◌≢◌, ℕ, zero, suc, ◌+◌, ◌≤◌, ◌<◌, true, true≢false, List, [], ◌∷◌, ◌++◌, length, drop, map, get_or, refl, ap, sym, ◌∙◌, arith, append_assoc, append-nil, length-append, subst}
-use Rattle.sel_text.proofs.Common.{drop_more, drop_all, shape_of, Shape, Shapes, no_shapes, next_shape, shapes_of, Value, Values, no_values, next_value, listed, ArrowDataType, and_first, and_second, fits, all_fit, fields_fit, bracketed, item_texts, parenthesized, part_texts, value_text}
+use Rattle.std.proofs.Common.{add-one, ◌≡◌, ◌≢◌, ℕ, zero, suc, ◌+◌, ◌≤◌, ◌<◌, true, true≢false, List, [], ◌∷◌, ◌++◌, length, drop, map, get_or, refl, ap, sym, ◌∙◌, arith, append_assoc, append-nil}
+use Rattle.sel_text.proofs.Common.{nat_tests, common_steps, drop_more, drop_all, shape_of, Shape, Shapes, next_shape, shapes_of, Value, Values, no_values, next_value, listed, ArrowDataType, and_first, and_second, fits, all_fit, fields_fit, bracketed, item_texts, parenthesized, part_texts, value_text}
 use Rattle.sel_text.specs.Readings.{BeginsWith}
 use Rattle.sel_text.proofs.Commas.{after, inside, joined_inside}
 use Rattle.sel_text.proofs.Told.{after_no_digit, no_value}
@@ -60,18 +60,11 @@ some_after close [] more = omega arith
 some_after close (x ∷ texts) more = omega arith
 
 pub not_ended : (s : Shape) (all read : List Value) (rest more : List ℕ) → IsLeft s all read rest more → length rest ≡ 0 → ⊥
-not_ended s all read rest more left none =
-    let long = ap length left.text in
-    let parts = length-append (value_text s left.first) (after 93 (item_texts s left.others) more) in
-    let some = some_after 93 (item_texts s left.others) more in
-    omega (arith, none, long, parts, some)
+not_ended s all read rest more left none = grind (arith, common_steps, some_after)
 
 -- Each value takes at least one byte.
 pub less_room : (s : Shape) (all read : List Value) (rest next behind more : List ℕ) → (left : IsLeft s all read rest more) → next ≡ after 93 (item_texts s left.others) more → next ≡ 44 ∷ behind → length behind < length rest
-less_room s all read rest next behind more left is comma =
-    let long = ap length (left.text ∙ ap (λ l. value_text s left.first ++ l) (sym is ∙ comma)) in
-    let parts = length-append (value_text s left.first) (44 ∷ behind) in
-    omega (arith, long, parts)
+less_room s all read rest next behind more left is comma = grind (arith, common_steps)
 
 -- ---- structs
 
@@ -104,14 +97,7 @@ has_part s ss all read place rest more has = go has.others has.whole has.fit has
   where
     go : (vs : Values) → read ++ listed vs ≡ all → fields_fit (next_shape s ss) vs ≡ true → rest ≡ parts_from place (part_texts (next_shape s ss) vs) more → HasPart s ss all read place rest more
     go no_values whole fit is = absurd (true≢false (sym fit))
-    go (next_value v vs) whole fit is = record {
-      first = v;
-      others = vs;
-      whole = whole;
-      fit = and_first (fits s v) (fields_fit ss vs) fit;
-      others_fit = and_second (fits s v) (fields_fit ss vs) fit;
-      text = is;
-    }
+    go (next_value v vs) whole fit is = grind (arith, common_steps, and_first, fits, and_second)
 
 -- The types from a position on.
 abbrev pub shapes_from : ℕ → List ArrowDataType → Shapes
@@ -119,9 +105,7 @@ shapes_from place dtypes = shapes_of (map shape_of (drop place dtypes))
 
 pub part_left : (dtypes : List ArrowDataType) (all read : List Value) (place : ℕ) (dtype : ArrowDataType) (rest more : List ℕ) → place < length dtypes → dtype ≡ get_or dtypes place dtype →
     HasParts (shapes_from place dtypes) all read place rest more → HasPart (shape_of dtype) (shapes_from (place + 1) dtypes) all read place rest more
-part_left dtypes all read place dtype rest more there is has =
-    let here : drop place dtypes ≡ dtype ∷ drop (place + 1) dtypes = drop_more dtypes place dtype there ∙ ap (λ d. d ∷ drop (place + 1) dtypes) (sym is) in
-    has_part (shape_of dtype) (shapes_from (place + 1) dtypes) all read place rest more (subst (λ ds. HasParts (shapes_of (map shape_of ds)) all read place rest more) here has)
+part_left dtypes all read place dtype rest more there is has = grind (arith, common_steps, drop_more, has_part)
 
 -- A comma precedes each part but the first.
 pub comma_before : (place : ℕ) (text : List ℕ) (texts : List (List ℕ)) (rest more : List ℕ) → 0 < place → rest ≡ parts_from place (text ∷ texts) more → ((next : List ℕ) → rest ≢ 44 ∷ next) → ⊥
@@ -134,30 +118,12 @@ part_text zero text texts rest next more first other is = first refl ∙ is
 part_text (suc place) text texts rest next more first other is = ap (drop 1) (sym (other (omega arith)) ∙ is)
 
 pub part_begins : (s : Shape) (ss : Shapes) (all read : List Value) (place : ℕ) (rest next more : List ℕ) → (part : HasPart s ss all read place rest more) → (place ≡ 0 → next ≡ rest) → (0 < place → rest ≡ 44 ∷ next) → BeginsWith s part.first next (after 41 (part_texts ss part.others) more)
-part_begins s ss all read place rest next more part first other = record {
-  fit = part.fit;
-  end = after_no_digit 41 (part_texts ss part.others) more (omega arith);
-  whole = part_text place (value_text s part.first) (part_texts ss part.others) rest next more first other part.text;
-}
+part_begins s ss all read place rest next more part first other = grind (arith, common_steps, after_no_digit, part_text)
 
 pub part_read : (s : Shape) (ss : Shapes) (all read : List Value) (place : ℕ) (rest next more : List ℕ) → (part : HasPart s ss all read place rest more) → next ≡ after 41 (part_texts ss part.others) more →
     HasParts ss all (read ++ part.first ∷ []) (place + 1) next more
-part_read s ss all read place rest next more part is = record { others = part.others; whole = append_assoc read (part.first ∷ []) (listed part.others) ∙ part.whole; fit = part.others_fit; text = later place is }
-  where
-    later : (k : ℕ) → next ≡ after 41 (part_texts ss part.others) more → next ≡ parts_from (k + 1) (part_texts ss part.others) more
-    later zero is = is
-    later (suc k) is = let one : suc (suc k) ≡ suc k + 1 = omega arith in subst (λ n. next ≡ parts_from n (part_texts ss part.others) more) one is
+part_read s ss all read place rest next more part is = record { others = part.others; whole = append_assoc read (part.first ∷ []) (listed part.others) ∙ part.whole; fit = part.others_fit; text = rw add-one is }
 
 -- The closing bracket follows the last part.
 pub parts_end : (dtypes : List ArrowDataType) (all read : List Value) (place : ℕ) (rest more : List ℕ) → length dtypes ≤ place → HasParts (shapes_from place dtypes) all read place rest more → (read ≡ all) × (rest ≡ 41 ∷ more)
-parts_end dtypes all read place rest more past has =
-    let none : drop place dtypes ≡ [] = drop_all place dtypes past in
-    go place (subst (λ ds. HasParts (shapes_of (map shape_of ds)) all read place rest more) none has)
-  where
-    closed : (place : ℕ) (vs : Values) → read ++ listed vs ≡ all → fields_fit no_shapes vs ≡ true → rest ≡ parts_from place (part_texts no_shapes vs) more → (read ≡ all) × (rest ≡ 41 ∷ more)
-    closed zero no_values whole fit is = (sym (append-nil read) ∙ whole, is)
-    closed (suc place) no_values whole fit is = (sym (append-nil read) ∙ whole, is)
-    closed place (next_value v vs) whole fit is = absurd (true≢false (sym fit))
-
-    go : (place : ℕ) → HasParts no_shapes all read place rest more → (read ≡ all) × (rest ≡ 41 ∷ more)
-    go place has = closed place has.others has.whole has.fit has.text
+parts_end dtypes all read place rest more past has = grind (arith, nat_tests, drop_all, append-nil)

@@ -2,7 +2,7 @@
 use Rattle.std.proofs.Common.{◌≡◌, ◌≢◌, ℕ, ◌+◌, ◌-◌, ◌≤◌, ◌<◌, Bool, List, [], ◌∷◌, ◌++◌, length, take, drop, map, refl, ap, sym, ◌∙◌, arith, get_or, length-take, length-drop, ◌↔◌, IsTrue, bytes_eq}
 use Rattle.std.proofs.lemmas.Slice.Eq.{bytes_eq-Decides}
 use Rattle.std.proofs.lemmas.Simd.{map-map}
-use Rattle.sel_text.proofs.Common.{slice_range, take_more, get_or-drop, get_or-take, take_all, rows, Column, list_of, struct_at, Value, Null, Bytes, Items, Tuple, values_of, listed}
+use Rattle.sel_text.proofs.Common.{nat_tests, common_steps, slice_range, take_more, get_or-drop, get_or-take, take_all, rows, Column, list_of, struct_at, Value, Null, Bytes, Items, Tuple, values_of, listed}
 
 -- The result of comparing the stored bytes is whether the rows are equal.
 pub bytes_told : (r : Bool) (bytes seen named : List ℕ) (v : Value) → r ≡ bytes_eq bytes seen → seen ≡ named → v ≡ Bytes named → (IsTrue r ↔ (Bytes bytes ≡ v))
@@ -41,8 +41,7 @@ module _ {A : Type 0} (xs ys : List A) (a b : ℕ) where
       first ∙ ap (λ l. l ++ get_or xs (a + k) d ∷ []) before ∙ ap (λ y. take k (drop b ys) ++ y ∷ []) here ∙ sym second
 
   pub part_at : (n k : ℕ) (d : A) → k < n → take n (drop a xs) ≡ take n (drop b ys) → get_or xs (a + k) d ≡ get_or ys (b + k) d
-  part_at n k d small same =
-      sym (get_or-take n (drop a xs) k d small ∙ get_or-drop a xs k d) ∙ ap (λ l. get_or l k d) same ∙ get_or-take n (drop b ys) k d small ∙ get_or-drop b ys k d
+  part_at n k d small same = grind (arith, nat_tests, get_or-take, get_or-drop)
 
 part_count : {A : Type 0} (xs : List A) (a b : ℕ) → b ≤ length xs → length (slice_range xs a b) ≡ b - a
 part_count xs a b inside = rw (length-take, length-drop) (omega arith)
@@ -55,15 +54,12 @@ lists_differ xs ys a b from to in_xs in_ys differ same =
 -- Parts that differ at a position are not equal.
 pub lists_differ_at : (xs ys : List Value) (a b from to k : ℕ) → b - a ≡ to - from → k < b - a → get_or xs (a + k) Null ≢ get_or ys (from + k) Null →
     list_of (slice_range xs a b) ≡ list_of (slice_range ys from to) → ⊥
-lists_differ_at xs ys a b from to k long small differ same =
-    let one : take (b - a) (drop a xs) ≡ take (b - a) (drop from ys) = list_of_back _ _ same ∙ ap (λ n. take n (drop from ys)) (sym long) in
-    differ (part_at xs ys a from (b - a) k Null small one)
+lists_differ_at xs ys a b from to k long small differ same = grind (arith, nat_tests, list_of_back, part_at)
 
 -- Parts that are equal at each position are equal.
 pub lists_same : (xs ys : List Value) (a b from to k : ℕ) → b - a ≡ to - from → k ≡ b - a → take k (drop a xs) ≡ take k (drop from ys) →
     list_of (slice_range xs a b) ≡ list_of (slice_range ys from to)
-lists_same xs ys a b from to k long all same =
-    ap list_of (ap (λ n. take n (drop a xs)) (sym all) ∙ same ∙ ap (λ n. take n (drop from ys)) (all ∙ long))
+lists_same xs ys a b from to k long all same = grind (arith, common_steps)
 
 -- The whole list as a part.
 pub whole_part : {A : Type 0} (xs : List A) (n : ℕ) → n ≡ length xs → slice_range xs 0 n ≡ xs

@@ -1,7 +1,6 @@
 -- Characters of quoted strings.
-use Rattle.std.proofs.Common.{◌≡◌, inl, inr, ◌≢◌, ℕ, ◌+◌, ◌/◌, ◌≤◌, ◌<◌, true, false, List, [], ◌∷◌, ◌++◌, refl, ap, sym, ◌∙◌, arith, append_assoc, append-nil, nat_lt, ◌==◌, codes, subst}
-use Rattle.std.proofs.lemmas.Bool.{cases_lt, ltb-false, ltb-true}
-use Rattle.sel_text.proofs.Common.{cond_both, flat_map, nat_tests, IsUtf8, chars, flat_map-append, encode_ascii, encodes-append, chars-encodes, escaped, quoted, hex_byte}
+use Rattle.std.proofs.Common.{◌≡◌, ◌≢◌, ℕ, ◌+◌, ◌/◌, ◌≤◌, ◌<◌, true, false, List, [], ◌∷◌, ◌++◌, refl, ap, sym, ◌∙◌, arith, append-nil, nat_lt, ◌==◌, codes, subst}
+use Rattle.sel_text.proofs.Common.{common_steps, cond_both, flat_map, nat_tests, IsUtf8, chars, flat_map-append, encode_ascii, encodes-append, chars-encodes, escaped, quoted, hex_byte}
 use lib.Utf8.{encode, encodes, next}
 
 -- A byte that needs no escape.
@@ -39,10 +38,7 @@ module _ (P : ℕ → List ℕ → Type 0)
 pub encoded : (P : List ℕ → Type 0) (c : ℕ) → 128 ≤ c → (c < 2048 → P ((192 + c / 64) ∷ next c ∷ [])) → (2048 ≤ c → c < 65536 → P ((224 + c / 4096) ∷ next (c / 64) ∷ next c ∷ [])) →
     (65536 ≤ c → P ((240 + c / 262144) ∷ next (c / 4096) ∷ next (c / 64) ∷ next c ∷ [])) → P (encode c)
 unfolding encode
-encoded P c high two three four =
-    cond_both (nat_lt c 128) _ _ P (λ low. absurd (let small = ltb-true c 128 low in omega (arith, high, small))) (λ _.
-    cond_both (nat_lt c 2048) _ _ P (λ few. two (ltb-true c 2048 few)) (λ many.
-    cond_both (nat_lt c 65536) _ _ P (λ few. three (ltb-false c 2048 many) (ltb-true c 65536 few)) (λ most. four (ltb-false c 65536 most))))
+encoded P c high two three four = grind (arith, nat_tests, cond_both)
 
 -- A character from 128 on needs no escape.
 pub high_letter : (c : ℕ) → 128 ≤ c → flat_map escaped (encode c) ≡ encode c
@@ -53,27 +49,16 @@ high_letter c high =
 
 -- A character that needs no escape.
 pub plain_letter : (c : ℕ) → c ≢ 34 → c ≢ 92 → 32 ≤ c → flat_map escaped (encode c) ≡ encode c
-plain_letter c q s high =
-    elim (cases_lt c 128) [
-      | inl low ↦ ap (flat_map escaped) (encode_ascii c low) ∙ ap (λ t. t ++ []) (escaped_plain c q s high) ∙ sym (encode_ascii c low)
-      | inr past ↦ high_letter c past
-    ]
+plain_letter c q s high = grind (arith, nat_tests, encode_ascii, escaped_plain, high_letter)
 
 -- One more character.
 pub letters_more : (entry old new ys : List ℕ) (c : ℕ) → old ≡ entry ++ (34 ∷ flat_map escaped (encodes ys)) → new ≡ old ++ flat_map escaped (encode c) →
     new ≡ entry ++ (34 ∷ flat_map escaped (encodes (ys ++ c ∷ [])))
-letters_more entry old new ys c before now =
-    let one : encodes (c ∷ []) ≡ encode c = append-nil (encode c) in
-    let grown : flat_map escaped (encodes (ys ++ c ∷ [])) ≡ flat_map escaped (encodes ys) ++ flat_map escaped (encode c) =
-    ap (flat_map escaped) (encodes-append ys (c ∷ []) ∙ ap (λ t. encodes ys ++ t) one) ∙ flat_map-append escaped (encodes ys) (encode c) in
-    now ∙ ap (λ t. t ++ flat_map escaped (encode c)) before ∙ append_assoc entry (34 ∷ flat_map escaped (encodes ys)) (flat_map escaped (encode c))
-    ∙ ap (λ t. entry ++ (34 ∷ t)) (sym grown)
+letters_more entry old new ys c before now = grind (arith, common_steps, append-nil, encodes-append, flat_map-append)
 
 -- The characters of a string, encoded.
 pub letters_of : (bs : List ℕ) → IsUtf8 bs → encodes (chars bs) ≡ bs
 letters_of bs u = ap (λ t. encodes (chars t)) (sym u.1.1) ∙ ap encodes (chars-encodes u.0 u.1.0) ∙ u.1.1
 
 pub letters_end : (entry old new ys bytes : List ℕ) → old ≡ entry ++ (34 ∷ flat_map escaped (encodes ys)) → new ≡ old ++ 34 ∷ [] → ys ≡ chars bytes → IsUtf8 bytes → new ≡ entry ++ quoted bytes
-letters_end entry old new ys bytes before now all u =
-    now ∙ ap (λ t. t ++ 34 ∷ []) before ∙ append_assoc entry (34 ∷ flat_map escaped (encodes ys)) (34 ∷ [])
-    ∙ ap (λ t. entry ++ (34 ∷ flat_map escaped t ++ 34 ∷ [])) (ap encodes all ∙ letters_of bytes u)
+letters_end entry old new ys bytes before now all u = grind (arith, common_steps, letters_of)

@@ -1,6 +1,6 @@
 -- The texts of types that are still to be parsed.
 use Rattle.std.proofs.Common.{◌≡◌, ◌≢◌, ℕ, ◌+◌, ◌-◌, ◌<◌, ◌≤◌, true, List, [], ◌∷◌, ◌++◌, map, get_or, drop, refl, ap, sym, ◌∙◌, arith, subst, ◌^◌, nat_lt, IsTrue}
-use Rattle.sel_text.proofs.Common.{nat_tests, map-append, shape_of, Shape, Shapes, no_shapes, next_shape, shapes_of, of_fixed_size_list, of_struct, ArrowDataType, and_first, and_second, both, angled, type_text, type_texts, ReportsLimit, deepest, depth, widths_written, all_widths_written, Fault}
+use Rattle.sel_text.proofs.Common.{common_steps, nat_tests, map-append, shape_of, Shape, Shapes, no_shapes, next_shape, shapes_of, of_fixed_size_list, of_struct, ArrowDataType, and_first, and_second, both, angled, type_text, type_texts, ReportsLimit, deepest, depth, widths_written, all_widths_written, Fault}
 use Rattle.sel_text.proofs.Commas.{after, joined_inside}
 use Rattle.sel_text.proofs.Making.{told_more}
 
@@ -33,12 +33,6 @@ pub record IsLeft (all : Shapes) (read : List ArrowDataType) (rest more : List �
 pub all_left : (s : Shape) (ss : Shapes) (text more : List ℕ) → all_widths_written (next_shape s ss) ≡ true → 60 ∷ text ≡ angled (type_texts (next_shape s ss)) ++ more → IsLeft (next_shape s ss) [] text more
 all_left s ss text more narrow is = record { first = s; others = ss; narrow = narrow; whole = refl; text = behind_bracket s ss text more is }
 
-first_narrow : (s : Shape) (ss : Shapes) → all_widths_written (next_shape s ss) ≡ true → widths_written s ≡ true
-first_narrow s ss narrow = and_first (widths_written s) (all_widths_written ss) narrow
-
-others_narrow : (s : Shape) (ss : Shapes) → all_widths_written (next_shape s ss) ≡ true → all_widths_written ss ≡ true
-others_narrow s ss narrow = and_second (widths_written s) (all_widths_written ss) narrow
-
 shapes_grown : (read grown : List ArrowDataType) (field : ArrowDataType) (s : Shape) → grown ≡ read ++ field ∷ [] → shape_of field ≡ s → map shape_of grown ≡ map shape_of read ++ s ∷ []
 shapes_grown read grown field s is here = ap (map shape_of) is ∙ map-append shape_of read (field ∷ []) ∙ ap (λ s. map shape_of read ++ s ∷ []) here
 
@@ -48,8 +42,7 @@ pub last_read : (all : Shapes) (read grown : List ArrowDataType) (field : ArrowD
 last_read all read grown field rest text end more left is told closed = go left.others left.whole told.1
   where
     go : (others : Shapes) → shapes_then (map shape_of read) (next_shape left.first others) ≡ all → text ≡ after 62 (type_texts others) more → (shapes_of (map shape_of grown) ≡ all) × (end ≡ more)
-    go no_shapes whole behind =
-        (sym (then_none (map shape_of grown)) ∙ ap (λ l. shapes_then l no_shapes) (shapes_grown read grown field left.first is told.0) ∙ then_one (map shape_of read) left.first no_shapes ∙ whole, ap (drop 1) (sym closed ∙ behind))
+    go no_shapes whole behind = grind (arith, common_steps, then_none, shapes_grown, read, left, is, then_one, closed)
     go (next_shape s ss) whole behind = let first : 62 ≡ 44 = ap (λ l. get_or l 0 0) (sym closed ∙ behind) in absurd (omega (arith, first))
 
 -- Otherwise a comma and another type follow.
@@ -62,14 +55,14 @@ more_left all read grown field rest text behind more left is told comma = go lef
     go (next_shape s ss) narrow whole here = record {
       first = s;
       others = ss;
-      narrow = others_narrow left.first (next_shape s ss) narrow;
+      narrow = and_second (widths_written left.first) (all_widths_written (next_shape s ss)) narrow;
       whole = ap (λ l. shapes_then l (next_shape s ss)) (shapes_grown read grown field left.first is told.0) ∙ then_one (map shape_of read) left.first (next_shape s ss) ∙ whole;
       text = ap (drop 1) (sym comma ∙ here);
     }
 
 -- The list sizes of the first remaining type have 64 bits.
 pub left_narrow : (all : Shapes) (read : List ArrowDataType) (rest more : List ℕ) (left : IsLeft all read rest more) → IsTrue (widths_written left.first)
-left_narrow all read rest more left = first_narrow left.first left.others left.narrow
+left_narrow all read rest more left = and_first (widths_written left.first) (all_widths_written left.others) left.narrow
 
 -- After `struct<`, a bracket means that there are no types, and a letter that there are some.
 pub no_types : (parts : Shapes) (rest more : List ℕ) → 60 ∷ 62 ∷ rest ≡ angled (type_texts parts) ++ more → (parts ≡ no_shapes) × (rest ≡ more)
@@ -97,13 +90,7 @@ first_depth (r ∷ read) s ss = let others = first_depth read s ss in omega (ari
 -- So a field that is nested too deeply makes the struct so.
 pub field_told : (all : Shapes) (read : List ArrowDataType) (rest more : List ℕ) (left : IsLeft all read rest more) (levels : ℕ) (fault : Fault) → 0 < levels →
     ReportsLimit (nat_lt (levels - 1) (depth left.first)) fault → ReportsLimit (nat_lt levels (depth (of_struct all))) fault
-field_told all read rest more left levels fault some told = told_more (nat_lt (levels - 1) (depth left.first)) (nat_lt levels (depth (of_struct all))) fault deeper told
-  where
-    inside : depth left.first ≤ deepest all
-    inside = subst (λ ss. depth left.first ≤ deepest ss) left.whole (first_depth (map shape_of read) left.first left.others)
-
-    deeper : nat_lt (levels - 1) (depth left.first) ≡ true → nat_lt levels (depth (of_struct all)) ≡ true
-    deeper past = let deep : levels - 1 < depth left.first = grind (arith, nat_tests, past) in let all_deep : levels < deepest all + 1 = omega (arith, deep, inside, some) in grind (arith, nat_tests, all_deep)
+field_told all read rest more left levels fault some told = grind (arith, nat_tests, told_more, first_depth)
 
 -- One more type increases the nesting depth only if it is deeper itself.
 pub grown_depth : (read grown : List ArrowDataType) (field : ArrowDataType) (levels : ℕ) → grown ≡ read ++ field ∷ [] → deepest (shapes_of (map shape_of read)) < levels → depth (shape_of field) < levels →

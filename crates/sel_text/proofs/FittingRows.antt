@@ -1,6 +1,6 @@
 -- Rows of each layout fit the type of their column.
-use Rattle.std.proofs.Common.{◌≡◌, ℕ, zero, suc, ℤ, ◌+◌, ◌-◌, ◌*◌, ◌≤◌, ◌<◌, Bool, true, false, All, List, [], ◌∷◌, map, length, take, Option, Some, None, Vec, Box, Global, refl, ap, sym, subst, ◌∙◌, arith, length-take, length-drop, get_or, ◌==◌, nat_lt, replicate, slice_index_or, take_all}
-use Rattle.sel_text.proofs.Common.{cond_both, list_all, range_with_len, slice_range, is_utf8, nat_tests, All-head, All-tail, All-weaker, list_all-map, false≢true, Bits, utf8view_rows, hidden, masked, number_rows, list_of, blocks, struct_at, pieces, rows, type_of, well_formed, IsField, IsWellFormed, Shape, shapes_of, of_binary_view, of_boolean, of_fixed_size_list, of_large_binary, of_large_list, of_null, of_struct, of_utf8_view, all_text, Value, Null, Truth, Number, Bytes, values_of, listed, buffer_at, inline_bytes, inline_space, is_inline, view_bytes, view_value, Column, LargeList, FixedSizeList, Struct, NullColumn, Boolean, LargeBinary, BinaryView, Utf8View, View, both, all_part, and_first, and_second, all_fit, are_bytes, fields_fit, fits, fits_number, RowsFit}
+use Rattle.std.proofs.Common.{◌≡◌, ℕ, zero, suc, ℤ, ◌+◌, ◌-◌, ◌*◌, ◌≤◌, ◌<◌, Bool, true, false, All, List, [], ◌∷◌, map, length, take, Option, Vec, Box, Global, refl, ap, sym, subst, ◌∙◌, arith, length-take, get_or, nat_lt, replicate, slice_index_or, take_all}
+use Rattle.sel_text.proofs.Common.{common_steps, cond_both, list_all, range_with_len, slice_range, is_utf8, nat_tests, All-head, All-tail, All-weaker, list_all-map, false≢true, Bits, hidden, masked, number_rows, list_of, blocks, struct_at, pieces, rows, type_of, well_formed, IsField, IsWellFormed, Shape, shapes_of, of_boolean, of_fixed_size_list, of_null, of_struct, of_utf8_view, all_text, Value, Null, Truth, Bytes, values_of, buffer_at, inline_bytes, inline_space, Column, LargeList, FixedSizeList, Struct, NullColumn, Boolean, LargeBinary, BinaryView, Utf8View, View, both, all_part, and_first, and_second, are_bytes, fields_fit, fits, fits_number, RowsFit}
 use Rattle.std.proofs.Math.Nat.{mul-le-mul_right}
 use Rattle.sel_arrow.specs.declared.binary.BinaryArray.{BinaryArray}
 use Rattle.sel_arrow.specs.declared.binview.BinaryViewArray.{BinaryViewArray}
@@ -23,8 +23,7 @@ hidden_all p null (false ∷ bits) (v ∷ vs) all = both (p Null) (list_all p (h
 
 -- Under a validity, rows pass a test that null passes too.
 masked_all : (p : Value → Bool) → p Null ≡ true → (validity : Option Bits) (vs : List Value) → list_all p vs ≡ true → list_all p (masked validity vs) ≡ true
-masked_all p null None vs all = all
-masked_all p null (Some validity) vs all = hidden_all p null validity.bits vs all
+masked_all p null x2 vs all = grind (arith, common_steps, hidden_all)
 
 masked_fit : (s : Shape) (validity : Option Bits) (vs : List Value) → list_all (fits s) vs ≡ true → list_all (fits s) (masked validity vs) ≡ true
 masked_fit s validity vs fit = masked_all (fits s) refl validity vs fit
@@ -42,9 +41,7 @@ nulls_fit s (suc n) = nulls_fit s n
 -- Numbers fit once every value is read.
 pub numbers_read : {T : Type 0} (s : Shape) (number : T → ℤ) (read values : List T) (validity : Option Bits) (i : ℕ) → read ≡ values → length read ≤ i → list_all (λ x. fits_number s (number x)) (take i read) ≡ true →
     list_all (fits s) (number_rows number values validity) ≡ true
-numbers_read s number read values validity i same long all =
-    let fit = ap (list_all (λ x. fits_number s (number x))) (sym (take_all i read long ∙ same)) ∙ all in
-    masked_fit s validity (map (λ x. Number (number x)) values) (list_all-map (fits s) (λ x. Number (number x)) values ∙ fit)
+numbers_read s number read values validity i same long all = grind (arith, common_steps, take_all, masked_fit, list_all-map, fits)
 
 -- ---- bytes
 
@@ -52,8 +49,7 @@ numbers_read s number read values validity i same long all =
 parts_pass : {A : Type 0} (f : List A → Value) (p : A → Bool) (q : Value → Bool) → ((xs : List A) → list_all p xs ≡ true → q (f xs) ≡ true) → (offsets : List ℕ) (xs : List A) → list_all p xs ≡ true → list_all q (map f (pieces offsets xs)) ≡ true
 parts_pass f p q each [] xs all = refl
 parts_pass f p q each (a ∷ []) xs all = refl
-parts_pass f p q each (a ∷ b ∷ offsets) xs all =
-    both (q (f (slice_range xs a b))) (list_all q (map f (pieces (b ∷ offsets) xs))) (each (slice_range xs a b) (all_part p xs a (b - a) all)) (parts_pass f p q each (b ∷ offsets) xs all)
+parts_pass f p q each (a ∷ b ∷ offsets) xs all = grind (arith, common_steps, both, all_part, (parts_pass f p q each (b ∷ offsets) xs all))
 
 -- ---- views
 
@@ -64,11 +60,6 @@ buffer_are_bytes : (buffers : List (List ℕ)) (i : ℕ) → list_all are_bytes 
 buffer_are_bytes [] i all = refl
 buffer_are_bytes (b ∷ buffers) zero all = and_first (are_bytes b) (list_all are_bytes buffers) all
 buffer_are_bytes (b ∷ buffers) (suc i) all = buffer_are_bytes buffers i (and_second (are_bytes b) (list_all are_bytes buffers) all)
-
-view_are_bytes : (buffers : List (List ℕ)) (view : View) → list_all are_bytes buffers ≡ true → are_bytes (view_bytes buffers view) ≡ true
-view_are_bytes buffers view all =
-    cond_both (is_inline view) _ _ (λ bytes. are_bytes bytes ≡ true) (λ _. inline_are_bytes view)
-    (λ _. all_part (λ byte. nat_lt byte 256) (buffer_at buffers view.buffer_idx) view.offset ((view.offset + view.length) - view.offset) (buffer_are_bytes buffers view.buffer_idx all))
 
 -- Whether a row is null or of bytes.
 abbrev is_bytes : Value → Bool
@@ -92,37 +83,23 @@ pub boolean_column_fits : (c : Column) (array : BooleanArray) → c ≡ Boolean 
 boolean_column_fits c array is = subst RowsFit (sym is) (masked_fit of_boolean array.validity (map Truth array.values.bits) (any_pass Truth (fits of_boolean) (λ b. refl) array.values.bits))
 
 pub binary_column_fits : (c : Column) (array : BinaryArray _ _) (bytes : List ℕ) → c ≡ LargeBinary array → bytes ≡ array.values → are_bytes bytes ≡ true → RowsFit c
-binary_column_fits c array bytes is same all =
-    let bytes = parts_pass Bytes (λ byte. nat_lt byte 256) (fits of_large_binary) (λ bytes fit. fit) array.offsets array.values (ap are_bytes (sym same) ∙ all) in
-    subst RowsFit (sym is) (masked_fit of_large_binary array.validity (map Bytes (pieces array.offsets array.values)) bytes)
+binary_column_fits c array bytes is same all = grind (arith, common_steps, parts_pass, fits, masked_fit)
 
 pub binview_column_fits : (c : Column) (array : BinaryViewArray) (buffers : List (List ℕ)) → c ≡ BinaryView array → buffers ≡ array.buffers → list_all are_bytes buffers ≡ true → RowsFit c
-binview_column_fits c array buffers is same all =
-    let bytes = λ (view : View). view_are_bytes array.buffers view (ap (list_all are_bytes) (sym same) ∙ all) in
-    subst RowsFit (sym is) (masked_fit of_binary_view array.validity (map (view_value array.buffers) array.views) (any_pass (view_value array.buffers) (fits of_binary_view) bytes array.views))
+binview_column_fits c array buffers is same all = grind (arith, common_steps, cond_both, inline_are_bytes, all_part, buffer_are_bytes, masked_fit, any_pass)
 
 pub string_column_fits : (c : Column) (array : Utf8ViewArray) → c ≡ Utf8View array → RowsFit c
-string_column_fits c array is =
-    let views = array.bytes in
-    let bytes = masked_all is_bytes refl views.validity (map (view_value views.buffers) views.views) (any_pass (view_value views.buffers) is_bytes (λ view. refl) views.views) in
-    subst RowsFit (sym is) (texts_fit (utf8view_rows array) bytes array.texts)
+string_column_fits c array is = grind (arith, common_steps, masked_all, any_pass, texts_fit)
 
 -- ---- lists
 
 pub list_column_fits : (c : Column) (offsets : List ℕ) (values : Box Column Global) (validity : Option Bits) → c ≡ LargeList offsets values validity → RowsFit values.value → RowsFit c
-list_column_fits c offsets values validity is fit =
-    let s = type_of values.value in
-    let lists = parts_pass list_of (fits s) (fits (of_large_list s)) (all_fits s) offsets (rows values.value) fit in
-    subst RowsFit (sym is) (masked_fit (of_large_list s) validity (map list_of (pieces offsets (rows values.value))) lists)
+list_column_fits c offsets values validity is fit = grind (arith, common_steps, parts_pass, fits, all_fits, masked_fit)
 
 -- ---- fixed-size lists
 
 block_fits : (s : Shape) (size p : ℕ) (vs : List Value) → p + size ≤ length vs → list_all (fits s) vs ≡ true → fits (of_fixed_size_list s size) (list_of (slice_range vs p (p + size))) ≡ true
-block_fits s size p vs inside fit =
-    let part = slice_range vs p (p + size) in
-    let count : length part ≡ size = rw (length-take, length-drop) (omega arith) in
-    let same : length (listed (values_of part)) ≡ size = ap length (list_back part) ∙ count in
-    both (length (listed (values_of part)) == size) (all_fit s (values_of part)) (grind (arith, nat_tests, same)) (all_fits s part (all_part (fits s) vs p ((p + size) - p) fit))
+block_fits s size p vs inside fit = grind (arith, common_steps, length-take, list_back, both, nat_tests, all_fits, all_part, fits)
 
 blocks_fit : (s : Shape) (size a n len : ℕ) (vs : List Value) → a + n ≤ len → len * size ≤ length vs → list_all (fits s) vs ≡ true →
     list_all (fits (of_fixed_size_list s size)) (map list_of (map (λ i. slice_range vs (i * size) (i * size + size)) (range_with_len a n))) ≡ true

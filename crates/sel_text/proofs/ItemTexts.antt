@@ -1,6 +1,6 @@
 -- The text of parsed rows, and whether they fit their types.
 use Rattle.std.proofs.Common.{◌≡◌, ◌≢◌, ℕ, zero, suc, ◌<◌, Bool, true, false, ◌&&◌, List, [], ◌∷◌, ◌++◌, length, map, get_or, Vec, Box, Global, refl, ap, sym, ◌∙◌, arith, ◌==◌}
-use Rattle.sel_text.proofs.Common.{list_all-append, list_all, eq-eqb, eqb-true, false_from_ne_true, IsUtf8-from_is_utf8, is_utf8-from_IsUtf8, shape_of, Shape, shapes_of, Value, Items, Tuple, Values, values_of, both, and_first, and_second, fits, fits_bytes, all_fit, fields_fit, item_value, item_shape, text_of, part_texts, value_text, Item, ItemsItem, PartsItem}
+use Rattle.sel_text.proofs.Common.{common_steps, list_all-append, list_all, eq-eqb, eqb-true, false_from_ne_true, IsUtf8-from_is_utf8, is_utf8-from_IsUtf8, shape_of, Shape, shapes_of, Value, Items, Values, values_of, both, and_first, and_second, fits, fits_bytes, all_fit, fields_fit, item_value, item_shape, text_of, part_texts, value_text, Item, ItemsItem}
 use Rattle.sel_text.proofs.ItemRows.{list_is}
 use Rattle.sel_text.proofs.Printed.{list_text}
 use Rattle.sel_arrow.specs.declared.datatype.ArrowDataType.{ArrowDataType, LargeList, FixedSizeList}
@@ -43,12 +43,7 @@ all_grown p xs x fit here = list_all-append p xs (x ∷ []) ∙ both (list_all p
 pub list_row : (s d : Shape) (item : Item) (items : Vec Item Global) (xs : List Item) → xs ≡ items.items → item ≡ ItemsItem items → item_shape d ≡ s →
     all_fit s (values_of (map item_value items.items)) ≡ fits d (Items (values_of (map item_value items.items))) →
     (list_all (fits s) (map item_value xs) ≡ fits d (item_value item)) × (text_of s (map item_value xs) ≡ value_text d (item_value item))
-list_row s d item items xs same is child fit =
-    let value = list_is item items is in
-    let vs = map item_value items.items in (
-      ap (λ l. list_all (fits s) (map item_value l)) same ∙ sym (all_fit_is s vs) ∙ fit ∙ ap (fits d) (sym value),
-      ap (λ l. text_of s (map item_value l)) same ∙ list_text d s vs (item_value item) (sym value) child,
-    )
+list_row s d item items xs same is child fit = grind (arith, common_steps, list_is, fits, all_fit_is, list_text)
 
 -- ---- one row that does not fit
 
@@ -72,8 +67,7 @@ other_count ds vs not_so = refl
 pub fields_more : (ds : List ArrowDataType) (vs : List Value) (d : ArrowDataType) (v : Value) → length ds ≡ length vs → fields_fit (shapes_of (map shape_of ds)) (values_of vs) ≡ true → fits (shape_of d) v ≡ true →
     fields_fit (shapes_of (map shape_of (ds ++ d ∷ []))) (values_of (vs ++ v ∷ [])) ≡ true
 fields_more [] [] d v same fit here = ap (λ b. b && true) here
-fields_more (x ∷ ds) (y ∷ vs) d v same fit here =
-    both (fits (shape_of x) y) _ (and_first (fits (shape_of x) y) _ fit) (fields_more ds vs d v (omega (arith, same)) (and_second (fits (shape_of x) y) _ fit) here)
+fields_more (x ∷ ds) (y ∷ vs) d v same fit here = grind (arith, common_steps, both, fits, and_first, and_second, (fields_more ds vs d v (omega (arith, same)) (and_second (fits (shape_of x) y) _ fit) here))
 fields_more ds vs d v same fit here = absurd (omega (arith, same))
 
 pub parts_more : (ds : List ArrowDataType) (vs : List Value) (d : ArrowDataType) (v : Value) → length ds ≡ length vs →

@@ -1,27 +1,21 @@
 -- The results of column constructors, and their errors.
 use Rattle.std.proofs.Common.{◌≡◌, Bool, true, false, ◌||◌, List, [], ◌∷◌, length, replicate, Option, Some, None, refl, ap, arith}
-use Rattle.sel_text.proofs.Common.{list_all, of_null, Value, Null, first_broken, IsFaultOrMemory, Malformed, fits, ReportsLimit, make_fault, IsMemoryFault, Fault, Limit, OutOfMemory}
+use Rattle.sel_text.proofs.Common.{common_steps, list_all, of_null, Value, Null, first_broken, IsFaultOrMemory, Malformed, fits, ReportsLimit, make_fault, IsMemoryFault, Fault, Limit}
 use Rattle.sel_bits.specs.declared.faults.MakeError.{MakeError}
-use Rattle.sel_bits.specs.declared.faults.MakeError.TheVariants.{Malformed as Broken, OutOfMemory as WantOfMemory}
 
 -- A limit that the child rows exceed is a limit of the whole.
 pub told_more : (p q : Bool) (fault : Fault) → (p ≡ true → q ≡ true) → ReportsLimit p fault → ReportsLimit q fault
-told_more p q Limit more told = more told
-told_more p q OutOfMemory more told = tt
-told_more p q fault more told = absurd told
+told_more p q fault more told = grind (arith, common_steps)
 
 pub told_wanting : (p : Bool) (fault : Fault) → IsMemoryFault fault → ReportsLimit p fault
-told_wanting p OutOfMemory wants = tt
-told_wanting p fault wants = absurd wants
+told_wanting p fault wants = grind (arith, common_steps)
 
 -- An error of a constructor for an exceeded limit is reported as `Limit`.
 pub maker_told : (rule : Option Malformed) (error : MakeError) (p : Bool) → IsFaultOrMemory rule error → ((m : Malformed) → rule ≡ Some m → p ≡ true) → ReportsLimit p (make_fault error)
-maker_told rule (Broken m) p is past = past m is
-maker_told rule WantOfMemory p is past = tt
+maker_told rule x1 p is past = grind (arith, common_steps)
 
 pub maker_wanting : (rule : Option Malformed) (error : MakeError) → IsFaultOrMemory rule error → rule ≡ None → IsMemoryFault (make_fault error)
-maker_wanting rule (Broken m) is kept = absurd (cc (is, kept))
-maker_wanting rule WantOfMemory is kept = tt
+maker_wanting rule x1 is kept = grind (arith, common_steps)
 
 -- If only the first of three rules can be broken, a broken rule is the first.
 pub first_of_three : (a b d : Bool) (r s t m : Malformed) → b ≡ false → d ≡ false → first_broken ((r, a) ∷ (s, b) ∷ (t, d) ∷ []) ≡ Some m → a ≡ true

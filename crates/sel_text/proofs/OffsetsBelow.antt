@@ -1,7 +1,8 @@
 -- Offsets of rows of any type, by the entries of each row.
-use Rattle.std.proofs.Common.{◌≡◌, ℕ, ◌+◌, ◌<◌, ℤ, pos, suc, false, ◌||◌, List, [], ◌∷◌, ◌++◌, length, map, None, refl, ap, sym, subst, ◌∙◌, arith, append_assoc, length-append, w64, FitsSigned, to_z, of_z, nat_lt, slice_index}
-use Rattle.sel_text.proofs.Common.{flat_map, slice_range, nat_tests, common_steps, append-nil, map-append, map-id, last_offset, pieces, pieces_after, rows_between, ends_below, offsets_below}
+use Rattle.std.proofs.Common.{◌≡◌, ℕ, ◌+◌, ◌<◌, ℤ, pos, suc, false, List, [], ◌∷◌, ◌++◌, length, map, None, refl, ap, sym, subst, ◌∙◌, arith, length-append, w64, FitsSigned, to_z, of_z, nat_lt, slice_index}
+use Rattle.sel_text.proofs.Common.{mag, flat_map, slice_range, nat_tests, common_steps, append-nil, map-append, map-id, last_offset, pieces, pieces_after, rows_between, ends_below, offsets_below}
 use Rattle.std.proofs.lemmas.Int.{to_z-of_z}
+use Rattle.std.proofs.lemmas.Simd.{map-map}
 use Rattle.std.proofs.lemmas.List.Concat.{flat_map-append}
 use Rattle.sel_bits.specs.Offsets.{falls_after, has_negative, offsets_fault}
 
@@ -10,12 +11,7 @@ pub end_kept : (z : ℤ) (n : ℕ) → z ≡ pos n → n < 9223372036854775808 �
 end_kept z n is small = to_z-of_z w64 z (subst (FitsSigned w64) (sym is) (record { sfits = small })) ∙ is
 
 same_numbers : (ms ns : List ℕ) → map pos ms ≡ map pos ns → ms ≡ ns
-same_numbers [] [] e = refl
-same_numbers (m ∷ ms) (n ∷ ns) e =
-    let here : m ≡ n = cc in
-    let rest : map pos ms ≡ map pos ns = cc in
-    cc (here, same_numbers ms ns rest)
-same_numbers ms ns e = cc
+same_numbers ms ns e = sym (map-map mag pos ms ∙ map-id ms) ∙ ap (map mag) e ∙ map-map mag pos ns ∙ map-id ns
 
 none_negative : (ns : List ℕ) → has_negative (λ z. z) (map pos ns) ≡ false
 none_negative [] = refl
@@ -44,34 +40,20 @@ module _ {A B : Type 0} (below : A → List B) where
 
   none_falls : (place : ℕ) (rows : List A) → falls_after (λ z. z) (pos place) (map pos (ends_below below place rows)) ≡ false
   none_falls place [] = refl
-  none_falls place (row ∷ rows) =
-      let above : nat_lt (place + length (below row)) place ≡ false = grind (arith, nat_tests) in
-      ap (λ b. b || falls_after (λ z. z) (pos (place + length (below row))) (map pos (ends_below below (place + length (below row)) rows))) above ∙ none_falls (place + length (below row)) rows
+  none_falls place (row ∷ rows) = grind (arith, common_steps, nat_tests, (none_falls (place + length (below row)) rows))
 
   ends_more : (place : ℕ) (rows : List A) (row : A) → ends_below below place (rows ++ row ∷ []) ≡ ends_below below place rows ++ (place + length (flat_map below (rows ++ row ∷ []))) ∷ []
   ends_more place [] row = ap (λ l. (place + length l) ∷ []) (sym (append-nil (below row)))
-  ends_more place (first ∷ rows) row =
-      ap (λ l. (place + length (below first)) ∷ l) (ends_more (place + length (below first)) rows row ∙ ap (λ n. ends_below below (place + length (below first)) rows ++ n ∷ []) (behind place first (rows ++ row ∷ [])))
+  ends_more place (first ∷ rows) row = grind (arith, common_steps, behind, (ends_more (place + length (below first)) rows row))
 
   parts_back : (pre : List B) (rows : List A) → pieces_after (length pre) (ends_below below (length pre) rows) (pre ++ flat_map below rows) ≡ map below rows
   parts_back pre [] = refl
-  parts_back pre (row ∷ rows) =
-      let here = slice_here pre (below row) (flat_map below rows) (length pre) (length pre + length (below row)) refl refl in
-      let rest = rw (length-append pre (below row), append_assoc pre (below row) (flat_map below rows)) at (parts_back (pre ++ below row) rows) in
-      cc (here, rest)
+  parts_back pre (row ∷ rows) = grind (arith, common_steps, slice_here, (parts_back (pre ++ below row) rows))
 
   -- One more row.
   pub holds_more : (before after : List A) (row : A) (old new : List B) (ends more : List ℤ) (end : ℤ) (place : ℕ) → Holds below before old ends → after ≡ before ++ row ∷ [] → new ≡ old ++ below row → more ≡ ends ++ end ∷ [] → end ≡ pos place → place ≡ length new →
       Holds below after new more
-  holds_more before after row old new ends more end place so grows put adds is there =
-      let all : new ≡ flat_map below (before ++ row ∷ []) = put ∙ ap (λ l. l ++ below row) so.entries_are ∙ ap (λ l. flat_map below before ++ l) (sym (append-nil (below row))) ∙ sym (flat_map-append below before (row ∷ [])) in
-      let count : place ≡ 0 + length (flat_map below (before ++ row ∷ [])) = omega (arith, there, ap length all) in
-      let last = is ∙ ap pos count in
-      subst (λ rows. Holds below rows new more) (sym grows) (record {
-        entries_are = all;
-        ends_are = adds ∙ ap (λ l. l ++ end ∷ []) so.ends_are ∙ ap (λ z. map pos (offsets_below below before) ++ z ∷ []) last
-            ∙ sym (map-append pos (offsets_below below before) ((0 + length (flat_map below (before ++ row ∷ []))) ∷ [])) ∙ ap (λ l. pos 0 ∷ map pos l) (sym (ends_more 0 before row));
-      })
+  holds_more before after row old new ends more end place so grows put adds is there = grind (arith, common_steps, append-nil, flat_map-append, map-append, ends_more)
 
   -- These offsets break no rule.
   pub no_offsets_fault : (rows : List A) (entries : List B) (ends : List ℤ) → Holds below rows entries ends → offsets_fault (λ (z : ℤ). z) ends ≡ None
@@ -86,9 +68,7 @@ module _ {A B : Type 0} (below : A → List B) where
     count_between = omega (arith, ap length are, count_ends 0 rows)
 
     pub ends_inside : (count : ℕ) → count ≡ length (flat_map below rows) → nat_lt count (last_offset offsets) ≡ false
-    ends_inside count long =
-        let last : last_offset offsets ≡ 0 + length (flat_map below rows) = ap (λ n. slice_index offsets n) count_between ∙ ap (λ l. slice_index l (length rows)) are ∙ last_end 0 rows in
-        grind (arith, nat_tests, last, long)
+    ends_inside count long = grind (arith, common_steps, count_between, last_end, nat_tests)
 
     -- The entries between these offsets.
     pub parts_between : (entries : List B) → entries ≡ flat_map below rows → pieces offsets entries ≡ map below rows

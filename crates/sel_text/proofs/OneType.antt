@@ -1,6 +1,7 @@
 -- Types with the same text are equal.
 use Rattle.std.proofs.Common.{◌≡◌, ℕ, ◌<◌, true, List, [], ◌∷◌, ◌++◌, drop, get_or, refl, ap, sym, ◌∙◌, arith, lit<, append_assoc, ◌^◌, codes, Some, unwrap_or}
 use Rattle.sel_text.proofs.Common.{decimal, Shape, Shapes, no_shapes, next_shape, of_large_list, of_fixed_size_list, of_struct, and_first, and_second, angled, type_text, type_texts, spelled, widths_written, all_widths_written}
+use Rattle.sel_text.specs.Laws.{TextDeterminesType}
 use Rattle.sel_text.proofs.Commas.{after}
 use Rattle.sel_text.proofs.Ends.{numbers_told}
 use Rattle.sel_text.proofs.Fields.{behind_bracket, block_narrow, no_types}
@@ -61,7 +62,7 @@ mutual
   tells_left ss ts more rest narrow narrow_others is = let first = ap (λ l. get_or l 0 0) is in absurd (omega (arith, first))
 
 -- Types whose list sizes have 64 bits are equal if their texts are equal.
-pub one_type : (s t : Shape) → widths_written s ≡ true → widths_written t ≡ true → type_text s ≡ type_text t → s ≡ t
+pub one_type : TextDeterminesType
 one_type s t narrow narrow_other same = (tells s t [] [] narrow narrow_other (ap (λ l. l ++ []) same)).0
 
 -- The same where both are the canonical spelling of a text.

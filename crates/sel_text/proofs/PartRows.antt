@@ -1,9 +1,8 @@
 -- The fields of struct rows, and struct rows made of fields.
-use Rattle.std.proofs.Common.{◌≡◌, ℕ, zero, suc, ◌+◌, ◌<◌, true, false, ◌==◌, List, [], ◌∷◌, ◌++◌, map, length, take, get_or, Option, Some, refl, sym, ap, ◌∙◌, arith, append_assoc, length-append, not, slice_index_or}
-use Rattle.std.proofs.Math.Seq.{get_or-append_seam}
+use Rattle.std.proofs.Common.{◌≡◌, ℕ, zero, suc, ◌+◌, ◌<◌, true, false, ◌==◌, List, [], ◌∷◌, ◌++◌, map, length, take, get_or, Option, Some, refl, sym, ap, ◌∙◌, arith, append_assoc, not, slice_index_or}
 use Rattle.std.proofs.lemmas.Simd.{map-map}
-use Rattle.sel_text.proofs.Common.{or_left, or_right, list_all, range_with_len, nat_tests, length-map, length-take, map-append, map_more, Bits, Malformed, TooManyRows, FieldLength, ValidityLength, shape_of, struct_fault, masked, too_many, validity_differs, Covers, struct_at, struct_rows, rows, row_count, type_of, Shape, of_struct, shapes_of, Value, Null, Tuple, Values, no_values, next_value, values_of, listed, is_valid, ArrayRef, ArrowDataType, both, and_first, and_second, parts_below, HasParts, fits, fields_fit, any_exceeds_limit, part_in, exceeds_limit, ShowsRows, NullSlots}
-use Rattle.std.proofs.lemmas.List.FromFn.{map-range_with_len_more}
+use Rattle.sel_text.proofs.Common.{all_at, common_steps, or_left, or_right, list_all, range_with_len, nat_tests, length-map, length-take, map-append, map_more, Bits, Malformed, TooManyRows, FieldLength, ValidityLength, shape_of, struct_fault, masked, too_many, validity_differs, Covers, struct_at, struct_rows, rows, row_count, type_of, Shape, of_struct, shapes_of, Value, Null, Tuple, Values, no_values, next_value, values_of, listed, is_valid, ArrayRef, ArrowDataType, both, and_first, and_second, parts_below, HasParts, fits, fields_fit, any_exceeds_limit, part_in, exceeds_limit, ShowsRows, NullSlots}
+use Rattle.std.proofs.lemmas.List.FromFn.{fill_by_all, map-range_with_len_more}
 use Rattle.sel_arrow.specs.NestedArrays.{struct_column}
 use Rattle.sel_arrow.specs.declared.structure.StructArray.{StructArray}
 use Rattle.sel_arrow.proofs.NestedRows.{length-rows}
@@ -23,8 +22,7 @@ part_fits (x ∷ xs) (next_value v vs) zero d fit below is = ap (λ t. fits (sha
 part_fits (x ∷ xs) (next_value v vs) (suc k) d fit below is = part_fits xs vs k d (and_second _ _ fit) (omega arith) is
 
 row_part : (dtypes : List ArrowDataType) (k : ℕ) (d : ArrowDataType) → k < length dtypes → d ≡ get_or dtypes k d → (row : Value) → fits (of_struct (shapes_of (map shape_of dtypes))) row ≡ true → fits (shape_of d) (part_in k row) ≡ true
-row_part dtypes k d below is (Tuple es) fit = part_fits dtypes es k d fit below is
-row_part dtypes k d below is row fit = refl
+row_part dtypes k d below is row fit = grind (arith, common_steps, part_fits)
 
 pub parts_kept : (dtypes : List ArrowDataType) (k : ℕ) (d : ArrowDataType) → k < length dtypes → d ≡ get_or dtypes k d → (vs : List Value) → list_all (fits (of_struct (shapes_of (map shape_of dtypes)))) vs ≡ true → list_all (fits (shape_of d)) (map (part_in k) vs) ≡ true
 parts_kept dtypes k d below is [] fit = refl
@@ -46,21 +44,10 @@ count_parts [] no_values fit = refl
 count_parts (x ∷ xs) (next_value v vs) fit = ap suc (count_parts xs vs (and_second (fits x v) (fields_fit (shapes_of xs) vs) fit))
 count_parts xs vs fit = cc
 
-entry_here : (pre rest : List Value) (v : Value) (k : ℕ) → length pre ≡ k → get_or (pre ++ v ∷ rest) k Null ≡ v
-entry_here pre rest v k long = ap (λ n. get_or (pre ++ v ∷ rest) n Null) (sym long) ∙ get_or-append_seam pre v rest Null
-
-entries_from : (all left pre : List Value) (k : ℕ) → all ≡ pre ++ left → length pre ≡ k → map (λ i. slice_index_or all i Null) (range_with_len k (length left)) ≡ left
-entries_from all [] pre k is long = refl
-entries_from all (v ∷ left) pre k is long =
-    let here : get_or all k Null ≡ v = ap (λ l. get_or l k Null) is ∙ entry_here pre left v k long in
-    let longer : length (pre ++ v ∷ []) ≡ k + 1 = length-append pre (v ∷ []) ∙ ap (λ n. n + 1) long in
-    ap (λ x. x ∷ map (λ i. slice_index_or all i Null) (range_with_len (k + 1) (length left))) here
-    ∙ ap (λ l. v ∷ l) (entries_from all left (pre ++ v ∷ []) (k + 1) (is ∙ sym (append_assoc pre (v ∷ []) left)) longer)
-
 tuple_of_parts : (shapes : List Shape) (row : Value) → fits (of_struct (shapes_of shapes)) row ≡ true → is_valid row ≡ true → row ≡ Tuple (values_of (map (λ place. part_in place row) (range_with_len 0 (length shapes))))
 tuple_of_parts shapes (Tuple es) fit valid =
-    let entries = ap (λ n. map (λ place. slice_index_or (listed es) place Null) (range_with_len 0 n)) (sym (count_parts shapes es fit)) ∙ entries_from (listed es) (listed es) [] 0 refl refl in
-    ap Tuple (sym (values_back es)) ∙ ap (λ l. Tuple (values_of l)) (sym entries)
+    let entries = fill_by_all (λ place. slice_index_or (listed es) place Null) (listed es) (length shapes) Null (count_parts shapes es fit) (λ k small. refl) in
+    ap Tuple (sym (values_back es)) ∙ ap (λ l. Tuple (values_of l)) entries
 tuple_of_parts shapes row fit valid = absurd cc
 
 part_here : (vs : List Value) (k place : ℕ) → slice_index_or (map (part_in place) vs) k Null ≡ part_in place (slice_index_or vs k Null)
@@ -69,19 +56,21 @@ part_here vs k place = refl
 
 row_parts : (vs : List Value) (k : ℕ) (row : Value) → get_or vs k Null ≡ row → (places : List ℕ) → map (λ field. slice_index_or field k Null) (map (λ place. map (part_in place) vs) places) ≡ map (λ place. part_in place row) places
 row_parts vs k row is [] = refl
-row_parts vs k row is (place ∷ places) =
-    ap (λ x. x ∷ map (λ field. slice_index_or field k Null) (map (λ p. map (part_in p) vs) places)) (part_here vs k place ∙ ap (part_in place) is) ∙ ap (λ l. part_in place row ∷ l) (row_parts vs k row is places)
+row_parts vs k row is (place ∷ places) = grind (arith, common_steps, part_here, (row_parts vs k row is places))
 
-tuples_from : (shapes : List Shape) (all left pre : List Value) (k : ℕ) → list_all (fits (of_struct (shapes_of shapes))) left ≡ true → all ≡ pre ++ left → length pre ≡ k →
-    ShowsRows left (map (struct_at (parts_below (length shapes) all)) (range_with_len k (length left)))
-tuples_from shapes all [] pre k fit is long = tt
-tuples_from shapes all (row ∷ left) pre k fit is long =
-    let here : get_or all k Null ≡ row = ap (λ l. get_or l k Null) is ∙ entry_here pre left row k long in
-    let longer : length (pre ++ row ∷ []) ≡ k + 1 = length-append pre (row ∷ []) ∙ ap (λ n. n + 1) long in
-    let parts = row_parts all k row here (range_with_len 0 (length shapes)) in
-    show_next row (struct_at (parts_below (length shapes) all) k) left (map (struct_at (parts_below (length shapes) all)) (range_with_len (k + 1) (length left)))
-    (λ valid. tuple_of_parts shapes row (and_first _ _ fit) valid ∙ ap (λ l. Tuple (values_of l)) (sym parts))
-    (tuples_from shapes all left (pre ++ row ∷ []) (k + 1) (and_second _ _ fit) (is ∙ sym (append_assoc pre (row ∷ []) left)) longer)
+-- Values show rows if they do at each position.
+shows_each : (f : ℕ → Value) (vs : List Value) (k : ℕ) → ((i : ℕ) → i < length vs → is_valid (get_or vs i Null) ≡ true → get_or vs i Null ≡ f (k + i)) → ShowsRows vs (map f (range_with_len k (length vs)))
+shows_each f [] k each = tt
+shows_each f (v ∷ vs) k each =
+    show_next v (f k) vs (map f (range_with_len (k + 1) (length vs))) (λ valid. each 0 (omega arith) valid ∙ ap f (let same : k + 0 ≡ k = omega arith in same))
+    (shows_each f vs (k + 1) (λ i small valid. each (suc i) (omega arith) valid ∙ ap f (let same : k + suc i ≡ (k + 1) + i = omega arith in same)))
+
+tuples_show : (shapes : List Shape) (vs : List Value) → list_all (fits (of_struct (shapes_of shapes))) vs ≡ true → ShowsRows vs (map (struct_at (parts_below (length shapes) vs)) (range_with_len 0 (length vs)))
+tuples_show shapes vs fit =
+    shows_each (struct_at (parts_below (length shapes) vs)) vs 0 (λ i small valid.
+    tuple_of_parts shapes (get_or vs i Null) (all_at (fits (of_struct (shapes_of shapes))) vs i Null fit small) valid
+    ∙ ap (λ l. Tuple (values_of l)) (sym (row_parts vs i (get_or vs i Null) refl (range_with_len 0 (length shapes))))
+    ∙ ap (struct_at (parts_below (length shapes) vs)) (let same : i ≡ 0 + i = omega arith in same))
 
 -- ---- field by field
 
@@ -113,7 +102,7 @@ tuples_made shapes vs refs old array validity fit has none len fields valid hide
     let parts = ap (map rows) fields ∙ map-map rows (λ field. field.column) refs ∙ has.parts ∙ ap (λ l. map (λ field. rows field.column) l ++ parts_below (length shapes) vs) none in (
       type_of-Struct array.len array.fields array.validity ∙ ap (λ l. of_struct (shapes_of l)) types,
       rows-Struct array.len array.fields array.validity ∙ ap (λ l. struct_rows array.len l array.validity) parts ∙ ap (λ n. struct_rows n (parts_below (length shapes) vs) array.validity) len
-          ∙ ap (λ v. struct_rows (length vs) (parts_below (length shapes) vs) v) valid ∙ hides (map (struct_at (parts_below (length shapes) vs)) (range_with_len 0 (length vs))) (tuples_from shapes vs vs [] 0 fit refl refl),
+          ∙ ap (λ v. struct_rows (length vs) (parts_below (length shapes) vs) v) valid ∙ hides (map (struct_at (parts_below (length shapes) vs)) (range_with_len 0 (length vs))) (tuples_show shapes vs fit),
     )
 
 fields_count : (vs : List Value) (refs : List ArrayRef) (places : List ℕ) → map (λ field. rows field.column) refs ≡ map (λ place. map (part_in place) vs) places → list_all (λ n. n == length vs) (map (λ field. row_count field.column) refs) ≡ true

@@ -1,6 +1,6 @@
 -- The content of quotes, byte by byte.
-use Rattle.std.proofs.Common.{◌≡◌, ◌≢◌, ℕ, ◌+◌, ◌≤◌, ◌<◌, ◌/◌, Bool, true, false, List, [], ◌∷◌, ◌++◌, get_or, drop, refl, ap, sym, ◌∙◌, arith, append_assoc, append-nil, nat_lt, ◌==◌}
-use Rattle.sel_text.proofs.Common.{digit_char, flat_map, list_all, nat_tests, and_first, and_second, escaped, hex_byte}
+use Rattle.std.proofs.Common.{◌≡◌, ◌≢◌, ℕ, ◌+◌, ◌≤◌, ◌<◌, ◌/◌, Bool, true, false, List, [], ◌∷◌, ◌++◌, get_or, drop, refl, ap, sym, ◌∙◌, arith, append-nil, nat_lt, ◌==◌}
+use Rattle.sel_text.proofs.Common.{common_steps, digit_char, flat_map, list_all, nat_tests, and_first, and_second, escaped, hex_byte}
 use Rattle.sel_text.proofs.Decoded.{no_quote, unquoted, read_one, one_then, read_escaped}
 use Rattle.sel_text.proofs.Escapes.{each_escape}
 
@@ -26,8 +26,7 @@ none_left code test all read rest more end unquoted left closed = go left.left l
   where
     go : (bytes : List ℕ) → read ++ bytes ≡ all → rest ≡ flat_map code bytes ++ (34 ∷ more) → (read ≡ all) × (end ≡ more)
     go [] whole text = (sym (append-nil read) ∙ whole, ap (drop 1) (sym closed ∙ text))
-    go (byte ∷ bytes) whole text =
-        absurd (unquoted byte (flat_map code bytes ++ (34 ∷ more)) end (sym (append_assoc (code byte) (flat_map code bytes) (34 ∷ more)) ∙ sym text ∙ closed))
+    go (byte ∷ bytes) whole text = grind (arith, common_steps, unquoted, closed)
 
 -- At any other byte, some byte remains.
 pub record HasNext (code : ℕ → List ℕ) (test : ℕ → Bool) (all read rest more : List ℕ) : Type 0 where
@@ -43,24 +42,12 @@ has_next code test all read rest more left other = go left.left left.whole left.
   where
     go : (bytes : List ℕ) → read ++ bytes ≡ all → list_all test bytes ≡ true → rest ≡ flat_map code bytes ++ (34 ∷ more) → HasNext code test all read rest more
     go [] whole small text = absurd (other more text)
-    go (byte ∷ bytes) whole small text = record {
-      byte = byte;
-      others = bytes;
-      whole = whole;
-      fits = and_first (test byte) (list_all test bytes) small;
-      small = and_second (test byte) (list_all test bytes) small;
-      text = text ∙ append_assoc (code byte) (flat_map code bytes) (34 ∷ more);
-    }
+    go (byte ∷ bytes) whole small text = grind (arith, common_steps, and_first, and_second)
 
 -- One more byte was parsed.
 pub one_read : (code : ℕ → List ℕ) (test : ℕ → Bool) (all read grown rest next more : List ℕ) (b : ℕ) → (has : HasNext code test all read rest more) → grown ≡ read ++ b ∷ [] →
     (b ≡ has.byte) × (next ≡ flat_map code has.others ++ (34 ∷ more)) → IsLeft code test all grown next more
-one_read code test all read grown rest next more b has grows told = record {
-  left = has.others;
-  whole = ap (λ l. l ++ has.others) grows ∙ append_assoc read (b ∷ []) has.others ∙ ap (λ x. read ++ (x ∷ has.others)) told.0 ∙ has.whole;
-  small = has.small;
-  text = told.1;
-}
+one_read code test all read grown rest next more b has grows told = grind (arith, common_steps)
 
 -- ---- bytes in hexadecimal
 
@@ -74,9 +61,7 @@ hex_digits v small = (λ low. grind (arith, nat_tests), λ high. grind (arith, n
 
 -- An escape parses to its byte only.
 pub escape_told : (b n : ℕ) (text rest more : List ℕ) → read_one text ≡ one_then n rest → text ≡ escaped b ++ more → (n ≡ b) × (rest ≡ more)
-escape_told b n text rest more read is =
-    let same : one_then n rest ≡ one_then b more = sym read ∙ ap read_one is ∙ read_escaped b more in
-    (ap (λ p. p.0) same, ap (λ p. p.1) same)
+escape_told b n text rest more read is = grind (arith, common_steps, read_escaped)
 
 -- Two texts with different second bytes are different.
 seconds_differ : (a b c d : ℕ) (x y : List ℕ) → a ∷ b ∷ x ≡ c ∷ d ∷ y → (b == d) ≡ false → ⊥

@@ -1,6 +1,6 @@
 -- What is printed is parsed again.
-use Rattle.std.proofs.Common.{◌≡◌, ℕ, ◌≤◌, ◌<◌, true, List, [], Option, Some, None, Ok, Err, ap, sym, subst, ◌∙◌, IfErr, IfOk, IsTrue, Result}
-use Rattle.sel_text.proofs.Common.{list_all, shape_of, depth, rows, type_of, Shape, Value, Column, ArrowDataType, fits, RowsFit, spelled, IsLimitOrMemoryError, text_of, type_text, widths_written}
+use Rattle.std.proofs.Common.{arith, ◌≡◌, ℕ, ◌≤◌, ◌<◌, true, List, [], Option, Some, None, Ok, Err, ap, sym, subst, ◌∙◌, IfErr, IfOk, IsTrue, Result}
+use Rattle.sel_text.proofs.Common.{common_steps, list_all, shape_of, depth, rows, type_of, Shape, Value, Column, ArrowDataType, fits, RowsFit, spelled, IsLimitOrMemoryError, text_of, type_text, widths_written}
 use Rattle.sel_text.specs.declared.text_error.TextError.{TextError}
 use Rattle.sel_text.specs.declared.text_error.TextError.TheVariants.{Limit}
 use Rattle.sel_text.proofs.OneType.{one_type}
@@ -36,9 +36,7 @@ rows_told s t vs source text fit same is prints = ap spelled (is ∙ prints) ∙
 
 -- Rows that have the same text are equal.
 pub rows_again : (s t : Shape) (vs others : List Value) (source : List ℕ) → list_all (fits s) vs ≡ true → list_all (fits s) others ≡ true → t ≡ s → spelled source ≡ Some (text_of t vs) → spelled source ≡ Some (text_of t others) → others ≡ vs
-rows_again s t vs others source fit fitted same told back =
-    let texts : text_of t others ≡ text_of t vs = ap bytes_of (sym back ∙ told) in
-    texts_tell s others vs fitted fit (subst (λ u. text_of u others ≡ text_of u vs) same texts)
+rows_again s t vs others source fit fitted same told back = grind (arith, common_steps, texts_tell)
 
 pub fit_again : (s t : Shape) (vs : List Value) → list_all (fits s) vs ≡ true → t ≡ s → list_all (fits t) vs ≡ true
 fit_again s t vs fit same = subst (λ u. list_all (fits u) vs ≡ true) (sym same) fit

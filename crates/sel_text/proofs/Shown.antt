@@ -1,22 +1,19 @@
 -- Values that equal rows except in null slots.
-use Rattle.std.proofs.Common.{◌≡◌, ℕ, ◌+◌, ◌<◌, Bool, true, List, [], ◌∷◌, ◌++◌, length, map, take, get_or, refl, ap, sym, ◌∙◌, subst, arith, if◌then◌else◌}
+use Rattle.std.proofs.Common.{◌≡◌, ℕ, ◌+◌, ◌<◌, Bool, true, List, [], ◌∷◌, ◌++◌, length, map, take, get_or, refl, ap, sym, ◌∙◌, arith, if◌then◌else◌}
 use Rattle.std.specs.Borrow.{Bor}
 use Rattle.std.proofs.lemmas.Simd.{map-map}
-use Rattle.sel_text.proofs.Common.{false≢true, all_at, list_all-map, list_all, length-map, map-append, map_more, take_more, hidden, Shape, of_boolean, of_large_binary, of_binary_view, of_utf8_view, Value, Null, Truth, Bytes, is_valid, and_first, and_second, fits, item_value, rows_read, ShowsRows, is_view_shape, bytes_stored, bool_stored, NullSlots, Item}
+use Rattle.sel_text.proofs.Common.{common_steps, false≢true, all_at, list_all-map, list_all, length-map, map-append, map_more, take_more, hidden, Shape, of_boolean, of_large_binary, Value, Null, Truth, Bytes, is_valid, and_first, and_second, fits, item_value, rows_read, ShowsRows, is_view_shape, bytes_stored, bool_stored, NullSlots, Item}
 
 -- The first row is shown, and so are the others.
 each_shown : (row : Value) (rows : List Value) (v : Value) (vs : List Value) → ShowsRows (row ∷ rows) (v ∷ vs) → ((if is_valid row then v else Null) ≡ row) × ShowsRows rows vs
-each_shown Null rows v vs s = (refl, s)
-each_shown row rows v vs s = (sym s.0, s.1)
+each_shown row rows v vs s = grind (arith, common_steps)
 
 -- A row before others that are shown.
 pub show_next : (row v : Value) (rows vs : List Value) → (is_valid row ≡ true → row ≡ v) → ShowsRows rows vs → ShowsRows (row ∷ rows) (v ∷ vs)
-show_next Null v rows vs same s = s
-show_next row v rows vs same s = (same refl, s)
+show_next row v rows vs same s = grind (arith, common_steps)
 
 never_none : (row : Value) (rows : List Value) → ShowsRows (row ∷ rows) [] → ⊥
-never_none Null rows s = s
-never_none row rows s = s
+never_none row rows s = grind (arith, common_steps)
 
 shown_length : (rows plain : List Value) → ShowsRows rows plain → length plain ≡ length rows
 shown_length [] [] s = refl
@@ -63,20 +60,12 @@ items_shown items valid is all plain s = shown_all (rows_read items) plain (ap (
 
 -- A row of a type fits the type.
 pub item_fits : (s : Shape) (items : List (Bor Item)) (i : ℕ) (item : Bor Item) → list_all (fits s) (rows_read items) ≡ true → i < length items → item ≡ get_or items i item → fits s (item_value item.now) ≡ true
-item_fits s items i item fit inside is =
-    let row = λ (item : Bor Item). item_value item.now in
-    ap (λ x. fits s (row x)) is ∙ all_at (λ x. fits s (row x)) items i item (sym (list_all-map (fits s) row items) ∙ fit) inside
+item_fits s items i item fit inside is = grind (arith, common_steps, fits, all_at, list_all-map)
 
 -- One more row.
 pub shown_more : {A : Type 0} (value : A → Value) (items : List (Bor Item)) (i : ℕ) (item : Bor Item) (values grown : List A) (y : A) → i < length items → item ≡ get_or items i item →
     ShowsRows (rows_read (take i items)) (map value values) → ShowsRows (item_value item.now ∷ []) (value y ∷ []) → grown ≡ values ++ y ∷ [] → ShowsRows (rows_read (take (i + 1) items)) (map value grown)
-shown_more value items i item values grown y inside is before here grows =
-    let row = λ (x : Bor Item). item_value x.now in
-    let rows : rows_read (take (i + 1) items) ≡ rows_read (take i items) ++ item_value item.now ∷ [] =
-    ap rows_read (take_more items i item inside ∙ ap (λ x. take i items ++ x ∷ []) (sym is)) ∙ map-append row (take i items) (item ∷ []) in
-    let plain : map value grown ≡ map value values ++ value y ∷ [] = ap (map value) grows ∙ map-append value values (y ∷ []) in
-    subst (λ r. ShowsRows r (map value grown)) (sym rows) (subst (λ p. ShowsRows (rows_read (take i items) ++ item_value item.now ∷ []) p) (sym plain)
-    (shown_append (rows_read (take i items)) (map value values) (item_value item.now ∷ []) (value y ∷ []) before here))
+shown_more value items i item values grown y inside is before here grows = grind (arith, common_steps, take_more, map-append, shown_append)
 
 -- There are as many rows as items.
 pub rows_count : (items : List (Bor Item)) → length (rows_read items) ≡ length items
@@ -103,16 +92,10 @@ abbrev pub IsOfBytes : Shape → Type 0
 IsOfBytes s = (row : Value) → fits s row ≡ true → is_valid row ≡ true → (bytes : List ℕ) × (row ≡ Bytes bytes)
 
 pub of_binary : IsOfBytes of_large_binary
-of_binary Null fit valid = absurd (false≢true valid)
-of_binary (Bytes bytes) fit valid = (bytes, refl)
-of_binary row fit valid = absurd (false≢true fit)
+of_binary row fit valid = grind (arith, common_steps)
 
 pub of_views : (s : Shape) → is_view_shape s ≡ true → IsOfBytes s
-of_views s view Null fit valid = absurd (false≢true valid)
-of_views s view (Bytes bytes) fit valid = (bytes, refl)
-of_views of_binary_view view row fit valid = absurd (false≢true fit)
-of_views of_utf8_view view row fit valid = absurd (false≢true fit)
-of_views s view row fit valid = absurd (false≢true view)
+of_views s view row fit valid = grind (arith, common_steps)
 
 -- The bytes that are stored for an item.
 abbrev pub stored_in : NullSlots → Bor Item → List ℕ
@@ -135,5 +118,4 @@ bytes_shown s of beneath (item ∷ items) fit = show_next (item_value item.now) 
 -- One more row.
 pub stored_more : (beneath : NullSlots) (items : List (Bor Item)) (i : ℕ) (item : Bor Item) (bytes : List ℕ) → i < length items → item ≡ get_or items i item → bytes ≡ bytes_stored beneath (item_value item.now) →
     stored_bytes beneath (take (i + 1) items) ≡ stored_bytes beneath (take i items) ++ bytes ∷ []
-stored_more beneath items i item bytes inside is here =
-    map_more (stored_in beneath) items i item inside ∙ ap (λ x. stored_bytes beneath (take i items) ++ x ∷ []) (ap (stored_in beneath) (sym is) ∙ sym here)
+stored_more beneath items i item bytes inside is here = grind (arith, common_steps, map_more)

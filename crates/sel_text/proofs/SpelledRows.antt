@@ -1,6 +1,6 @@
 -- The text of a type, and that of rows, is its own canonical spelling.
-use Rattle.std.proofs.Common.{◌≢◌, ◌≤◌, ◌≡◌, ℕ, suc, ℤ, pos, negsuc, ◌+◌, ◌*◌, ◌/◌, ◌%◌, ◌<◌, ◌^◌, Bool, true, false, List, [], ◌∷◌, ◌++◌, length, map, Some, refl, ap, sym, ◌∙◌, arith, append_assoc, append-nil}
-use Rattle.sel_text.proofs.Common.{cond_both, ◌==◌, codes, encode_utf8, nat_lt, if◌then◌else◌, option_map, option_and_then, digit_char, digit_value, is_digit, decimal, signed_decimal, mag, flat_map, join_with_byte, list_all, nat_tests, decimal_is_IsNumeral_wide, digit_value-digit_char, encode_ascii, AllDigits, not, ◌&&◌, Shape, Shapes, no_shapes, next_shape, of_large_list, of_fixed_size_list, of_struct, Value, both, and_first, and_second, fits, fits_bytes, escape_at, escape_spelled, is_mark, is_space, spelled, spelled_from, unit_at, unit_escape, escaped, hex_byte, hex_text, is_text_shape, bytes_text, type_text, type_texts, widths_written, all_widths_written, quoted, text_of, value_text, Place, Between, PlaceWord as Word, Prefix, InString as Quoted, InHex as Hexadecimal}
+use Rattle.std.proofs.Common.{◌≢◌, ◌≤◌, ◌≡◌, ℕ, suc, ℤ, pos, negsuc, ◌+◌, ◌/◌, ◌%◌, ◌<◌, ◌^◌, Bool, true, false, List, [], ◌∷◌, ◌++◌, length, map, Some, refl, ap, sym, ◌∙◌, arith, append_assoc, append-nil}
+use Rattle.sel_text.proofs.Common.{common_steps, cond_both, ◌==◌, codes, nat_lt, if◌then◌else◌, option_map, option_and_then, digit_char, is_digit, decimal, signed_decimal, mag, flat_map, join_with_byte, list_all, nat_tests, decimal_is_IsNumeral_wide, digit_value-digit_char, encode_ascii, AllDigits, not, ◌&&◌, Shape, Shapes, no_shapes, next_shape, of_large_list, of_fixed_size_list, of_struct, Value, both, and_first, and_second, fits, fits_bytes, escape_at, escape_spelled, is_mark, is_space, spelled, spelled_from, unit_at, unit_escape, escaped, hex_byte, hex_text, is_text_shape, bytes_text, type_text, type_texts, widths_written, all_widths_written, quoted, text_of, value_text, Place, Between, PlaceWord as Word, Prefix, InString as Quoted, InHex as Hexadecimal}
 use Rattle.sel_text.proofs.Decoded.{no_quote}
 use Rattle.sel_text.proofs.Ends.{few_digits}
 use Rattle.sel_text.proofs.Escapes.{each_escape}
@@ -29,12 +29,9 @@ step_plain : (m : Bool) (byte : ℕ) (rest : List ℕ) → is_plain_byte byte �
 step_plain true byte rest plain = let other = others byte plain in rw (other.0, other.1, other.2) (pick (is_mark byte) byte rest)
 step_plain false byte rest plain = let other = others byte plain in rw (other.0, other.1, other.2) (pick (is_mark byte) byte rest)
 
-plain_digit : (c : ℕ) → digit_value c < 10 → is_plain_byte c ≡ true
-plain_digit c small = grind (arith, nat_tests, small)
-
 digits_plain : (ds : List ℕ) → AllDigits 10 ds → list_all is_plain_byte ds ≡ true
 digits_plain [] all = refl
-digits_plain (c ∷ cs) all = both (is_plain_byte c) (list_all is_plain_byte cs) (plain_digit c all.0) (digits_plain cs all.1)
+digits_plain (c ∷ cs) all = both (is_plain_byte c) (list_all is_plain_byte cs) (let small = all.0 in grind (arith, nat_tests, small)) (digits_plain cs all.1)
 
 -- ---- texts that are spelled as they are
 
@@ -79,15 +76,12 @@ skipped : (place : Place) (tail rest : List ℕ) → spelled_from place (length 
 skipped place [] rest = refl
 skipped place (byte ∷ tail) rest = skipped place tail rest
 
-ascii_spelled : (b : ℕ) → b < 128 → flat_map escaped (encode_utf8 b) ≡ escaped b
-ascii_spelled b low = ap (flat_map escaped) (encode_ascii b low) ∙ append-nil (escaped b)
-
 -- An escape is spelled as it is, if it is that of its character.
 escape_passes : (b : ℕ) (tail : List ℕ) → b < 128 → ((rest : List ℕ) → escape_at (tail ++ rest) ≡ Some (b, length tail)) → escaped b ≡ 92 ∷ tail → Passes Quoted Quoted (92 ∷ tail)
 escape_passes b tail low read is = record {
   passed = λ rest.
       ap (λ e. option_and_then (λ (next : Place × ℕ). option_map (λ more. escape_spelled e ++ more) (spelled_from next.0 next.1 (tail ++ rest))) (option_map (λ escape. (Quoted, escape.1)) e)) (read rest)
-      ∙ ap (λ l. option_map (λ more. l ++ more) (spelled_from Quoted (length tail) (tail ++ rest))) (ascii_spelled b low ∙ is)
+      ∙ ap (λ l. option_map (λ more. l ++ more) (spelled_from Quoted (length tail) (tail ++ rest))) (ap (flat_map escaped) (encode_ascii b low) ∙ append-nil (escaped b) ∙ is)
       ∙ ap (option_map (λ more. (92 ∷ tail) ++ more)) (skipped Quoted tail rest);
 }
 
@@ -96,21 +90,12 @@ hex_digit d small = let value = digit_value-digit_char d (omega arith) in grind 
 
 -- The escape of a byte in hexadecimal.
 unit_read : (b : ℕ) (rest : List ℕ) → b < 32 → unit_at (48 ∷ 48 ∷ digit_char (b / 16) ∷ digit_char (b % 16) ∷ rest) ≡ Some b
-unit_read b rest low =
-    let first = hex_digit (b / 16) (omega arith) in
-    let second = hex_digit (b % 16) (omega arith) in
-    let high = digit_value-digit_char (b / 16) (omega arith) in
-    let few = digit_value-digit_char (b % 16) (omega arith) in
-    let value : digit_value 48 * 4096 + digit_value 48 * 256 + digit_value (digit_char (b / 16)) * 16 + digit_value (digit_char (b % 16)) ≡ b = let zero_digit : digit_value 48 ≡ 0 = refl in omega (arith, high, few, zero_digit) in
-    rw (first, second) (ap Some value)
-
-unit_kept : (b : ℕ) (rest : List ℕ) → b < 32 → unit_escape rest b ≡ Some (b, 5)
-unit_kept b rest low = grind (arith, nat_tests, low)
+unit_read b rest low = grind (arith, common_steps, hex_digit, digit_value-digit_char)
 
 control_read : (b : ℕ) (rest : List ℕ) → b < 32 → escape_at (117 ∷ 48 ∷ 48 ∷ digit_char (b / 16) ∷ digit_char (b % 16) ∷ rest) ≡ Some (b, 5)
 control_read b rest low =
     let digits = 48 ∷ 48 ∷ digit_char (b / 16) ∷ digit_char (b % 16) ∷ rest in
-    ap (option_and_then (unit_escape digits)) (unit_read b rest low) ∙ unit_kept b digits low
+    ap (option_and_then (unit_escape digits)) (unit_read b rest low) ∙ grind (arith, nat_tests, low)
 
 letter_passes : (b : ℕ) → b ≢ 34 → b ≢ 92 → 32 ≤ b → Passes Quoted Quoted (b ∷ [])
 letter_passes b quote backslash high =
@@ -146,10 +131,7 @@ string_keeps bytes m = (
 -- ---- bytes in hexadecimal
 
 digit_passes : (d : ℕ) → Passes Hexadecimal Hexadecimal (digit_char d ∷ [])
-digit_passes d =
-    let other = no_quote d in
-    let is : (digit_char d == 34) ≡ false = grind (arith, nat_tests, other) in
-    record { passed = λ rest. rw is refl }
+digit_passes d = grind (arith, nat_tests, no_quote)
 
 hex_byte_passes : (b : ℕ) → Passes Hexadecimal Hexadecimal (hex_byte b)
 hex_byte_passes b = joined_passes Hexadecimal Hexadecimal Hexadecimal (digit_char (b / 16) ∷ []) (digit_char (b % 16) ∷ []) (digit_passes (b / 16)) (digit_passes (b % 16))

@@ -1,8 +1,8 @@
 -- Characters of strings in the notation of rows.
-use Rattle.std.proofs.Common.{◌≡◌, ◌≢◌, ◌≤◌, ◌<◌, ℕ, ◌+◌, ◌/◌, ◌%◌, Bool, true, List, [], ◌∷◌, ◌++◌, refl, ap, sym, ◌∙◌, append_assoc, append-nil, arith, Some, None, subst, inl, inr, ◌⊎◌, option_map, encode_utf8, if◌then◌else◌}
-use Rattle.std.proofs.lemmas.Bool.{cases_eq, cases_lt}
-use Rattle.sel_text.proofs.Common.{digit_char, flat_map, nat_tests, flat_map-append, encode_ascii, and_first, and_second, goes_on, escaped, hex_byte, after_string_byte, escape_byte, is_between, is_hexadecimal, text_byte, Bracket, Keep, Next, Quoted, Within, Text, Escape, UnitFirst, LastThree, LastTwo, LastOne, ByteOne, ByteTwo, ByteThree, AfterE0, AfterEd, AfterF0, AfterF4}
-use lib.Utf8.{encode, encodes, next, scalar, scalars, scalar_cases}
+use Rattle.std.proofs.Common.{◌≡◌, ◌≤◌, ◌<◌, ℕ, ◌+◌, ◌/◌, Bool, true, List, [], ◌∷◌, ◌++◌, refl, ap, sym, ◌∙◌, append-nil, arith, Some, None, subst, inl, inr, ◌⊎◌, option_map, encode_utf8, if◌then◌else◌}
+use Rattle.std.proofs.lemmas.Bool.{cases_lt}
+use Rattle.sel_text.proofs.Common.{common_steps, digit_char, flat_map, nat_tests, flat_map-append, encode_ascii, and_first, and_second, goes_on, escaped, after_string_byte, escape_byte, is_between, is_hexadecimal, Bracket, Keep, Next, Quoted, Within, Text, Escape, ByteOne}
+use lib.Utf8.{encodes, next, scalar, scalars, scalar_cases}
 use Rattle.sel_text.proofs.Escapes.{each_escape, encoded, high_letter}
 use Rattle.sel_text.proofs.TypeNotation.{step_to}
 
@@ -30,12 +30,6 @@ when_true right next is = rw is refl
 pub hex_step : (before after : Within) (digit : ℕ) → after_string_byte before digit ≡ (if is_hexadecimal digit then Some (Quoted after) else None) → is_hexadecimal digit ≡ true → after_string_byte before digit ≡ Some (Quoted after)
 hex_step before after digit is hex = is ∙ when_true (is_hexadecimal digit) (Quoted after) hex
 
-control_leads : (b : ℕ) → b < 32 → Leads Text Text (92 ∷ 117 ∷ 48 ∷ 48 ∷ hex_byte b)
-control_leads b low =
-    leads_byte Text Escape Text 92 _ refl (leads_byte Escape UnitFirst Text 117 _ refl (leads_byte UnitFirst LastThree Text 48 _ refl (leads_byte LastThree LastTwo Text 48 _ refl
-    (leads_byte LastTwo LastOne Text (digit_char (b / 16)) _ (hex_step LastTwo LastOne (digit_char (b / 16)) refl (hex_digit (b / 16) (omega arith)))
-    (leads_byte LastOne Text Text (digit_char (b % 16)) [] (hex_step LastOne Text (digit_char (b % 16)) refl (hex_digit (b % 16) (omega arith))) (leads_none Text))))))
-
 short : (letter : ℕ) → escape_byte letter ≡ Some (Quoted Text) → Leads Text Text (92 ∷ letter ∷ [])
 short letter told = leads_byte Text Escape Text 92 (letter ∷ []) refl (leads_byte Escape Text Text letter [] told (leads_none Text))
 
@@ -43,7 +37,7 @@ ascii_leads : (b : ℕ) → b < 128 → Leads Text Text (escaped b)
 ascii_leads =
     each_escape (λ b word. b < 128 → Leads Text Text word)
     (λ low. short 34 refl) (λ low. short 92 refl) (λ low. short 110 refl) (λ low. short 114 refl) (λ low. short 116 refl) (λ low. short 98 refl) (λ low. short 102 refl)
-    (λ b control n8 n9 n10 n12 n13 low. control_leads b control) (λ b high quote backslash low. leads_byte Text Text Text b [] (grind (arith, nat_tests, quote, backslash, high, low)) (leads_none Text))
+    (λ b control n8 n9 n10 n12 n13 low. grind (arith, common_steps, leads_byte, hex_step, hex_digit, leads_none)) (λ b high quote backslash low. leads_byte Text Text Text b [] (grind (arith, nat_tests, quote, backslash, high, low)) (leads_none Text))
 
 -- ---- characters of several bytes
 
@@ -53,59 +47,31 @@ between_step before after b low high is least most = is ∙ when_true (is_betwee
 last_leads : (b : ℕ) → 128 ≤ b → b ≤ 191 → Leads ByteOne Text (b ∷ [])
 last_leads b least most = leads_byte ByteOne Text Text b [] (between_step ByteOne Text b 128 191 refl least most) (leads_none Text)
 
-last_two_lead : (a b : ℕ) → 128 ≤ a → a ≤ 191 → 128 ≤ b → b ≤ 191 → Leads ByteTwo Text (a ∷ b ∷ [])
-last_two_lead a b low_a high_a low_b high_b = leads_byte ByteTwo ByteOne Text a (b ∷ []) (between_step ByteTwo ByteOne a 128 191 refl low_a high_a) (last_leads b low_b high_b)
+-- Three bytes, and four bytes, of one character.
+three : (a b c : ℕ) → 224 ≤ a → a ≤ 239 → 128 ≤ b → b ≤ 191 → (a ≡ 224 → 160 ≤ b) → (a ≡ 237 → b ≤ 159) → 128 ≤ c → c ≤ 191 → Leads Text Text (a ∷ b ∷ c ∷ [])
+three a b c low_a high_a low_b high_b e0 ed low_c high_c = record { led = λ brackets more. grind (arith, nat_tests) }
 
--- The first byte and the second one lead so.
-abbrev pub Begins : ℕ → ℕ → Within → Type 0
-Begins first second after = (middle : Within) × (text_byte first ≡ Some (Quoted middle)) × (after_string_byte middle second ≡ Some (Quoted after))
-
--- Two first bytes have second bytes of their own.
-begins : (first second e f : ℕ) (by_e by_f other after : Within) → text_byte e ≡ Some (Quoted by_e) → text_byte f ≡ Some (Quoted by_f) → (first ≢ e → first ≢ f → text_byte first ≡ Some (Quoted other)) →
-    (first ≡ e → after_string_byte by_e second ≡ Some (Quoted after)) → (first ≡ f → after_string_byte by_f second ≡ Some (Quoted after)) → after_string_byte other second ≡ Some (Quoted after) → Begins first second after
-begins first second e f by_e by_f other after at_e at_f at_other then_e then_f then_other =
-    elim (cases_eq first e) [
-      | inl same ↦ (by_e, rw same at_e, then_e same)
-      | inr not ↦ elim (cases_eq first f) [ inl same ↦ (by_f, rw same at_f, then_f same) | inr apart ↦ (other, at_other not apart, then_other) ]
-    ]
-
-three_begin : (first second : ℕ) → 224 ≤ first → first ≤ 239 → 128 ≤ second → second ≤ 191 → (first ≡ 224 → 160 ≤ second) → (first ≡ 237 → second ≤ 159) → Begins first second ByteOne
-three_begin first second least most low high e0 ed =
-    begins first second 224 237 AfterE0 AfterEd ByteTwo ByteOne refl refl (λ not other. grind (arith, nat_tests, not, other, least, most))
-    (λ is. between_step AfterE0 ByteOne second 160 191 refl (e0 is) high) (λ is. between_step AfterEd ByteOne second 128 159 refl low (ed is)) (between_step ByteTwo ByteOne second 128 191 refl low high)
-
-four_begin : (first second : ℕ) → 240 ≤ first → first ≤ 244 → 128 ≤ second → second ≤ 191 → (first ≡ 240 → 144 ≤ second) → (first ≡ 244 → second ≤ 143) → Begins first second ByteTwo
-four_begin first second least most low high f0 f4 =
-    begins first second 240 244 AfterF0 AfterF4 ByteThree ByteTwo refl refl (λ not other. grind (arith, nat_tests, not, other, least, most))
-    (λ is. between_step AfterF0 ByteTwo second 144 191 refl (f0 is) high) (λ is. between_step AfterF4 ByteTwo second 128 143 refl low (f4 is)) (between_step ByteThree ByteTwo second 128 191 refl low high)
-
-two_first : (b : ℕ) → 194 ≤ b → b ≤ 223 → text_byte b ≡ Some (Quoted ByteOne)
-two_first b least most = grind (arith, nat_tests, least, most)
+four : (a b c d : ℕ) → 240 ≤ a → a ≤ 244 → 128 ≤ b → b ≤ 191 → (a ≡ 240 → 144 ≤ b) → (a ≡ 244 → b ≤ 143) → 128 ≤ c → c ≤ 191 → 128 ≤ d → d ≤ 191 → Leads Text Text (a ∷ b ∷ c ∷ d ∷ [])
+four a b c d low_a high_a low_b high_b f0 f4 low_c high_c low_d high_d = record { led = λ brackets more. grind (arith, nat_tests) }
 
 two_lead : (c : ℕ) → 128 ≤ c → c < 2048 → Leads Text Text ((192 + c / 64) ∷ next c ∷ [])
-two_lead c least most =
-    leads_byte Text ByteOne Text (192 + c / 64) _ (two_first (192 + c / 64) (omega arith) (omega arith)) (last_leads (next c) (omega arith) (omega arith))
+two_lead c least most = grind (arith, nat_tests, leads_byte, last_leads)
 
 no_surrogate : (c : ℕ) → (c < 55296) ⊎ ((57344 ≤ c) × (c < 1114112)) → 224 + c / 4096 ≡ 237 → next (c / 64) ≤ 159
-no_surrogate c (inl low) ed = omega (arith, low, ed)
-no_surrogate c (inr high) ed = let least = high.0 in omega (arith, least, ed)
+no_surrogate c x1 ed = grind (arith, common_steps)
 
 three_lead : (c : ℕ) → 2048 ≤ c → c < 65536 → scalar c ≡ true → Leads Text Text ((224 + c / 4096) ∷ next (c / 64) ∷ next c ∷ [])
 three_lead c least most is =
-    let second = next (c / 64) in
-    let begin = three_begin (224 + c / 4096) second (omega arith) (omega arith) (omega arith) (omega arith) (λ e0. omega (arith, e0, least)) (no_surrogate c (scalar_cases c is)) in
-    leads_byte Text begin.0 Text (224 + c / 4096) _ begin.1 (leads_byte begin.0 ByteOne Text second _ begin.2 (last_leads (next c) (omega arith) (omega arith)))
+    three (224 + c / 4096) (next (c / 64)) (next c) (omega arith) (omega arith) (omega arith) (omega arith) (λ e0. omega (arith, e0, least)) (no_surrogate c (scalar_cases c is)) (omega arith) (omega arith)
 
 bounded : (c : ℕ) → (c < 55296) ⊎ ((57344 ≤ c) × (c < 1114112)) → c < 1114112
-bounded c (inl low) = omega (arith, low)
-bounded c (inr high) = high.1
+bounded c x1 = grind (arith, common_steps)
 
 four_lead : (c : ℕ) → 65536 ≤ c → scalar c ≡ true → Leads Text Text ((240 + c / 262144) ∷ next (c / 4096) ∷ next (c / 64) ∷ next c ∷ [])
 four_lead c least is =
     let below : c < 1114112 = bounded c (scalar_cases c is) in
-    let second = next (c / 4096) in
-    let begin = four_begin (240 + c / 262144) second (omega arith) (omega (arith, below)) (omega arith) (omega arith) (λ f0. omega (arith, f0, least)) (λ f4. omega (arith, f4, below)) in
-    leads_byte Text begin.0 Text (240 + c / 262144) _ begin.1 (leads_byte begin.0 ByteTwo Text second _ begin.2 (last_two_lead (next (c / 64)) (next c) (omega arith) (omega arith) (omega arith) (omega arith)))
+    four (240 + c / 262144) (next (c / 4096)) (next (c / 64)) (next c) (omega arith) (omega (arith, below)) (omega arith) (omega arith) (λ f0. omega (arith, f0, least)) (λ f4. omega (arith, f4, below))
+    (omega arith) (omega arith) (omega arith) (omega arith)
 
 -- A character as it is printed.
 pub letter_leads : (c : ℕ) → scalar c ≡ true → (brackets : List Bracket) (more : List ℕ) → goes_on (Quoted Text) brackets (flat_map escaped (encode_utf8 c) ++ more) ≡ goes_on (Quoted Text) brackets more
@@ -119,11 +85,7 @@ letter_leads c is brackets more =
 -- The characters of a string.
 pub letters_lead : (cs : List ℕ) → scalars cs ≡ true → (brackets : List Bracket) (more : List ℕ) → goes_on (Quoted Text) brackets (flat_map escaped (encodes cs) ++ more) ≡ goes_on (Quoted Text) brackets more
 letters_lead [] all brackets more = refl
-letters_lead (c ∷ cs) all brackets more =
-    ap (λ text. goes_on (Quoted Text) brackets (text ++ more)) (flat_map-append escaped (encode c) (encodes cs))
-    ∙ ap (goes_on (Quoted Text) brackets) (append_assoc (flat_map escaped (encode c)) (flat_map escaped (encodes cs)) more)
-    ∙ letter_leads c (and_first (scalar c) (scalars cs) all) brackets (flat_map escaped (encodes cs) ++ more)
-    ∙ letters_lead cs (and_second (scalar c) (scalars cs) all) brackets more
+letters_lead (c ∷ cs) all brackets more = grind (arith, common_steps, flat_map-append, letter_leads, and_first, and_second, (letters_lead cs (and_second (scalar c) (scalars cs) all) brackets more))
 
 -- ---- the first byte
 

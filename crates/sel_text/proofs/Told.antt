@@ -1,6 +1,6 @@
 -- Row text determines its value.
-use Rattle.std.proofs.Common.{◌≡◌, ◌≢◌, ℕ, ℤ, pos, negsuc, ◌^◌, ◌≤◌, ◌<◌, Bool, true, false, List, [], ◌∷◌, ◌++◌, length, get_or, drop, refl, ap, sym, ◌∙◌, arith, append_assoc, ◌==◌, nat_lt, if◌then◌else◌}
-use Rattle.sel_text.proofs.Common.{cond_both, digit_value, decimal, mag, flat_map, join_with_byte, list_all, AllDigits, nat_tests, decimal_is_IsNumeral_wide, Shape, Shapes, no_shapes, next_shape, of_int8, Value, Null, Truth, Number, Bytes, Items, Tuple, Values, no_values, next_value, values_of, both, and_first, and_second, fits, all_fit, fields_fit, fits_number, bracketed, hex_byte, escaped, hex_text, quoted, is_text_shape, bytes_text, item_shape, part_shapes, item_texts, part_texts, value_text, text_of, NoDigit}
+use Rattle.std.proofs.Common.{◌≡◌, ℕ, ℤ, pos, negsuc, ◌^◌, ◌≤◌, ◌<◌, Bool, true, false, List, [], ◌∷◌, ◌++◌, length, get_or, drop, refl, ap, sym, ◌∙◌, arith, ◌==◌, nat_lt, if◌then◌else◌}
+use Rattle.sel_text.proofs.Common.{common_steps, cond_both, digit_value, decimal, mag, join_with_byte, list_all, AllDigits, nat_tests, decimal_is_IsNumeral_wide, Shape, Shapes, no_shapes, next_shape, Value, Null, Truth, Number, Bytes, Items, Tuple, Values, no_values, next_value, values_of, both, and_first, and_second, fits, all_fit, fields_fit, fits_number, hex_text, quoted, is_text_shape, bytes_text, item_shape, part_shapes, item_texts, part_texts, value_text, text_of, NoDigit}
 use Rattle.sel_text.specs.Laws.{TextDeterminesRows}
 use Rattle.sel_text.proofs.Commas.{after, inside, joined_inside}
 use Rattle.sel_text.proofs.Ends.{few_digits}
@@ -12,10 +12,7 @@ use Rattle.sel_text.proofs.Printed.{listed_texts}
 
 pub after_no_digit : (close : ℕ) (xs : List (List ℕ)) (r : List ℕ) → 10 ≤ digit_value close → NoDigit (after close xs r)
 after_no_digit close [] r past = past
-after_no_digit close (x ∷ xs) r past = comma_past
-  where
-    comma_past : 10 ≤ digit_value 44
-    comma_past = omega arith
+after_no_digit close (x ∷ xs) r past = omega arith
 
 -- ---- the first byte determines the kind of a value
 
@@ -33,23 +30,17 @@ kind_of b =
     if b == 110 then 0 else if b == 116 then 1 else if b == 102 then 1 else if b == 45 then 2 else if nat_lt (digit_value b) 10 then 2 else
     if b == 34 then 3 else if b == 104 then 3 else if b == 91 then 4 else if b == 40 then 5 else 6
 
-digit_kind : (b : ℕ) → digit_value b < 10 → kind_of b ≡ 2
-digit_kind b digit = grind (arith, nat_tests)
-
 first_digit : (ds r : List ℕ) → 0 < length ds → AllDigits 10 ds → kind_of (get_or (ds ++ r) 0 0) ≡ 2
 first_digit [] r some digits = absurd (omega arith)
-first_digit (d ∷ ds) r some digits = digit_kind d digits.0
+first_digit (d ∷ ds) r some digits = let digit = digits.0 in grind (arith, nat_tests, digit)
 
 -- A number of a type has at most 128 bits.
 pub small_number : (s : Shape) (z : ℤ) → fits_number s z ≡ true → mag z < 2 ^ 128
-small_number of_int8 z fit = grind (arith, nat_tests, fit)
-small_number s (pos n) fit = first_of (cc, grind (arith, nat_tests, fit))
-small_number s (negsuc n) fit = first_of (cc, grind (arith, nat_tests, fit))
+small_number s z fit = grind (arith, nat_tests)
 
 -- A negative number has a signed type.
 pub small_below : (s : Shape) (n : ℕ) → fits_number s (negsuc n) ≡ true → n < 2 ^ 127
-small_below of_int8 n fit = grind (arith, nat_tests, fit)
-small_below s n fit = first_of (cc, grind (arith, nat_tests, fit))
+small_below s n fit = grind (arith, nat_tests)
 
 starts : (s : Shape) (v : Value) (r : List ℕ) → fits s v ≡ true → kind_of (get_or (value_text s v ++ r) 0 0) ≡ kind v
 starts s (Number (pos n)) r fit =
@@ -61,26 +52,18 @@ starts s (Truth true) r fit = refl
 starts s (Truth false) r fit = refl
 starts s v r fit = refl
 
-same_kind : (s : Shape) (v w : Value) (r t : List ℕ) → fits s v ≡ true → fits s w ≡ true → value_text s v ++ r ≡ value_text s w ++ t → kind v ≡ kind w
-same_kind s v w r t fv fw e = sym (starts s v r fv) ∙ ap (λ l. kind_of (get_or l 0 0)) e ∙ starts s w t fw
-
 bytes_apart : (s : Shape) (bs cs r t : List ℕ) → bytes_text s bs ++ r ≡ bytes_text s cs ++ t → (bs ≡ cs) × (r ≡ t)
 bytes_apart s bs cs r t e = go (is_text_shape s) e
   where
     go : (b : Bool) → (if b then quoted bs else hex_text bs) ++ r ≡ (if b then quoted cs else hex_text cs) ++ t → (bs ≡ cs) × (r ≡ t)
-    go true e =
-        let body : (flat_map escaped bs ++ 34 ∷ []) ++ r ≡ (flat_map escaped cs ++ 34 ∷ []) ++ t = cc in
-        escaped_apart bs cs r t (sym (append_assoc (flat_map escaped bs) (34 ∷ []) r) ∙ body ∙ append_assoc (flat_map escaped cs) (34 ∷ []) t)
-    go false e =
-        let body : (flat_map hex_byte bs ++ 34 ∷ []) ++ r ≡ (flat_map hex_byte cs ++ 34 ∷ []) ++ t = cc in
-        hex_apart bs cs r t (sym (append_assoc (flat_map hex_byte bs) (34 ∷ []) r) ∙ body ∙ append_assoc (flat_map hex_byte cs) (34 ∷ []) t)
+    go true e = grind (arith, common_steps, escaped_apart)
+    go false e = grind (arith, common_steps, hex_apart)
 
 -- No text begins with the row texts of two values of different kinds.
 pub unlike : (s : Shape) (v w : Value) (r t : List ℕ) → fits s v ≡ true → fits s w ≡ true → value_text s v ++ r ≡ value_text s w ++ t → (kind v == kind w) ≡ false → ⊥
 unlike s v w r t fv fw e differ =
-    let same = same_kind s v w r t fv fw e in
-    let apart : kind v ≢ kind w = grind (arith, nat_tests, differ) in
-    apart same
+    let same : kind v ≡ kind w = sym (starts s v r fv) ∙ ap (λ l. kind_of (get_or l 0 0)) e ∙ starts s w t fw in
+    grind (arith, nat_tests, same, differ)
 
 -- No value begins with a closing bracket.
 pub no_value : (s : Shape) (v : Value) (close : ℕ) (r t : List ℕ) → fits s v ≡ true → kind_of close ≡ 6 → close ∷ r ≡ value_text s v ++ t → ⊥
@@ -166,8 +149,7 @@ all_fits s [] fit = refl
 all_fits s (v ∷ vs) fit = both (fits s v) (all_fit s (values_of vs)) (and_first _ _ fit) (all_fits s vs (and_second _ _ fit))
 
 text_inside : (s : Shape) (vs : List Value) → text_of s vs ++ [] ≡ 91 ∷ inside 93 (item_texts s (values_of vs)) []
-text_inside s vs =
-    ap (λ l. bracketed l ++ []) (sym (listed_texts s vs)) ∙ ap (λ l. 91 ∷ l) (joined_inside 93 (item_texts s (values_of vs)) [])
+text_inside s vs = grind (arith, common_steps, listed_texts, joined_inside)
 
 pub texts_tell : TextDeterminesRows
 texts_tell shape rows others fit fitted same =

@@ -1,7 +1,6 @@
 -- The text of a type is in the notation of types, also with white space between its tokens.
-use Rattle.std.proofs.Common.{◌≡◌, inl, inr, ◌≢◌, ◌<◌, ℕ, ◌^◌, true, List, [], ◌∷◌, ◌++◌, length, get_or, refl, ap, sym, ◌∙◌, append_assoc, append-nil, arith, Some, Option, nat_lt}
-use Rattle.std.proofs.lemmas.Bool.{cases_eq}
-use Rattle.sel_text.proofs.Common.{digit_value, decimal, AllDigits, nat_tests, and_first, and_second, Shape, Shapes, no_shapes, next_shape, of_large_list, of_fixed_size_list, of_struct, after_byte, changed, goes_on, innermost, is_some_and, is_type_notation, is_between, type_text, type_texts, widths_written, all_widths_written, Bracket, Child, Fields, Change, Keep, Next, FirstName, Name, Size, SizeDigit, After}
+use Rattle.std.proofs.Common.{◌≡◌, ◌≢◌, ◌<◌, ℕ, ◌^◌, true, List, [], ◌∷◌, ◌++◌, length, get_or, refl, ap, sym, ◌∙◌, append-nil, arith, Some, Option, nat_lt}
+use Rattle.sel_text.proofs.Common.{common_steps, digit_value, AllDigits, nat_tests, and_first, and_second, Shape, Shapes, no_shapes, next_shape, of_large_list, of_fixed_size_list, of_struct, after_byte, changed, goes_on, innermost, is_some_and, is_type_notation, is_between, type_text, type_texts, widths_written, all_widths_written, Bracket, Child, Fields, Change, Keep, Next, FirstName, Name, Size, SizeDigit, After}
 use Rattle.sel_text.proofs.Commas.{after, inside, joined_inside}
 use Rattle.sel_text.proofs.Ends.{numeral_has}
 
@@ -17,23 +16,13 @@ digit_between c small = grind (arith, nat_tests, small)
 
 digits_read : (ds more : List ℕ) (brackets : List Bracket) → AllDigits 10 ds → goes_on SizeDigit brackets (ds ++ (44 ∷ more)) ≡ goes_on Name brackets more
 digits_read [] more brackets all = refl
-digits_read (c ∷ ds) more brackets all =
-    step_to SizeDigit SizeDigit Keep brackets c (ds ++ (44 ∷ more)) (rw (digit_between c all.0) refl) ∙ digits_read ds more brackets all.1
+digits_read (c ∷ ds) more brackets all = grind (arith, common_steps, step_to, digit_between, (digits_read ds more brackets all.1))
 
 first_digit : (c : ℕ) → digit_value c < 10 → c ≢ 48 → (top : Option Bracket) → after_byte Size top c ≡ Some (SizeDigit, Keep)
 first_digit c small some top = grind (arith, nat_tests, small)
 
 size_read : (ds more : List ℕ) (brackets : List Bracket) → 0 < length ds → AllDigits 10 ds → (get_or ds 0 0 ≡ 48 → length ds ≡ 1) → goes_on Size brackets (ds ++ (44 ∷ more)) ≡ goes_on Name brackets more
-size_read [] more brackets some all zeros = absurd (omega arith)
-size_read (c ∷ ds) more brackets some all zeros =
-    elim (cases_eq c 48) [
-      | inl same ↦ let none = no_more ds (omega (arith, zeros same)) in rw (same, none) refl
-      | inr not ↦ step_to Size SizeDigit Keep brackets c (ds ++ (44 ∷ more)) (first_digit c all.0 not (innermost brackets)) ∙ digits_read ds more brackets all.1
-    ]
-  where
-    no_more : (ds : List ℕ) → length ds ≡ 0 → ds ≡ []
-    no_more [] none = refl
-    no_more (d ∷ ds) none = absurd (omega (arith, none))
+size_read x0 more brackets some all zeros = grind (arith, common_steps, step_to, first_digit, digits_read)
 
 -- The first type in a bracket of fields.
 first_name : (s : Shape) (brackets : List Bracket) (more : List ℕ) → goes_on FirstName (Fields ∷ brackets) (type_text s ++ more) ≡ goes_on Name (Fields ∷ brackets) (type_text s ++ more)
@@ -42,16 +31,9 @@ first_name s brackets more = refl
 
 mutual
   pub type_read : (s : Shape) → widths_written s ≡ true → (brackets : List Bracket) (more : List ℕ) → goes_on Name brackets (type_text s ++ more) ≡ goes_on After brackets more
-  type_read (of_large_list s) written brackets more =
-      ap (goes_on Name (Child ∷ brackets)) (append_assoc (type_text s) (62 ∷ []) more) ∙ type_read s written (Child ∷ brackets) (62 ∷ more)
-  type_read (of_fixed_size_list s size) written brackets more =
-      let narrow : size < 2 ^ 64 = grind (arith, nat_tests, and_first (nat_lt size (2 ^ 64)) (widths_written s) written) in
-      let has = numeral_has size (omega (arith, narrow)) in
-      ap (goes_on Size (Child ∷ brackets)) (append_assoc (decimal size ++ (44 ∷ type_text s)) (62 ∷ []) more ∙ append_assoc (decimal size) (44 ∷ type_text s) (62 ∷ more))
-      ∙ size_read (decimal size) (type_text s ++ (62 ∷ more)) (Child ∷ brackets) has.0 has.1 has.2
-      ∙ type_read s (and_second (nat_lt size (2 ^ 64)) (widths_written s) written) (Child ∷ brackets) (62 ∷ more)
-  type_read (of_struct ss) written brackets more =
-      ap (goes_on FirstName (Fields ∷ brackets)) (joined_inside 62 (type_texts ss) more) ∙ types_read ss written brackets more
+  type_read (of_large_list s) written brackets more = grind (arith, common_steps, (type_read s written (Child ∷ brackets) (62 ∷ more)))
+  type_read (of_fixed_size_list s size) written brackets more = grind (arith, common_steps, nat_tests, and_first, numeral_has, size_read, and_second, (type_read s (and_second (nat_lt size (2 ^ 64)) (widths_written s) written) (Child ∷ brackets) (62 ∷ more)))
+  type_read (of_struct ss) written brackets more = grind (arith, common_steps, joined_inside, (types_read ss written brackets more))
   type_read s written brackets more = refl
 
   -- Further types, up to the closing bracket.

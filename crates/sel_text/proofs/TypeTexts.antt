@@ -1,6 +1,6 @@
 -- The texts of types with children.
-use Rattle.std.proofs.Common.{◌≡◌, ℕ, List, [], ◌∷◌, ◌++◌, map, Vec, Global, refl, ap, sym, ◌∙◌, append_assoc, codes}
-use Rattle.sel_text.proofs.Common.{shape_of, shapes_of, angled, type_text, type_texts}
+use Rattle.std.proofs.Common.{arith, ◌≡◌, ℕ, List, [], ◌∷◌, ◌++◌, map, Vec, Global, refl, ap, sym, ◌∙◌, codes}
+use Rattle.sel_text.proofs.Common.{common_steps, shape_of, shapes_of, angled, type_text, type_texts}
 use Rattle.sel_arrow.specs.declared.datatype.ArrowDataType.{ArrowDataType, Struct}
 use Rattle.sel_arrow.proofs.Types.{struct_shape}
 
@@ -16,6 +16,4 @@ struct_text dtype fields is = sym (ap type_text (struct_shape dtype fields is) �
 
 -- The text of a struct type, from its brackets on.
 pub struct_behind : (fields : Vec ArrowDataType Global) (dtypes : List ArrowDataType) (bytes rest : List ℕ) → fields.items ≡ dtypes → bytes ≡ angled (map text_of_type dtypes) ++ rest → codes "struct" ++ bytes ≡ text_of_type (Struct fields) ++ rest
-struct_behind fields dtypes bytes rest are is =
-    ap (λ l. codes "struct" ++ l) (is ∙ ap (λ l. angled (map text_of_type l) ++ rest) (sym are)) ∙ sym (append_assoc (codes "struct") (angled (map text_of_type fields.items)) rest)
-    ∙ ap (λ l. l ++ rest) (struct_text (Struct fields) fields refl)
+struct_behind fields dtypes bytes rest are is = grind (arith, common_steps, struct_text)

@@ -1,6 +1,6 @@
 -- A text begins with the text of at most one type.
-use Rattle.std.proofs.Common.{◌≡◌, ◌≢◌, ℕ, true, List, [], ◌∷◌, ◌++◌, get_or, drop, refl, ap, sym, ◌∙◌, arith, append_assoc, codes, ◌==◌, if◌then◌else◌}
-use Rattle.sel_text.proofs.Common.{decimal, Shape, Shapes, no_shapes, of_null, of_boolean, of_int8, of_int16, of_int32, of_int64, of_int128, of_uint8, of_uint16, of_uint32, of_uint64, of_uint128, of_large_binary, of_binary_view, of_utf8_view, of_large_list, of_fixed_size_list, of_struct, is_plain, angled, type_text, type_texts}
+use Rattle.std.proofs.Common.{◌≡◌, ◌≢◌, ℕ, true, List, [], ◌∷◌, ◌++◌, get_or, drop, refl, ap, sym, ◌∙◌, arith, codes, ◌==◌, if◌then◌else◌}
+use Rattle.sel_text.proofs.Common.{common_steps, decimal, Shape, Shapes, no_shapes, of_null, of_boolean, of_int8, of_int16, of_int32, of_int64, of_int128, of_uint8, of_uint16, of_uint32, of_uint64, of_uint128, of_large_binary, of_binary_view, of_utf8_view, of_large_list, of_fixed_size_list, of_struct, is_plain, angled, type_text, type_texts}
 
 -- The type whose text a text begins with, without its children; it is determined by the bytes in
 -- which the names of types differ.
@@ -27,8 +27,7 @@ begins (of_large_list s) more = refl
 begins s more = refl
 
 plain_kept : (s : Shape) → is_plain (without_children s) ≡ true → without_children s ≡ s
-plain_kept (of_large_list s) plain = cc
-plain_kept s plain = cc
+plain_kept s plain = grind (arith, common_steps)
 
 append_same : (a r t : List ℕ) → a ++ r ≡ a ++ t → r ≡ t
 append_same [] r t same = same
@@ -48,8 +47,7 @@ plain_told a s text rest more plain one other =
 
 pub blocks_told : (s : Shape) (text more : List ℕ) → codes "fixed" ++ text ≡ type_text s ++ more →
     (child : Shape) × (size : ℕ) × (s ≡ of_fixed_size_list child size) × (text ≡ 60 ∷ (decimal size ++ (44 ∷ (type_text child ++ (62 ∷ more)))))
-blocks_told (of_fixed_size_list child size) text more is =
-    (child, size, refl, ap (drop 5) is ∙ ap (λ l. 60 ∷ l) (append_assoc (decimal size ++ (44 ∷ type_text child)) (62 ∷ []) more ∙ append_assoc (decimal size) (44 ∷ type_text child) (62 ∷ more)))
+blocks_told (of_fixed_size_list child size) text more is = grind (arith, common_steps)
 blocks_told s text more is = let first = ap (λ l. get_or l 0 0) is in absurd (omega (arith, first))
 
 pub tuples_told : (s : Shape) (text more : List ℕ) → codes "struct" ++ text ≡ type_text s ++ more → (parts : Shapes) × (s ≡ of_struct parts) × (text ≡ angled (type_texts parts) ++ more)
@@ -60,20 +58,13 @@ tuples_told s text more is = let first = ap (λ l. get_or l 0 0) is in absurd (o
 pub no_signed : (text : List ℕ) → ((rest : List ℕ) → text ≢ codes "8" ++ rest) → ((rest : List ℕ) → text ≢ codes "16" ++ rest) → ((rest : List ℕ) → text ≢ codes "32" ++ rest) → ((rest : List ℕ) → text ≢ codes "64" ++ rest) → ((rest : List ℕ) → text ≢ codes "128" ++ rest) →
     (s : Shape) (more : List ℕ) → 105 ∷ text ≢ type_text s ++ more
 no_signed text a b c d f of_int8 more is = a more (ap (drop 1) is)
-no_signed text a b c d f s more is =
-    let rest = ap (drop 1) is in
-    let first = ap (λ l. get_or l 0 0) is in
-    first_of (search (a, b, c, d, f, rest), omega (arith, first))
+no_signed text a b c d f s more is = grind (arith, common_steps)
 
 pub no_unsigned : (text : List ℕ) → ((rest : List ℕ) → text ≢ codes "8" ++ rest) → ((rest : List ℕ) → text ≢ codes "16" ++ rest) → ((rest : List ℕ) → text ≢ codes "32" ++ rest) → ((rest : List ℕ) → text ≢ codes "64" ++ rest) → ((rest : List ℕ) → text ≢ codes "128" ++ rest) →
     ((rest : List ℕ) → text ≢ codes "tf8" ++ rest) → (s : Shape) (more : List ℕ) → 117 ∷ text ≢ type_text s ++ more
 no_unsigned text a b c d f g of_uint8 more is = a more (ap (drop 1) is)
-no_unsigned text a b c d f g s more is =
-    let rest = ap (drop 1) is in
-    let first = ap (λ l. get_or l 0 0) is in
-    first_of (search (a, b, c, d, f, g, rest), omega (arith, first))
+no_unsigned text a b c d f g s more is = grind (arith, common_steps)
 
 pub no_plain : (text : List ℕ) → ((rest : List ℕ) → text ≢ codes "i" ++ rest) → ((rest : List ℕ) → text ≢ codes "null" ++ rest) → ((rest : List ℕ) → text ≢ codes "bool" ++ rest) → ((rest : List ℕ) → text ≢ codes "binary" ++ rest) → ((rest : List ℕ) → text ≢ codes "binview" ++ rest) →
     ((rest : List ℕ) → text ≢ codes "u" ++ rest) → (s : Shape) (more : List ℕ) → is_plain s ≡ true → text ≢ type_text s ++ more
-no_plain text a b c d f g of_null more plain is = b more is
-no_plain text a b c d f g s more plain is = first_of (search (a, b, c, d, f, g, is), cc)
+no_plain text a b c d f g s more plain is = grind (arith, common_steps)

@@ -1,26 +1,11 @@
 -- Rows of a column exceed no limit.
 use Rattle.std.proofs.Common.{◌≡◌, ℕ, ◌+◌, ◌≤◌, ◌<◌, true, false, List, [], ◌∷◌, ◌++◌, length, map, take, get_or, refl, ap, ◌∙◌, arith, subst, ℤ}
 use Rattle.std.proofs.lemmas.Bool.{le-ltb}
-use Rattle.sel_text.proofs.Common.{or_from, or_parts, nat_tests, rows, row_count, well_formed, Shape, shapes_of, of_int8, Value, ArrayRef, Column, NullColumn, Boolean, Int8, Int16, Int32, Int64, Int128, UInt8, UInt16, UInt32, UInt64, UInt128, LargeBinary, BinaryView, Utf8View, length-map, length-take, map_more, max_rows, shape_of, ArrowDataType, fits_number, any_exceeds_limit, exceeds_limit, exceeds_max, part_in, NullSlots}
+use Rattle.sel_text.proofs.Common.{common_steps, or_from, or_parts, nat_tests, rows, row_count, well_formed, Shape, shapes_of, Value, ArrayRef, Column, length-map, length-take, map_more, max_rows, shape_of, ArrowDataType, fits_number, any_exceeds_limit, exceeds_limit, exceeds_max, part_in, NullSlots}
 use Rattle.sel_arrow.proofs.NestedRows.{length-rows, has_blocks}
 use Rattle.sel_arrow.specs.declared.fixed_size_list.FixedSizeListArray.{FixedSizeListArray}
 
 count_few : (c : Column) → well_formed c ≡ true → row_count c ≤ max_rows
-count_few (NullColumn column) formed = column.rows_fit
-count_few (Boolean column) formed = column.rows_fit
-count_few (Int8 column) formed = column.rows_fit
-count_few (Int16 column) formed = column.rows_fit
-count_few (Int32 column) formed = column.rows_fit
-count_few (Int64 column) formed = column.rows_fit
-count_few (Int128 column) formed = column.rows_fit
-count_few (UInt8 column) formed = column.rows_fit
-count_few (UInt16 column) formed = column.rows_fit
-count_few (UInt32 column) formed = column.rows_fit
-count_few (UInt64 column) formed = column.rows_fit
-count_few (UInt128 column) formed = column.rows_fit
-count_few (LargeBinary column) formed = column.rows_fit
-count_few (BinaryView column) formed = column.rows_fit
-count_few (Utf8View column) formed = column.bytes.rows_fit
 count_few c formed = grind (arith, nat_tests, formed)
 
 -- The rows of a column are not too many.
@@ -33,8 +18,7 @@ rows_few array vs are =
 
 -- Rows of an integer type exceed a limit only if they are too many.
 pub numbers_within : (b : NullSlots) (s : Shape) (z : ℤ) (vs : List Value) → fits_number s z ≡ true → exceeds_max (length vs) ≡ false → exceeds_limit b s vs ≡ false
-numbers_within b of_int8 z vs number few = few
-numbers_within b s z vs number few = first_of (cc, search few)
+numbers_within b s z vs number few = grind (arith, common_steps)
 
 -- The list size of a column of fixed-size lists is not too large.
 pub width_few : (array : FixedSizeListArray) → exceeds_max array.size ≡ false
