@@ -17,7 +17,7 @@ joined_after close x [] r = append_assoc x (close ∷ []) r
 joined_after close x (y ∷ xs) r = grind (arith, common_steps, (joined_after close y xs r))
 
 pub joined_inside : (close : ℕ) (xs : List (List ℕ)) (r : List ℕ) → (join_with_byte 44 xs ++ close ∷ []) ++ r ≡ inside close xs r
-joined_inside close x1 r = grind (arith, common_steps, joined_after)
+joined_inside close xs r = grind (arith, common_steps, joined_after)
 
 -- A closing bracket or a comma follows each part.
 pub bracket_or_comma : (close : ℕ) (texts : List (List ℕ)) (next more : List ℕ) → next ≡ after close texts more → ((end : List ℕ) → next ≢ close ∷ end) → ((rest : List ℕ) → next ≢ 44 ∷ rest) → ⊥

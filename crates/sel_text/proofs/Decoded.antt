@@ -78,7 +78,7 @@ abbrev pub one_then : ℕ → List ℕ → ℕ × List ℕ
 one_then a r = (a, r)
 
 plain_read : (a : ℕ) (r : List ℕ) → a ≢ 92 → read_one (a ∷ r) ≡ one_then a r
-plain_read a x1 not = grind (arith, nat_tests)
+plain_read a r not = grind (arith, nat_tests)
 
 low_value : (a : ℕ) → a < 32 → 16 * hex_value (digit_char (a / 16)) + hex_value (digit_char (a % 16)) ≡ a
 low_value a low = grind (arith, nat_tests)

@@ -23,7 +23,7 @@ hidden_all p null (false ∷ bits) (v ∷ vs) all = both (p Null) (list_all p (h
 
 -- Under a validity, rows pass a test that null passes too.
 masked_all : (p : Value → Bool) → p Null ≡ true → (validity : Option Bits) (vs : List Value) → list_all p vs ≡ true → list_all p (masked validity vs) ≡ true
-masked_all p null x2 vs all = grind (arith, common_steps, hidden_all)
+masked_all p null validity vs all = grind (arith, common_steps, hidden_all)
 
 masked_fit : (s : Shape) (validity : Option Bits) (vs : List Value) → list_all (fits s) vs ≡ true → list_all (fits s) (masked validity vs) ≡ true
 masked_fit s validity vs fit = masked_all (fits s) refl validity vs fit

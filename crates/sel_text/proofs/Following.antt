@@ -102,7 +102,7 @@ name_byte_leads : (before : Next) (byte : ℕ) → is_space byte ≡ false → e
 name_byte_leads before byte other = grind (arith, nat_tests, all_bytes)
 
 closing_leads : (top : Option Bracket) (byte : ℕ) → closes top byte ≡ true → every (leads Between byte) (Some (After, Close)) ≡ true
-closing_leads x0 byte is = grind (arith, nat_tests)
+closing_leads top byte is = grind (arith, nat_tests)
 
 first_leads : (top : Option Bracket) (byte : ℕ) (next : Option (Next × Change)) → every (leads Between byte) next ≡ true → every (leads Between byte) (if closes top byte then Some (After, Close) else next) ≡ true
 first_leads top byte next led = cond_both (closes top byte) _ _ (λ o. every (leads Between byte) o ≡ true) (closing_leads top byte) (λ _. led)

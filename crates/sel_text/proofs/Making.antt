@@ -12,10 +12,10 @@ told_wanting p fault wants = grind (arith, common_steps)
 
 -- An error of a constructor for an exceeded limit is reported as `Limit`.
 pub maker_told : (rule : Option Malformed) (error : MakeError) (p : Bool) → IsFaultOrMemory rule error → ((m : Malformed) → rule ≡ Some m → p ≡ true) → ReportsLimit p (make_fault error)
-maker_told rule x1 p is past = grind (arith, common_steps)
+maker_told rule error p is past = grind (arith, common_steps)
 
 pub maker_wanting : (rule : Option Malformed) (error : MakeError) → IsFaultOrMemory rule error → rule ≡ None → IsMemoryFault (make_fault error)
-maker_wanting rule x1 is kept = grind (arith, common_steps)
+maker_wanting rule error is kept = grind (arith, common_steps)
 
 -- If only the first of three rules can be broken, a broken rule is the first.
 pub first_of_three : (a b d : Bool) (r s t m : Malformed) → b ≡ false → d ≡ false → first_broken ((r, a) ∷ (s, b) ∷ (t, d) ∷ []) ≡ Some m → a ≡ true

@@ -16,7 +16,7 @@ opened entry bracket parts = entry ++ (bracket ∷ join_with_byte 44 parts)
 -- The first part.
 pub opened_first : (entry old new : List ℕ) (bracket : ℕ) (parts more : List (List ℕ)) (part : List ℕ) → length parts ≡ 0 → more ≡ parts ++ part ∷ [] →
     old ≡ opened entry bracket parts → new ≡ old ++ part → new ≡ opened entry bracket more
-opened_first entry old new bracket x4 more part none is before now = grind (arith, common_steps)
+opened_first entry old new bracket parts more part none is before now = grind (arith, common_steps)
 
 -- A part after a comma, which is pushed as a character.
 pub opened_more : (entry old put mid new char : List ℕ) (bracket : ℕ) (parts more : List (List ℕ)) (part : List ℕ) → 0 < length parts → more ≡ parts ++ part ∷ [] →

@@ -11,12 +11,12 @@ many_past beneath s rows many = grind (arith, common_steps, or_left)
 
 -- A validity that covers the rows has their length.
 pub no_difference : (validity : Option Bits) (n : ℕ) → Covers validity n → validity_differs validity n ≡ false
-no_difference x0 n covers = grind (arith, nat_tests)
+no_difference validity n covers = grind (arith, nat_tests)
 
 -- If no other rule is broken, the rows are too many.
 many_told : (beneath : NullSlots) (s : Shape) (rows : List Value) (broken : Option Malformed) (error : MakeError) → ((m : Malformed) → broken ≡ Some m → too_many (length rows) ≡ true) →
     IsFault broken error → (fault : Fault) → fault ≡ make_fault error → ReportsLimit (exceeds_limit beneath s rows) fault
-many_told beneath s rows broken x4 many is fault told = grind (arith, common_steps, many_past)
+many_told beneath s rows broken error many is fault told = grind (arith, common_steps, many_past)
 
 -- So an error of the constructor is permitted.
 pub makes_told : (beneath : NullSlots) (s : Shape) (rows : List Value) (r : Result ArrayRef Fault) (error : MakeError) → IsErrAnd r (λ fault. fault ≡ make_fault error) →
@@ -49,10 +49,10 @@ binview_told beneath s rows views buffers validity error long one placed covers 
 -- ---- results for rows of views
 
 pub if_told : {T : Type 0} (r : Result T Fault) (error : Fault) (P : Fault → Type 0) → IsErrAnd r (λ fault. fault ≡ error) → P error → IfErr r P
-if_told x0 error x2 is holds = grind (arith, common_steps)
+if_told r error P is holds = grind (arith, common_steps)
 
 pub if_made : {T : Type 0} (r : Result T Fault) (error : MakeError) (P : Fault → Type 0) → IsErrAnd r (λ fault. fault ≡ make_fault error) → ((fault : Fault) → fault ≡ make_fault error → P fault) → IfErr r P
-if_made x0 error x2 is holds = grind (arith, common_steps)
+if_made r error P is holds = grind (arith, common_steps)
 
 -- Too many bytes exceed a limit of views.
 pub bytes_past : (beneath : NullSlots) (s : Shape) (rows : List Value) → is_view_shape s ≡ true → exceeds_max (all_placed_bytes rows) ≡ true → exceeds_limit beneath s rows ≡ true
@@ -72,4 +72,4 @@ pub no_text_fault : (array : BinaryViewArray) → all_text (binview_rows array) 
 no_text_fault array texts = grind (arith, common_steps, no_difference, no_views_fault)
 
 pub never_broken : {A : Type 0} (broken : Option Malformed) (error : MakeError) → broken ≡ None → IsFault broken error → A
-never_broken broken x1 none is = grind (arith, common_steps)
+never_broken broken error none is = grind (arith, common_steps)

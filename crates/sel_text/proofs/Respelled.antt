@@ -26,7 +26,7 @@ unspaced Between byte rest bytes outside space is = sym (begins [] (spelled_from
 unspaced place byte rest bytes outside space is = first_of (cc, grind (arith, space, is, begins))
 
 from_front : (front : List ℕ) (o : Option (List ℕ)) (bytes : List ℕ) → option_map (λ more. front ++ more) o ≡ Some bytes → (more : List ℕ) × (o ≡ Some more) × (bytes ≡ front ++ more)
-from_front front x1 bytes is = grind (arith, common_steps)
+from_front front o bytes is = grind (arith, common_steps)
 
 -- After a word and white space there is nothing more, or a mark.
 abbrev pub Ended : List ℕ → Type 0
@@ -42,16 +42,16 @@ gap_ended (byte ∷ rest) bytes is = go (gap_ended rest) (is_space byte) (is_mar
     go later false false space mark = let none : None ≡ Some bytes = rw (space, mark) at is in absurd cc
 
 unfinished : (next : Next) (brackets : List Bracket) → is_last next ≡ false → is_end next brackets ≡ false
-unfinished next x1 last = grind (arith, common_steps)
+unfinished next brackets last = grind (arith, common_steps)
 
 -- A token that no mark ends is not ended.
 dead : (next : Next) (brackets : List Bracket) (bytes : List ℕ) → is_last next ≡ false → ((top : Option Bracket) (mark : ℕ) → is_mark mark ≡ true → after_byte next top mark ≡ None) → Ended bytes → goes_on next brackets bytes ≡ true → ⊥
-dead next brackets bytes last none x5 on = grind (arith, common_steps, unfinished)
+dead next brackets bytes last none ends on = grind (arith, common_steps, unfinished)
 
 -- A number that a mark or the end follows is ended.
 ended : (next behind : Next) (brackets : List Bracket) (bytes : List ℕ) → is_last next ≡ false → ((top : Option Bracket) (mark : ℕ) → is_mark mark ≡ true → after_byte next top mark ≡ after_byte behind top mark) → Ended bytes →
     goes_on next brackets bytes ≡ true → goes_on behind brackets bytes ≡ true
-ended next behind brackets bytes last same x6 on = grind (arith, common_steps, unfinished)
+ended next behind brackets bytes last same ends on = grind (arith, common_steps, unfinished)
 
 word_dead : (word : WordSoFar) (mark : ℕ) → is_mark mark ≡ true → after_word_byte word mark ≡ None
 word_dead N mark is = grind (arith, nat_tests, is)

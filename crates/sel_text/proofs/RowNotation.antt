@@ -112,7 +112,7 @@ first_read text reads bracket brackets more = grind (arith, common_steps, closes
 
 all_read : (texts : List (List ℕ)) → Each Reads texts → (bracket : Bracket) (brackets : List Bracket) (more : List ℕ) → holds_values bracket ≡ true →
     goes_on FirstValue (bracket ∷ brackets) (inside (closing bracket) texts more) ≡ goes_on After brackets more
-all_read x0 each bracket brackets more holds = grind (arith, common_steps, first_read, read_before, commas_read)
+all_read texts each bracket brackets more holds = grind (arith, common_steps, first_read, read_before, commas_read)
 
 bracketed_reads : (opening : ℕ) (bracket : Bracket) (texts : List (List ℕ)) → begins_value opening ≡ true → holds_values bracket ≡ true →
     ((brackets : List Bracket) (more : List ℕ) → goes_on Value brackets (opening ∷ more) ≡ goes_on FirstValue (bracket ∷ brackets) more) → Each Reads texts → Reads (opening ∷ join_with_byte 44 texts ++ closing bracket ∷ [])

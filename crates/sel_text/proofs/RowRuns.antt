@@ -41,10 +41,10 @@ left_past (r ∷ runs) d e used some few = grind (arith, common_steps, length-re
 -- In a run that is not.
 pub left_in : (runs : List RowRun) (d e : RowRun) (used : ℕ) → 0 < length runs → used < (get_or runs 0 d).times →
     drop used (all_items runs) ≡ (get_or runs 0 e).item ∷ drop (used + 1) (all_items runs)
-left_in x0 d e used some more = grind (arith, common_steps, length-replicate, drop_more)
+left_in runs d e used some more = grind (arith, common_steps, length-replicate, drop_more)
 
 pub some_runs : (runs : List RowRun) (used : ℕ) → 0 < length (drop used (all_items runs)) → 0 < length runs
-some_runs x0 used some = grind (arith, common_steps)
+some_runs runs used some = grind (arith, common_steps)
 
 -- ---- repeated rows of fixed-size lists
 

@@ -11,7 +11,7 @@ begins text None = refl
 begins text (Some x) = refl
 
 pub appended : (a b : List ℕ) (o : Option (List ℕ)) → option_map (λ more. (a ++ b) ++ more) o ≡ option_map (λ more. a ++ more) (option_map (λ more. b ++ more) o)
-appended a b x2 = grind (arith, common_steps)
+appended a b o = grind (arith, common_steps)
 
 -- No token continues so.
 pub fails_of : (text source bytes : List ℕ) (place : Place) (i byte : ℕ) (rest : List ℕ) (skipped : ℕ) → source ≡ text → i < length source → byte ≡ get_or source i 0 → rest ≡ take (length source - (i + 1)) (drop (i + 1) source) → skipped ≡ 0 →

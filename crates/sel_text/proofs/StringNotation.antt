@@ -58,7 +58,7 @@ two_lead : (c : ℕ) → 128 ≤ c → c < 2048 → Leads Text Text ((192 + c / 
 two_lead c least most = grind (arith, nat_tests, leads_byte, last_leads)
 
 no_surrogate : (c : ℕ) → (c < 55296) ⊎ ((57344 ≤ c) × (c < 1114112)) → 224 + c / 4096 ≡ 237 → next (c / 64) ≤ 159
-no_surrogate c x1 ed = grind (arith, common_steps)
+no_surrogate c cases ed = grind (arith, common_steps)
 
 three_lead : (c : ℕ) → 2048 ≤ c → c < 65536 → scalar c ≡ true → Leads Text Text ((224 + c / 4096) ∷ next (c / 64) ∷ next c ∷ [])
 three_lead c least most is =

@@ -22,7 +22,7 @@ first_digit : (c : ℕ) → digit_value c < 10 → c ≢ 48 → (top : Option Br
 first_digit c small some top = grind (arith, nat_tests, small)
 
 size_read : (ds more : List ℕ) (brackets : List Bracket) → 0 < length ds → AllDigits 10 ds → (get_or ds 0 0 ≡ 48 → length ds ≡ 1) → goes_on Size brackets (ds ++ (44 ∷ more)) ≡ goes_on Name brackets more
-size_read x0 more brackets some all zeros = grind (arith, common_steps, step_to, first_digit, digits_read)
+size_read ds more brackets some all zeros = grind (arith, common_steps, step_to, first_digit, digits_read)
 
 -- The first type in a bracket of fields.
 first_name : (s : Shape) (brackets : List Bracket) (more : List ℕ) → goes_on FirstName (Fields ∷ brackets) (type_text s ++ more) ≡ goes_on Name (Fields ∷ brackets) (type_text s ++ more)
