@@ -65,7 +65,7 @@ three_lead c least most is =
     three (224 + c / 4096) (next (c / 64)) (next c) (omega arith) (omega arith) (omega arith) (omega arith) (λ e0. omega (arith, e0, least)) (no_surrogate c (scalar_cases c is)) (omega arith) (omega arith)
 
 bounded : (c : ℕ) → (c < 55296) ⊎ ((57344 ≤ c) × (c < 1114112)) → c < 1114112
-bounded c x1 = grind (arith, common_steps)
+bounded c fits = grind (arith, common_steps)
 
 four_lead : (c : ℕ) → 65536 ≤ c → scalar c ≡ true → Leads Text Text ((240 + c / 262144) ∷ next (c / 4096) ∷ next (c / 64) ∷ next c ∷ [])
 four_lead c least is =
