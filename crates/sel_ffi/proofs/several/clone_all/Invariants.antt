@@ -7,8 +7,8 @@ abbrev pub invariant-loop-i : goal.invariant-loop-i
 invariant-loop-i l =
     (l.i ≤ length l.handles)
     × (map (λ handle. handle.tree) l.handles ≡ map (λ handle. handle.tree) l.initial.handles)
-    × (map (λ column. rows column.column) l.cloned.items ≡ take l.i (map (λ handle. held_rows handle.tree) l.initial.handles))
-    × (map (λ column. type_of column.column) l.cloned.items ≡ take l.i (map (λ handle. held_type handle.tree) l.initial.handles))
+    × (map (λ column. rows column.column) l.cloned.items ≡ map (λ handle. held_rows handle.tree) (take l.i l.initial.handles))
+    × (map (λ column. type_of column.column) l.cloned.items ≡ map (λ handle. held_type handle.tree) (take l.i l.initial.handles))
     × All (λ handle. HasColumn handle.tree) (take l.i l.initial.handles)
 
 abbrev pub decreases-loop-i : goal.decreases-loop-i
