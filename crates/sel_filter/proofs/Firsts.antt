@@ -46,5 +46,4 @@ first_kept (x ∷ xs) d (suc k) m some fits few =
 
 -- The lowest set bit of a word of n bits is below position n.
 pub first_within : (n m : ℕ) → 0 < m → m < 2 ^ n → m < 2 ^ 64 → trailing_zeros w64 m < n
-first_within n m some fits few =
-    ⊎_elim (λ lt. lt) (λ le. absurd (omega (arith, bit_at_above m n (trailing_zeros w64 m) fits le, (bit_at-trailing_zeros w64 m some few).1))) (cases_lt (trailing_zeros w64 m) n)
+first_within n m some fits few = grind (arith, bit_at_above m n (trailing_zeros w64 m) fits, (bit_at-trailing_zeros w64 m some few).1)

@@ -1,6 +1,6 @@
 -- The table for four bits under a mask of four bits, checked entry by entry by computation.
-use Rattle.sel_filter.proofs.Common.{◌≡◌, ℕ, zero, suc, ◌+◌, ◌*◌, ◌/◌, ◌%◌, ◌<◌, ◌∙◌, sym, refl, ap, subst, ⊎_elim, arith, List, length, get_or, Bool, true}
-use Rattle.sel_filter.proofs.Common.{◌==◌, count_ones, cases_lt, bits, word_of, select, NIBBLES}
+use Rattle.sel_filter.proofs.Common.{◌≡◌, ℕ, zero, suc, ◌+◌, ◌*◌, ◌/◌, ◌%◌, ◌<◌, ◌∙◌, sym, refl, ap, arith, List, length, get_or, Bool, true}
+use Rattle.sel_filter.proofs.Common.{◌==◌, count_ones, bits, word_of, select, NIBBLES}
 use Rattle.std.proofs.Common.{◌&&◌}
 use Rattle.std.proofs.lemmas.Bool.{eqb-true}
 use Rattle.sel_arrow.proofs.Lists.{and_first, and_second}
@@ -11,8 +11,7 @@ holds_below p (suc n) = p n && holds_below p n
 
 holds_at : (p : ℕ → Bool) (n j : ℕ) → holds_below p n ≡ true → j < n → p j ≡ true
 holds_at p zero j all lt = absurd (omega arith)
-holds_at p (suc n) j all lt =
-    ⊎_elim (λ below. holds_at p n j (and_second (p n) (holds_below p n) all) below) (λ top. let e : n ≡ j = omega arith in subst (λ k. p k ≡ true) e (and_first (p n) (holds_below p n) all)) (cases_lt j n)
+holds_at p (suc n) j all lt = grind (arith, and_first (p n) (holds_below p n) all, holds_at p n j (and_second (p n) (holds_below p n) all))
 
 -- The kept bits of a table entry.
 abbrev pub kept_four : ℕ → ℕ → List Bool

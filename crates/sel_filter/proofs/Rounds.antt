@@ -2,7 +2,7 @@
 -- no other bit is set.
 use Rattle.sel_filter.proofs.Common.{◌≡◌, ℕ, zero, suc, ◌+◌, ◌-◌, ◌*◌, ◌/◌, ◌%◌, ◌^◌, ◌<◌, ◌≤◌, min, ◌∙◌, sym, ap, ⊎_elim, arith, bit_and, bit_at, w64, pow_pos}
 use Rattle.sel_filter.proofs.Common.{shr-shr, bit_at-lt, bit_at_and, bit_at_above, cases_lt, div-one, ones_below, bit_at_shr}
-use Rattle.std.proofs.Common.{max, inl, inr, ◌⊎◌}
+use Rattle.std.proofs.Common.{max, ◌⊎◌}
 use Rattle.std.specs.Int.{bit_not}
 use Rattle.std.proofs.lemmas.Nat.Bits.{bit_at_or, bit_at_not, same_from_bits}
 use Rattle.sel_bits.proofs.Counts.{ones_zero, ones_suc}
@@ -32,7 +32,7 @@ IsUnder m w = (q : ℕ) → bit_at w q ≡ 1 → IsKept m q
 pub masked : (v m : ℕ) → m < 2 ^ 64 → IsUnder m (bit_and v m)
 masked v m fits q set =
     let kept : bit_at m q ≡ 1 = omega (arith, bit_at_and v m q, bit_at-lt m q) in
-    (⊎_elim (λ lt. lt) (λ le. absurd (omega (arith, bit_at_above m 64 q fits le, kept))) (cases_lt q 64), kept)
+    (grind (arith, bit_at_above m 64 q fits, kept), kept)
 
 -- The word before round i: the set bits of w, each at its `spot`.
 pub record Standing (m w i word : ℕ) : Type 0 where
@@ -49,7 +49,7 @@ CountsBlocks m i k = (q : ℕ) → IsKept m q → (s : ℕ) → s ≤ 64 → one
 
 -- A bit that is set by either of two terms.
 two_ways : (a b c d : ℕ) → a < 2 → b < 2 → c < 2 → d < 2 → max (min a b) (min c d) ≡ 1 → ((a ≡ 1) × (b ≡ 1)) ⊎ ((c ≡ 1) × (d ≡ 1))
-two_ways a b c d la lb lc ld h = ⊎_elim (λ lt. inl (omega arith, omega arith)) (λ le. inr (omega arith, omega arith)) (cases_lt 0 (min a b))
+two_ways a b c d la lb lc ld h = grind arith
 
 module _ (m w i word p : ℕ) (under : IsUnder m w) (was : Standing m w i word) (p_fits : p < 2 ^ 64) (odd : MarksOdd m i p) where
   inside : (q : ℕ) → bit_at w q ≡ 1 → spot m (2 ^ i) q < 64

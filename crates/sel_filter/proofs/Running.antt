@@ -31,12 +31,8 @@ pub record IsRun (rest t r : ℕ) : Type 0 where
 module _ {A : Type 0} (source target items : List A) (at rest t r : ℕ) (run : IsRun rest t r) (was : IsRunning source target items at rest) where
   pub run_within : at + t + r ≤ length source
   run_within =
-      ⊎_elim
-      (λ past.
-      let last : bit_at rest (r - 1 + t) ≡ 1 = sym (bit_at_shr rest t (r - 1)) ∙ run.ones (r - 1) (omega (arith, run.some)) in
-      absurd (omega (arith, last, run.some, bit_at_above rest (length source - at) (r - 1 + t) was.small (omega (arith, run.some, was.within)))))
-      (λ le. le)
-      (cases_lt (length source) (at + t + r))
+      let last = run.ones (r - 1) (omega (arith, run.some)) in
+      grind (arith, bit_at_shr rest t (r - 1), last, run.some, was.within, bit_at_above rest (length source - at) (r - 1 + t) was.small)
 
   bits_are : bits (length source - at) rest ≡ replicate t false ++ (replicate r true ++ bits (length source - (at + t + r)) (rest / 2 ^ t / 2 ^ r))
   bits_are =
@@ -100,8 +96,7 @@ lowest_run rest some fits =
     (λ less.
     let o = bit_at-trailing_ones w64 x less in
     let r = trailing_ones w64 x in
-    let positive : 0 < r = ⊎_elim (λ lt. lt) (λ le. let e : r ≡ 0 = omega arith in absurd (omega (arith, ap (bit_at x) e, o.1, first))) (cases_lt 0 r) in
-    here first r o.2 positive (bit_at_shr x r 0 ∙ ap (bit_at x) (zero-add r) ∙ o.1))
+    here first r o.2 (grind (arith, o.1, first)) (bit_at_shr x r 0 ∙ ap (bit_at x) (zero-add r) ∙ o.1))
     (λ all.
     let full : x ≡ 2 ^ 64 - 1 = omega (arith, shr_le rest t) in
     let none : 2 ^ 64 - 1 - x ≡ 0 = omega arith in

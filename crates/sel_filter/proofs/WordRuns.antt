@@ -47,13 +47,6 @@ starts_false (suc n) w low =
     let e : bits (suc n) w ≡ false ∷ bits n (w / 2) = bits_suc n w ∙ ap (λ x. (x == 1) ∷ bits n (w / 2)) low in
     ap (starts_after true) e ∙ sym (ap (starts_after false) e)
 
-pub starts_of_zero : (n : ℕ) → starts_after false (bits n 0) ≡ 0
-starts_of_zero n = ap (starts_after false) (bits_of_zero n) ∙ none n
-  where
-    none : (k : ℕ) → starts_after false (replicate k false) ≡ 0
-    none zero = refl
-    none (suc k) = none k
-
 -- A run that is cut at a boundary adds at most one start.
 pub starts_cut : (ms : List Bool) → starts_after false ms ≤ starts_after true ms + 1
 starts_cut [] = omega arith
@@ -75,14 +68,14 @@ starts_append true (true ∷ xs) ys = starts_append true xs ys
 starts_append false (true ∷ xs) ys = omega (arith, starts_append true xs ys)
 
 pub starts_padded : (b : Bool) (xs : List Bool) (k : ℕ) → starts_after b (xs ++ replicate k false) ≡ starts_after b xs
-starts_padded b [] k = none b k
-  where
-    none : (b : Bool) (k : ℕ) → starts_after b (replicate k false) ≡ 0
-    none b zero = refl
-    none b (suc k) = none false k
+starts_padded b [] zero = refl
+starts_padded b [] (suc k) = starts_padded false [] k
 starts_padded b (false ∷ xs) k = starts_padded false xs k
 starts_padded true (true ∷ xs) k = starts_padded true xs k
 starts_padded false (true ∷ xs) k = ap (λ n. 1 + n) (starts_padded true xs k)
+
+pub starts_of_zero : (n : ℕ) → starts_after false (bits n 0) ≡ 0
+starts_of_zero n = ap (starts_after false) (bits_of_zero n) ∙ starts_padded false [] n
 
 -- At most every second entry starts a run.
 pub starts_half : (xs : List Bool) → (2 * starts_after false xs ≤ length xs + 1) × (2 * starts_after true xs ≤ length xs)
