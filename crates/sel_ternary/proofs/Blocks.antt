@@ -1,5 +1,5 @@
 -- If-then-else, word by word of its mask.
-use Rattle.sel_ternary.proofs.Common.{◌≡◌, ℕ, ◌+◌, ◌<◌, ◌≤◌, ◌∙◌, sym, ap, arith, List, ◌++◌, length, take, drop, append_assoc, Bits, WordReading, reached}
+use Rattle.sel_ternary.proofs.Common.{common_steps, ◌≡◌, ℕ, ◌+◌, ◌<◌, ◌≤◌, ◌∙◌, sym, ap, arith, List, ◌++◌, length, take, drop, append_assoc, Bits, WordReading, reached}
 use Rattle.sel_ternary.proofs.Common.{bits, length_part, choose}
 use borrow.Rule.Slice.PartMut.{put_mid}
 use Rattle.std.proofs.lemmas.List.{take-append-drop}
@@ -17,10 +17,7 @@ pub record IsBegun {A : Type 0} (mask : Bits) (ts fs base : List A) (reading : W
 
 -- The entries before, in and after a part that was written.
 pub written : {A : Type 0} → (at count : ℕ) (out part : List A) → at + count ≤ length out → length part ≡ count → put_mid at count out part ≡ take at out ++ (part ++ drop (at + count) out)
-written at count out part le long =
-    sym (take-append-drop (at + count) (put_mid at count out part))
-    ∙ (λ i. take-put_mid at count out part (at + count) (omega (arith, long)) (omega arith) i ++ drop-put_mid at count out part (at + count) (omega arith) (omega arith) long i)
-    ∙ append_assoc (take at out) part (drop (at + count) out)
+written at count out part le long = grind (arith, common_steps, append_assoc)
 
 -- The end of the next word.
 pub next_end : (reading : WordReading) → reached reading < length reading.source.bits → reached reading + next_count reading ≡ reached (after_word reading)

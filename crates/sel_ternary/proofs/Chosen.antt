@@ -1,5 +1,5 @@
 -- If-then-else of lists, part by part.
-use Rattle.sel_ternary.proofs.Common.{◌≡◌, ℕ, suc, ◌+◌, ◌/◌, ◌^◌, ◌<◌, ◌≤◌, ◌∙◌, sym, refl, ap, arith, List, [], ◌∷◌, ◌++◌, length, get_or, take, drop}
+use Rattle.sel_ternary.proofs.Common.{common_steps, ◌≡◌, ℕ, suc, ◌+◌, ◌/◌, ◌^◌, ◌<◌, ◌≤◌, ◌∙◌, sym, refl, ap, arith, List, [], ◌∷◌, ◌++◌, length, get_or, take, drop}
 use Rattle.sel_ternary.proofs.Common.{replicate, map, Bool, if◌then◌else◌, eq-eqb, append_assoc, append-nil, length-replicate, get_or-replicate, take_all, bits}
 use Rattle.sel_ternary.proofs.Common.{is_set, length_bits, get_bits, choose, broadcast_true, broadcast_false, broadcast_both, true, false}
 use Rattle.sel_ternary.proofs.Common.{Value, chosen_rows, first_row}
@@ -109,11 +109,7 @@ module _ {A : Type 0} (n : ℕ) (ms : List Bool) (ts fs base : List A) (long : A
 
   -- All entries are written.
   pub chosen_all : length base ≡ n → at ≡ n → out ≡ choose ms ts fs
-  chosen_all size all =
-      was.begun
-      ∙ ap (λ l. l ++ drop at base) (chosen_end n ms ts fs long at all)
-      ∙ ap (λ l. choose ms ts fs ++ l) (drop_of_length-le base (omega arith))
-      ∙ append-nil (choose ms ts fs)
+  chosen_all size all = grind (arith, common_steps, at, chosen_end, long, append-nil)
 
 -- The one entry of a list at a position.
 one_of : {A : Type 0} → (l : List A) (i : ℕ) (x : A) → i < length l → x ≡ get_or l i x → take 1 (drop i l) ≡ x ∷ []
@@ -161,14 +157,10 @@ module _ {A : Type 0} (n mask : ℕ) (base out : List A) (i : ℕ) (size : lengt
   all_rows ts fs trues falses was = chosen_all n (bits n mask) ts fs base (record { mask = length_bits n mask; trues = trues; falses = falses }) i out was size all
 
   pub all_rows_or_one : (ts : List A) (y : A) → length ts ≡ n → IsChosen (bits n mask) ts (replicate n y) base i out → out ≡ broadcast_false (bits n mask) ts y
-  all_rows_or_one ts y trues was =
-      all_rows ts (replicate n y) trues (length-replicate n y) was
-      ∙ sym (repeated_otherwise (bits n mask) ts y ∙ ap (λ k. choose (bits n mask) ts (replicate k y)) (length_bits n mask))
+  all_rows_or_one ts y trues was = grind (arith, common_steps, all_rows, length-replicate, repeated_otherwise, mask, length_bits)
 
   pub all_rows_of_two : (x y : A) → IsChosen (bits n mask) (replicate n x) (replicate n y) base i out → out ≡ broadcast_both (bits n mask) x y
-  all_rows_of_two x y was =
-      all_rows (replicate n x) (replicate n y) (length-replicate n x) (length-replicate n y) was
-      ∙ sym (repeated_both (bits n mask) x y ∙ ap (λ k. choose (bits n mask) (replicate k x) (replicate k y)) (length_bits n mask))
+  all_rows_of_two x y was = grind (arith, common_steps, all_rows, length-replicate, repeated_both, mask, length_bits)
 
 -- The same for entries that are read from the lists, those of the second one mapped.
 pub chosen_mapped : {A B : Type 0} → (n mask : ℕ) (f : B → A) (ts : List A) (fs : List B) (base out : List A) (i : ℕ) (d x : A) (e : B) → Rows n ts (map f fs) out → i < n → IsChosen (bits n mask) ts (map f fs) base i out

@@ -1,5 +1,5 @@
 -- The row references of an if-then-else, and the rows that they give.
-use Rattle.sel_ternary.proofs.Common.{◌≡◌, ℕ, zero, suc, ◌+◌, ◌<◌, Bool, true, false, All, List, [], ◌∷◌, length, get_or, refl, sym, ap, ◌∙◌, arith}
+use Rattle.sel_ternary.proofs.Common.{common_steps, ◌≡◌, ℕ, zero, suc, ◌+◌, ◌<◌, Bool, true, false, All, List, [], ◌∷◌, length, get_or, refl, sym, ap, ◌∙◌, arith}
 use Rattle.sel_ternary.proofs.Common.{Option, Some, get_or-replicate, rows, Value, Null, pick, chosen_rows, first_row, choose}
 use Rattle.sel_ternary.specs.ChosenPicks.{chosen_picks, bit_pick, place_on}
 use Rattle.std.proofs.lemmas.List.Elements.{All-nil, All-cons}
@@ -10,12 +10,8 @@ use Rattle.sel_ternary.proofs.Chosen.{chosen_spread, length-spread, two_equal}
 
 at : (t f : Bool) (i k : ℕ) (bits : List Bool) (b : Bool) (d : Option (ℕ × ℕ)) → k < length bits → get_or (chosen_picks t f i bits) k d ≡ bit_pick t f (get_or bits k b) (i + k)
 at t f i k [] b d below = absurd (omega (arith, below))
-at t f i zero (bit ∷ bits) b d below =
-    let place : i ≡ i + 0 = omega arith in
-    ap (bit_pick t f bit) place
-at t f i (suc k) (bit ∷ bits) b d below =
-    let place : (i + 1) + k ≡ i + suc k = omega arith in
-    at t f (i + 1) k bits b d (omega (arith, below)) ∙ ap (bit_pick t f (get_or bits k b)) place
+at t f i zero (bit ∷ bits) b d below = grind (arith, common_steps)
+at t f i (suc k) (bit ∷ bits) b d below = grind (arith, common_steps, (at t f (i + 1) k bits b d (omega (arith, below))))
 
 -- The row reference at a position.
 pub chosen_at : (t f : Bool) (k : ℕ) (bits : List Bool) (b : Bool) (d : Option (ℕ × ℕ)) → k < length bits → get_or (chosen_picks t f 0 bits) k d ≡ bit_pick t f (get_or bits k b) k
@@ -65,10 +61,8 @@ below_side false i rows n long below = omega (arith, long)
 
 fits : (t f : Bool) (i n : ℕ) (bits : List Bool) (ts fs : List Value) → i + length bits ≡ n → SideFits t (length ts) n → SideFits f (length fs) n → All (PickFits (ts ∷ fs ∷ [])) (chosen_picks t f i bits)
 fits t f i n [] ts fs same long other = All-nil (PickFits (ts ∷ fs ∷ []))
-fits t f i n (true ∷ bits) ts fs same long other =
-    All-cons (PickFits (ts ∷ fs ∷ [])) (Some (0, place_on t i)) (chosen_picks t f (i + 1) bits) (below_side t i (length ts) n long (omega (arith, same))) (fits t f (i + 1) n bits ts fs (omega (arith, same)) long other)
-fits t f i n (false ∷ bits) ts fs same long other =
-    All-cons (PickFits (ts ∷ fs ∷ [])) (Some (1, place_on f i)) (chosen_picks t f (i + 1) bits) (below_side f i (length fs) n other (omega (arith, same))) (fits t f (i + 1) n bits ts fs (omega (arith, same)) long other)
+fits t f i n (true ∷ bits) ts fs same long other = grind (arith, common_steps, below_side, (fits t f (i + 1) n bits ts fs (omega (arith, same)) long other))
+fits t f i n (false ∷ bits) ts fs same long other = grind (arith, common_steps, below_side, (fits t f (i + 1) n bits ts fs (omega (arith, same)) long other))
 
 -- Each row reference is in bounds.
 pub choice_fits : (t f : Bool) (bits : List Bool) (ts fs : List Value) → SideFits t (length ts) (length bits) → SideFits f (length fs) (length bits) → All (PickFits (ts ∷ fs ∷ [])) (chosen_picks t f 0 bits)

@@ -27,6 +27,7 @@ pub use Rattle.sel_ternary.specs.Validity.{chosen_validity}
 pub use Rattle.sel_ternary.specs.ViewSides.{ExceedsViews, can_rise, raised, scalar_buffers}
 pub use Rattle.std.proofs.Common.{All, Bool, List, None, Option, Some, [], ap, arith, cond, drop, false, get_or, inl, length, length-append, map, not, pos, refl, replicate, rules, subst, suc, sym, take, true, w16, w32, w64, w8, zero, ℕ, ℤ, ◌&&◌, ◌*◌, ◌++◌, ◌+◌, ◌-◌, ◌/◌, ◌<◌, ◌==◌, ◌^◌, ◌∙◌, ◌∷◌, ◌≡◌, ◌≤◌}
 pub use Rattle.std.proofs.lemmas.Bool.{eq-eqb}
+pub use Rattle.std.proofs.lemmas.Grind.{common_steps}
 pub use Rattle.std.proofs.lemmas.List.{append-nil, append_assoc, get_or-replicate, length-map, length-replicate, take_all}
 pub use Rattle.std.proofs.lemmas.Result.{IfOk-weaker, err_from_is_err_and}
 pub use Rattle.std.proofs.lemmas.Simd.{Each1-from_get_or}

@@ -1,6 +1,6 @@
 -- If-then-else of views into the concatenated data buffers of the true and false values: the values
 -- of the views, and that they are in bounds.
-use Rattle.sel_ternary.proofs.Common.{◌≡◌, ℕ, ◌≤◌, ◌∙◌, sym, ap, List, ◌++◌, length, map, Bool, true, Option, None, list_all, length-map, Bits, masked}
+use Rattle.sel_ternary.proofs.Common.{arith, common_steps, ◌≡◌, ℕ, ◌≤◌, ◌∙◌, sym, ap, List, ◌++◌, length, map, Bool, true, Option, None, list_all, length-map, Bits, masked}
 use Rattle.sel_ternary.proofs.Common.{Covers, Bytes, is_placed, view_value, View, choose, broadcast_true, broadcast_false, broadcast_both, raised}
 use Rattle.sel_ternary.proofs.Common.{scalar_buffers}
 use Rattle.sel_arrow.specs.Views.{view_of, inline_bytes}
@@ -12,9 +12,7 @@ use Rattle.sel_ternary.proofs.Validities.{IsChosenValidity, length-choose_of_two
 module _ (first second : List (List ℕ)) (ts fs : List View) (pt : list_all (is_placed first) ts ≡ true) (pf : list_all (is_placed second) fs ≡ true)
     (ms : List Bool) (out : List View) (all : List (List ℕ)) (joined : all ≡ first ++ second) (is : out ≡ choose ms ts (map (λ view. raised view (length first)) fs)) where
   pub both_placed : list_all (is_placed all) out ≡ true
-  both_placed =
-      (λ i. list_all (is_placed (joined i)) (is i))
-      ∙ all_chosen (is_placed (first ++ second)) ms ts (map (λ view. raised view (length first)) fs) (front_placed first second ts pt) (back_placed second first fs pf)
+  both_placed = grind (arith, common_steps, joined, all_chosen, first, second, front_placed, back_placed)
 
   pub both_rows : (vt vf v : Option Bits) → length (masked vt (map (view_value first) ts)) ≡ length ms → length (masked vf (map (view_value second) fs)) ≡ length ms
       → Covers vt (length ts) → Covers vf (length fs) → IsChosenValidity ms vt vf v
@@ -50,16 +48,14 @@ module _ (own : List (List ℕ)) (views : List View) (placed : list_all (is_plac
 
   pub one_rows : (vf v : Option Bits) → out ≡ broadcast_true ms x views → length (masked vf (map (view_value own) views)) ≡ length ms → Covers vf (length views) → IsChosenValidity ms None vf v
       → masked v (map (view_value all) out) ≡ broadcast_true ms (Bytes bytes) (masked vf (map (view_value own) views))
-  one_rows vf v is q cf valid =
-      rows_choose_one (view_value all) ms out v vf x _ views (ap (λ l. length (masked vf l)) fronts ∙ q) cf is valid means ∙ ap (λ l. broadcast_true ms (Bytes bytes) (masked vf l)) fronts
+  one_rows vf v is q cf valid = grind (arith, common_steps, rows_choose_one, all, fronts, means)
 
   pub or_one_placed : out ≡ broadcast_false ms views x → list_all (is_placed all) out ≡ true
   or_one_placed is = ap (list_all (is_placed all)) is ∙ all_chosen_or_one (is_placed all) ms views x fronts_placed lies
 
   pub or_one_rows : (vt v : Option Bits) → out ≡ broadcast_false ms views x → length (masked vt (map (view_value own) views)) ≡ length ms → Covers vt (length views) → IsChosenValidity ms vt None v
       → masked v (map (view_value all) out) ≡ broadcast_false ms (masked vt (map (view_value own) views)) (Bytes bytes)
-  or_one_rows vt v is p ct valid =
-      rows_choose_or_one (view_value all) ms out v vt views x _ (ap (λ l. length (masked vt l)) fronts ∙ p) ct is valid means ∙ ap (λ l. broadcast_false ms (masked vt l) (Bytes bytes)) fronts
+  or_one_rows vt v is p ct valid = grind (arith, common_steps, rows_choose_or_one, all, fronts, means)
 
 -- Two scalars.
 module _ (first second : List ℕ) (x y : View) (is_x : x ≡ view_of first 0 0) (k : ℕ) (view_is : y ≡ view_of second k 0) (after : k ≡ length (scalar_buffers first))

@@ -1,5 +1,5 @@
 -- If-then-else by vector operations.
-use Rattle.sel_ternary.proofs.Common.{◌≡◌, ℕ, ℤ, zero, suc, ◌+◌, ◌*◌, ◌/◌, ◌^◌, ◌<◌, ◌≤◌, ◌∙◌, sym, refl, ap, arith, List, [], ◌∷◌, ◌++◌, length, map, take}
+use Rattle.sel_ternary.proofs.Common.{common_steps, ◌≡◌, ℕ, ℤ, zero, suc, ◌+◌, ◌*◌, ◌/◌, ◌^◌, ◌<◌, ◌≤◌, ◌∙◌, sym, refl, ap, arith, List, [], ◌∷◌, ◌++◌, length, map, take}
 use Rattle.sel_ternary.proofs.Common.{drop, Bool, true, false, ◌==◌, if◌then◌else◌, vec_capacity, eq-eqb, append_assoc, append-nil, length-append, take_all}
 use Rattle.sel_ternary.proofs.Common.{Bits, WordReading, reached, bits, is_set, get_bits, length_bits, length_part, choose, all_ones}
 use Rattle.std.proofs.Common.{◌%◌, bit_and, nat_eq, pow_pos}
@@ -92,11 +92,7 @@ module _ {A : Type 0} (n : ℕ) (ms : List Bool) (ts fs : List A) (long : AsLong
   -- The next entries are appended.
   pub filled_next : (count : ℕ) (new : Vec A Global) (block : List A) → new.items ≡ out.items ++ block → vec_capacity new ≡ vec_capacity out
       → block ≡ choose (take count (drop at ms)) (take count (drop at ts)) (take count (drop at fs)) → IsFilled items (chosen_to ms ts fs (at + count)) capacity new
-  filled_next count new block is same block_is = record {
-    appended = is ∙ ap (λ l. l ++ block) was.appended ∙ append_assoc items (chosen_to ms ts fs at) block
-        ∙ ap (λ l. items ++ l) (ap (λ l. chosen_to ms ts fs at ++ l) block_is ∙ sym (chosen_more n ms ts fs long at count));
-    room = same ∙ was.room;
-  }
+  filled_next count new block is same block_is = grind (arith, common_steps, append_assoc, at, chosen_more, long)
 
   -- All entries are appended.
   pub filled_all : at ≡ n → out.items ≡ items ++ choose ms ts fs

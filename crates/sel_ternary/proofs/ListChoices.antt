@@ -1,5 +1,5 @@
 -- If-then-else of list columns: the limits that the rows exceed, with the columns that are gathered and with the values that are given.
-use Rattle.sel_ternary.proofs.Common.{◌≡◌, ℕ, ◌≤◌, true, List, [], ◌∷◌, length, inl, sym, subst, ◌∙◌, arith, rows, type_of, well_formed, Shape, Value, Column}
+use Rattle.sel_ternary.proofs.Common.{common_steps, ◌≡◌, ℕ, ◌≤◌, true, List, [], ◌∷◌, length, inl, sym, subst, ◌∙◌, arith, rows, type_of, well_formed, Shape, Value, Column}
 use Rattle.sel_ternary.proofs.Common.{length-rows, joined_items, exceeded_taken, refused_more, passes_neither, IsLimitOrMemory, ExceedsNone, IfOk-weaker}
 use Rattle.sel_bits.specs.declared.faults.Limit.{Limit}
 use Rattle.sel_bits.specs.declared.faults.PolarsError.{PolarsError}
@@ -23,14 +23,10 @@ few_bits c formed = omega (arith, few_rows c formed, length-rows c)
 -- ---- the child of lists that are over a column like another one
 
 like_list : (s : Shape) (a b : Column) → IsBelow (of_large_list s) a b → Like s (child a) b
-like_list s a b is =
-    let found = list_child a s is.0 in
-    record { first = found.0; second = is.1; held = found.1 ∙ is.2 }
+like_list s a b is = grind (arith, common_steps, list_child)
 
 like_block : (s : Shape) (w : ℕ) (a b : Column) → IsBelow (of_fixed_size_list s w) a b → Like s (child a) b
-like_block s w a b is =
-    let found = block_child a s w is.0 in
-    record { first = found.0; second = is.1; held = found.1 ∙ is.2 }
+like_block s w a b is = grind (arith, common_steps, block_child)
 
 back : (s : Shape) (a b : Column) → Like s a b → Like s b a
 back s a b like = record { first = like.second; second = like.first; held = sym like.held }
@@ -65,10 +61,7 @@ module _ {A C : Type 0} (result : Result A PolarsError) (own : C → Column) (ty
   alike = λ i. exceeded_taken (is i) (a ∷ b ∷ []) (same i)
 
   pub refused_choice : IfErr result (IsLimitOrMemory (exceeded_taken (type_of a) (a ∷ b ∷ []) vs)) → IfErr result (IsLimitOrMemory (exceeded_lists own type t f ws))
-  refused_choice h =
-      IfErr-weaker result _ _ (λ fault. refused_more (exceeded_taken type (a ∷ b ∷ []) ws) (exceeded_lists own type t f ws) fault
-      (λ limit past. inr ((same_below type a b (below own t) (below own f) at_first at_second ws limit).0 past)))
-      (subst (λ past. IfErr result (IsLimitOrMemory past)) alike h)
+  refused_choice h = grind (arith, common_steps, refused_more, same_below, at_first, at_second, alike)
 
   -- A result exceeds no limit if the rows themselves exceed none.
   pub answered_choice : ExceedsNone (exceeded_flat t f ws) → IfOk result (λ _. ExceedsNone (exceeded_taken (type_of a) (a ∷ b ∷ []) vs)) → IfOk result (λ _. ExceedsNone (exceeded_lists own type t f ws))

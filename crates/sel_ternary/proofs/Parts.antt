@@ -1,5 +1,5 @@
 -- If-then-else with a broadcast value, over parts of lists.
-use Rattle.sel_ternary.proofs.Common.{◌≡◌, ℕ, ◌+◌, ◌^◌, ◌<◌, ◌≤◌, ◌∙◌, sym, refl, ap, arith, List, [], ◌∷◌, ◌++◌, length, take, drop, replicate, map, Bool}
+use Rattle.sel_ternary.proofs.Common.{common_steps, ◌≡◌, ℕ, ◌+◌, ◌^◌, ◌<◌, ◌≤◌, ◌∙◌, sym, refl, ap, arith, List, [], ◌∷◌, ◌++◌, length, take, drop, replicate, map, Bool}
 use Rattle.sel_ternary.proofs.Common.{true, false, not, w64, take_all, length-map, length-replicate, get_or-replicate, bits, length_bits, get_bits, length_part}
 use Rattle.sel_ternary.proofs.Common.{choose, broadcast_true, broadcast_false, broadcast_both}
 use Rattle.std.specs.Int.{bit_not}
@@ -46,20 +46,15 @@ turned (false ∷ ms) (f ∷ fs) x = ap (λ l. f ∷ l) (turned ms fs x)
 
 pub part_or_one : {A : Type 0} → (n at k mask : ℕ) (ts : List A) (x : A) → at + k ≤ n
     → broadcast_false (bits k mask) ts x ≡ choose (bits k mask) ts (take k (drop at (replicate n x)))
-part_or_one n at k mask ts x le =
-    sym (ap (choose (bits k mask) ts) (part_of_repeated n at k x le) ∙ choice_or_one (bits k mask) ts x k (sym (length_bits k mask)))
+part_or_one n at k mask ts x le = grind (arith, common_steps, part_of_repeated, choice_or_one, length_bits)
 
 pub part_one : {A : Type 0} → (n at k mask : ℕ) (fs : List A) (x : A) → at + k ≤ n → mask < 2 ^ 64 → k ≤ 64
     → broadcast_false (bits k (bit_not w64 mask)) fs x ≡ choose (bits k mask) (take k (drop at (replicate n x))) fs
-part_one n at k mask fs x le fits few =
-    ap (λ ms. broadcast_false ms fs x) (bits_not k mask fits few)
-    ∙ turned (bits k mask) fs x
-    ∙ sym (ap (λ l. choose (bits k mask) l fs) (part_of_repeated n at k x le) ∙ choice_one (bits k mask) x fs k (sym (length_bits k mask)))
+part_one n at k mask fs x le fits few = grind (arith, common_steps, bits_not, turned, part_of_repeated, choice_one, length_bits)
 
 pub part_of_two : {A : Type 0} → (n at k mask : ℕ) (x y : A) → at + k ≤ n
     → broadcast_both (bits k mask) x y ≡ choose (bits k mask) (take k (drop at (replicate n x))) (take k (drop at (replicate n y)))
-part_of_two n at k mask x y le =
-    sym ((λ i. choose (bits k mask) (part_of_repeated n at k x le i) (part_of_repeated n at k y le i)) ∙ choice_of_two (bits k mask) x y k (sym (length_bits k mask)))
+part_of_two n at k mask x y le = grind (arith, common_steps, part_of_repeated, choice_of_two, length_bits)
 
 -- The items of a vector after all of them are overwritten.
 pub overwritten : {A : Type 0} → (len : ℕ) (new items : List A) → length new ≡ len → take len (new ++ drop (length new) items) ≡ new

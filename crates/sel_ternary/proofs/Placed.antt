@@ -1,5 +1,5 @@
 -- If-then-else of views into the data buffers of the true and false values.
-use Rattle.sel_ternary.proofs.Common.{◌≡◌, ℕ, zero, suc, ◌+◌, ◌-◌, ◌≤◌, ◌<◌, ◌∙◌, sym, refl, ap, arith, List, [], ◌∷◌, ◌++◌, length, map, get_or, take, drop}
+use Rattle.sel_ternary.proofs.Common.{common_steps, ◌≡◌, ℕ, zero, suc, ◌+◌, ◌-◌, ◌≤◌, ◌<◌, ◌∙◌, sym, refl, ap, arith, List, [], ◌∷◌, ◌++◌, length, map, get_or, take, drop}
 use Rattle.sel_ternary.proofs.Common.{replicate, Bool, true, false, ◌&&◌, ◌==◌, list_all, eq-eqb, length-append, take_all, Bytes, is_placed, view_value, View}
 use Rattle.sel_ternary.proofs.Common.{choose, broadcast_true, broadcast_false, broadcast_both, can_rise, raised, scalar_buffers}
 use Rattle.sel_arrow.specs.Views.{view_of, inline_bytes, is_inline, word_at}
@@ -43,19 +43,13 @@ all_chosen_of_two p ms x y a b = ap (list_all p) (repeated_both ms x y) ∙ all_
 -- ---- the positions of the data buffers of the true and false values
 
 pub front_behind : {A : Type 0} → (d : A) (xs ys : List A) → Behind d (xs ++ ys) xs 0
-front_behind d xs ys i inside =
-    let here : i + 0 ≡ i = omega arith in
-    (omega (arith, length-append xs ys), ap (λ k. get_or (xs ++ ys) k d) here ∙ get_or_append_left xs ys d i inside)
+front_behind d xs ys i inside = grind (arith, common_steps, length-append)
 
 pub back_behind : {A : Type 0} → (d : A) (xs ys : List A) → Behind d (xs ++ ys) ys (length xs)
-back_behind d xs ys i inside =
-    let here : i + length xs ≡ length xs + i = omega arith in
-    (omega (arith, length-append xs ys), ap (λ k. get_or (xs ++ ys) k d) here ∙ get_or-append-add xs ys i d)
+back_behind d xs ys i inside = grind (arith, common_steps, length-append)
 
 not_raised : (view : View) → raised view 0 ≡ view
-not_raised view =
-    let same : view.buffer_idx + 0 ≡ view.buffer_idx = omega arith in
-    ⊎_elim (λ e. rw e refl) (λ e. rw e (λ i. record { length = view.length; prefix = view.prefix; buffer_idx = same i; offset = view.offset })) (cases_Bool (is_inline view))
+not_raised view = grind (arith, common_steps)
 
 none_raised : (views : List View) → map (λ view. raised view 0) views ≡ views
 none_raised [] = refl
@@ -91,8 +85,7 @@ views_rise own k (view ∷ views) placed room =
     both (can_rise k view) (all_rise k views) (rises view (and_first (is_placed own view) (list_all (is_placed own) views) placed)) (views_rise own k views (and_second (is_placed own view) (list_all (is_placed own) views) placed) room)
   where
     rises : (view : View) → is_placed own view ≡ true → can_rise k view ≡ true
-    rises view there =
-        ⊎_elim (λ e. rw e refl) (λ e. rw e (le-leb (view.buffer_idx + k) max_buffers (room_to_raise own view k max_buffers there room (leb-false view.length 12 e)))) (cases_Bool (is_inline view))
+    rises view there = grind (arith, common_steps, room)
 
 -- ---- the view of a scalar
 
@@ -116,40 +109,20 @@ module _ (all : List (List ℕ)) (bytes : List ℕ) (k : ℕ) (view : View) (is 
       whole = let same : 0 + length bytes - 0 ≡ length bytes = omega arith in ap (λ n. take n bytes) same ∙ take_all (length bytes) bytes (omega arith)
 
   pub scalar_placed : is_placed all view ≡ true
-  scalar_placed =
-      ⊎_elim
-      (λ e. inline_placed all view (lies_inline e))
-      (λ e.
-      let found = there (leb-false (length bytes) 12 e) in
-      let enough : leb (0 + length bytes) (length (get_or all k [])) ≡ true = le-leb (0 + length bytes) (length (get_or all k [])) (omega (arith, ap length found.1)) in
-      let start : (word_at bytes 0 == word_at (slice_range (get_or all k []) 0 (0 + length bytes)) 0) ≡ true = ap (λ l. word_at bytes 0 == word_at l 0) (named e) ∙ eq-eqb (word_at bytes 0) (word_at bytes 0) refl in
-      ap (is_placed all) (lies_far e) ∙ far_placed all far e
-      ∙ both (ltb k (length all) && leb (0 + length bytes) (length (get_or all k []))) _ (both (ltb k (length all)) _ (lt-ltb k (length all) found.0) enough) start)
-      (cases_Bool (leb (length bytes) 12))
+  scalar_placed = grind (arith, common_steps, all, lies_inline, there, named, eq-eqb, lies_far)
 
   inline_value : is_inline view ≡ true → view_value all view ≡ Bytes (inline_bytes view)
   inline_value d = rw d refl
 
   pub scalar_value : (length bytes ≤ 12 → inline_bytes view ≡ bytes) → view_value all view ≡ Bytes bytes
-  scalar_value inline =
-      ⊎_elim
-      (λ e. inline_value (lies_inline e) ∙ ap Bytes (inline (leb-true (length bytes) 12 e)))
-      (λ e. ap (view_value all) (lies_far e) ∙ far_value all far e ∙ ap Bytes (named e))
-      (cases_Bool (leb (length bytes) 12))
+  scalar_value inline = grind (arith, common_steps, inline_value, lies_inline, all, lies_far, named)
 
 -- The data buffer of a scalar, if it has one, is after those of a column.
 pub scalar_there : (before : List (List ℕ)) (bytes : List ℕ) → 12 < length bytes → (length before < length (before ++ scalar_buffers bytes)) × (get_or (before ++ scalar_buffers bytes) (length before) [] ≡ bytes)
-scalar_there before bytes long =
-    let one : scalar_buffers bytes ≡ bytes ∷ [] = rw (lt-leb (length bytes) 12 long) refl in
-    let here : length before + 0 ≡ length before = omega arith in (
-      omega (arith, length-append before (scalar_buffers bytes), ap length one),
-      ap (λ l. get_or (before ++ l) (length before) []) one ∙ ap (λ n. get_or (before ++ bytes ∷ []) n []) (sym here) ∙ get_or-append-add before (bytes ∷ []) 0 [],
-    )
+scalar_there before bytes long = grind (arith, common_steps, length-append)
 
 -- The first of two scalars.
 pub first_there : (first second : List ℕ) → 12 < length first → (0 < length (scalar_buffers first ++ scalar_buffers second)) × (get_or (scalar_buffers first ++ scalar_buffers second) 0 [] ≡ first)
-first_there first second long =
-    let one : scalar_buffers first ≡ first ∷ [] = rw (lt-leb (length first) 12 long) refl in
-    (omega (arith, length-append (scalar_buffers first) (scalar_buffers second), ap length one), ap (λ l. get_or (l ++ scalar_buffers second) 0 []) one)
+first_there first second long = grind (arith, common_steps, length-append)
 
 pub ruleset texts = (all_chosen, all_chosen_one, all_chosen_or_one, all_chosen_of_two, utf8_passes)

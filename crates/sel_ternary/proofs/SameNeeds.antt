@@ -1,5 +1,5 @@
 -- The limits that rows exceed depend only on the types and the data buffers of their columns.
-use Rattle.sel_ternary.proofs.Common.{◌≡◌, inl, ℕ, zero, suc, ◌+◌, ◌<◌, true, All, List, [], ◌∷◌, ◌++◌, length, take, drop, map, refl, sym, ap, subst, ◌∙◌}
+use Rattle.sel_ternary.proofs.Common.{common_steps, ◌≡◌, inl, ℕ, zero, suc, ◌+◌, ◌<◌, true, All, List, [], ◌∷◌, ◌++◌, length, take, drop, map, refl, sym, ap, subst, ◌∙◌}
 use Rattle.sel_ternary.proofs.Common.{arith, get_or, length-append, type_of, Shape, of_null, of_struct, shape_list, Value, Column, field, joined_items, part_at}
 use Rattle.sel_ternary.proofs.Common.{exceeded_taken}
 use Rattle.sel_bits.specs.declared.faults.Limit.{Limit}
@@ -67,9 +67,7 @@ held_count c is = refl
 
 joined : (s : Shape) → has_word_kernel s ≡ true → (cs ds : List Column) → AllLike s cs ds → buffers_joined cs ≡ buffers_joined ds
 joined s viewed [] [] like = refl
-joined s viewed (c ∷ cs) (d ∷ ds) like =
-    let one = sym (held_count c (ap has_word_kernel like.0.first ∙ viewed)) ∙ ap first_count like.0.held ∙ held_count d (ap has_word_kernel like.0.second ∙ viewed) in
-    ap (λ n. n + buffers_joined cs) one ∙ ap (λ n. buffer_count d + n) (joined s viewed cs ds like.1)
+joined s viewed (c ∷ cs) (d ∷ ds) like = grind (arith, common_steps, held_count, (joined s viewed cs ds like.1))
 joined s viewed cs ds like = absurd like
 
 -- ---- children
@@ -83,16 +81,10 @@ block_child (FixedSizeList' size len p values validity) s w is = (cc, refl)
 block_child c s w is = absurd (cc is)
 
 lists_like : (s : Shape) (c d : Column) → Like (of_large_list s) c d → Like s (child c) (child d)
-lists_like s c d like =
-    let one = list_child c s like.first in
-    let two = list_child d s like.second in
-    record { first = one.0; second = two.0; held = one.1 ∙ like.held ∙ sym two.1 }
+lists_like s c d like = grind (arith, common_steps, list_child)
 
 blocks_like : (s : Shape) (w : ℕ) (c d : Column) → Like (of_fixed_size_list s w) c d → Like s (child c) (child d)
-blocks_like s w c d like =
-    let one = block_child c s w like.first in
-    let two = block_child d s w like.second in
-    record { first = one.0; second = two.0; held = one.1 ∙ like.held ∙ sym two.1 }
+blocks_like s w c d like = grind (arith, common_steps, block_child)
 
 -- ---- fields
 
@@ -109,12 +101,8 @@ fields_long n (more_of-Column column columns) = ap suc (fields_long _ columns)
 row_piece : (n : _) (row : Row_of-Column n) (k : ℕ) (d : Column) → k < length (columns_in row) →
     (type_of (get_or (columns_in row) k d) ≡ get_or (shape_list (types_of_each row)) k of_null) × (buffers_held (get_or (columns_in row) k d) ≡ piece k (types_of_each row) (buffers_of_each row))
 row_piece n end_of-Column k d below = absurd (omega (arith, below))
-row_piece n (more_of-Column column columns) zero d below =
-    (refl, sym (take-append_seam (buffers_held column) (buffers_of_each columns)) ∙ ap (λ n. take n (buffers_held column ++ buffers_of_each columns)) (held_long column))
-row_piece n (more_of-Column column columns) (suc k) d below =
-    let rest = row_piece _ columns k d (omega (arith, below)) in
-    let dropped = sym (drop-append_seam (buffers_held column) (buffers_of_each columns)) ∙ ap (λ n. drop n (buffers_held column ++ buffers_of_each columns)) (held_long column) in
-    (rest.0, rest.1 ∙ ap (piece k (types_of_each columns)) dropped)
+row_piece n (more_of-Column column columns) zero d below = grind (arith, common_steps, held_long)
+row_piece n (more_of-Column column columns) (suc k) d below = grind (arith, common_steps, held_long, (row_piece _ columns k d (omega (arith, below))))
 
 field_piece : (c : Column) (ss : Shapes) → type_of c ≡ of_struct ss → (k : ℕ) → k < length (shape_list ss) →
     (type_of (field k c) ≡ get_or (shape_list ss) k of_null) × (buffers_held (field k c) ≡ piece k ss (buffers_held c))

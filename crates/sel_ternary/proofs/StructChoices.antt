@@ -1,5 +1,5 @@
 -- If-then-else of struct columns without a validity, field by field.
-use Rattle.sel_ternary.proofs.Common.{◌≡◌, All, ℕ, zero, suc, ◌<◌, ◌≤◌, Bool, true, List, [], ◌∷◌, length, map, replicate, Option, Some, None, refl, ap, sym}
+use Rattle.sel_ternary.proofs.Common.{common_steps, ◌≡◌, All, ℕ, zero, suc, ◌<◌, ◌≤◌, Bool, true, List, [], ◌∷◌, length, map, replicate, Option, Some, None, refl, ap, sym}
 use Rattle.sel_ternary.proofs.Common.{subst, ◌∙◌, arith, get_or, rows, type_of, well_formed, Shape, of_null, of_struct, shape_list, Value, Null, Column}
 use Rattle.sel_ternary.proofs.Common.{length-rows, field, part_at, ExceedsNone, IsLimitOrMemory, exceeded_taken, pick, refused_more, size_of, chosen_rows}
 use Rattle.sel_bits.specs.declared.faults.PolarsError.{PolarsError}
@@ -132,8 +132,7 @@ module _ (x y : Column) (t f : Bool) (bits : List Bool) (true_bare : is_bare x �
   chosen_count = ap length (sym is_chosen) ∙ length-pick Null (sides x y) picks ∙ chosen_long t f 0 bits
 
   pub chosen_valid : replicate (length bits) true ≡ validities chosen
-  chosen_valid =
-      ap (λ n. replicate n true) (sym (chosen_long t f 0 bits)) ∙ valid_picks x y true_bare false_bare picks fit (chosen_picked t f 0 bits) ∙ ap validities is_chosen
+  chosen_valid = grind (arith, common_steps, chosen_long, valid_picks, fit, chosen_picked, is_chosen)
 
   pub chosen_tuples : (k : ℕ) → IsTuple (length (shape_list ss)) (get_or chosen k Null)
   chosen_tuples k = subst (λ (l : List Value). IsTuple (length (shape_list ss)) (get_or l k Null)) is_chosen
@@ -207,16 +206,11 @@ module _ (x y : Column) (t f : Bool) (bits : List Bool) (true_bare : is_bare x �
     copy_false_side = subst (λ (l : List Value). SideFits f (length l) (length bits)) (sym second.same_rows) (field_false_side x y t f bits true_bare false_bare ss true_type false_type true_side false_side j there true_formed false_formed)
 
     pub copies_chosen : chosen_rows t f bits (rows a) (rows b) ≡ chosen_part
-    copies_chosen =
-        (λ i. chosen_rows t f bits (first.same_rows i) (second.same_rows i))
-        ∙ field_chosen x y t f bits true_bare false_bare ss true_type false_type true_side false_side j there true_formed false_formed
+    copies_chosen = grind (arith, common_steps, first, second, field_chosen, true_type, false_type, there)
 
     -- The rows exceed the same limits with copies of the columns.
     copied : AllLike (type_of (field j x)) (a ∷ b ∷ []) (field j x ∷ field j y ∷ [])
-    copied = (
-      record { first = first.same_type; second = refl; held = first.same_held },
-      (record { first = second.same_type ∙ types_alike; second = types_alike; held = second.same_held }, tt),
-    )
+    copied = grind (arith, common_steps, types_alike)
 
     pub copies_pass : ExceedsNone (exceeded_taken (type_of a) (a ∷ b ∷ []) (chosen_rows t f bits (rows a) (rows b))) → ExceedsNone (exceeded_taken (type_of (field j x)) (field j x ∷ field j y ∷ []) chosen_part)
     copies_pass none limit past =

@@ -1,5 +1,5 @@
 -- The rows of an if-then-else under its validity.
-use Rattle.sel_ternary.proofs.Common.{◌≡◌, ℕ, zero, suc, ◌∙◌, sym, refl, ap, arith, List, [], ◌∷◌, length, map, replicate, Bool, true, false, not, Option, Some}
+use Rattle.sel_ternary.proofs.Common.{common_steps, ◌≡◌, ℕ, zero, suc, ◌∙◌, sym, refl, ap, arith, List, [], ◌∷◌, length, map, replicate, Bool, true, false, not, Option, Some}
 use Rattle.sel_ternary.proofs.Common.{None, if◌then◌else◌, length-map, length-replicate, Bits, zip_with, hidden, masked, Covers, Value, Null, choose}
 use Rattle.sel_ternary.proofs.Common.{broadcast_true, broadcast_false, broadcast_both, chosen_validity, few_rows_pass}
 use Rattle.std.proofs.Common.{◌||◌}
@@ -110,10 +110,7 @@ false_covered f ms vf v fs b there valid q cf = covers_chosen ms None vf v (no_v
 module _ {A : Type 0} (f : A → Value) (ms : List Bool) (out : List A) (v : Option Bits) where
   pub rows_choose : (vt vf : Option Bits) (ts fs : List A) → length (masked vt (map f ts)) ≡ length ms → length (masked vf (map f fs)) ≡ length ms → Covers vt (length ts) → Covers vf (length fs) → out ≡ choose ms ts fs → IsChosenValidity ms vt vf v
       → masked v (map f out) ≡ choose ms (masked vt (map f ts)) (masked vf (map f fs))
-  rows_choose vt vf ts fs p q ct cf is valid =
-      ap (λ l. masked v (map f l)) is
-      ∙ ap (masked v) (map-choose f ms ts fs)
-      ∙ masked_choose ms vt vf v (map f ts) (map f fs) (length-map ts f ∙ side_long f ms ts vt p) (length-map fs f ∙ side_long f ms fs vf q) (λ b there. ct b there ∙ sym (length-map ts f)) (λ b there. cf b there ∙ sym (length-map fs f)) valid
+  rows_choose vt vf ts fs p q ct cf is valid = grind (arith, common_steps, map-choose, masked_choose, length-map, side_long)
 
   pub rows_choose_one : (vf : Option Bits) (x : A) (y : Value) (fs : List A) → length (masked vf (map f fs)) ≡ length ms → Covers vf (length fs) → out ≡ broadcast_true ms x fs → IsChosenValidity ms None vf v → f x ≡ y
       → masked v (map f out) ≡ broadcast_true ms y (masked vf (map f fs))
@@ -132,12 +129,7 @@ module _ {A : Type 0} (f : A → Value) (ms : List Bool) (out : List A) (v : Opt
       ∙ ap (broadcast_false ms (masked vt (map f ts))) to
 
   pub rows_choose_of_two : (x y : A) (p q : Value) → out ≡ broadcast_both ms x y → f x ≡ p → f y ≡ q → map f out ≡ broadcast_both ms p q
-  rows_choose_of_two x y p q is first second =
-      ap (map f) (is ∙ repeated_both ms x y)
-      ∙ map-choose f ms (replicate (length ms) x) (replicate (length ms) y)
-      ∙ (λ i. choose ms (map-replicate (length ms) x f i) (map-replicate (length ms) y f i))
-      ∙ sym (repeated_both ms (f x) (f y))
-      ∙ (λ i. broadcast_both ms (first i) (second i))
+  rows_choose_of_two x y p q is first second = grind (arith, common_steps, repeated_both, map-choose, map-replicate)
 
 -- A validity that is passed by reference is as long as the mask.
 pub side_covers : {A : Type 0} → (f : A → Value) (ms : List Bool) (xs : List A) (v lent : Option Bits) → Covers v (length xs) → length (masked v (map f xs)) ≡ length ms → lent ≡ v → Covers lent (length ms)

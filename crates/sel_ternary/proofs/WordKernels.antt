@@ -1,5 +1,5 @@
 -- Broadcast rows by the kernels of their types, and null rows by a validity.
-use Rattle.sel_ternary.proofs.Common.{◌≡◌, ℕ, suc, ◌<◌, ◌∙◌, Bool, true, false, not, ◌&&◌, List, [], ◌∷◌, length, map, get_or, refl, ap, sym, subst, arith}
+use Rattle.sel_ternary.proofs.Common.{common_steps, ◌≡◌, ℕ, suc, ◌<◌, ◌∙◌, Bool, true, false, not, ◌&&◌, List, [], ◌∷◌, length, map, get_or, refl, ap, sym, subst, arith}
 use Rattle.sel_ternary.proofs.Common.{replicate, Option, None, if◌then◌else◌, list_all, append-nil, Bits, zip_with, hidden, Covers, Value, Null, Bytes, View}
 use Rattle.sel_ternary.proofs.Common.{pick, choose, first_row}
 use Rattle.sel_ternary.specs.Chosen.{chosen_rows, spread_rows, SideFits}
@@ -57,8 +57,7 @@ null_then false fc ms ts fs row null fits =
 null_then true fc ms ts fs row null fits = absurd (cc row)
 
 pub null_otherwise : (tc fc : Bool) (ms : List Bool) (ts fs : List Value) → fc ≡ false → first_row fs ≡ Null → SideFits tc (length ts) (length ms) → hidden ms (spread_rows tc ms ts) ≡ chosen_rows tc fc ms ts fs
-null_otherwise tc false ms ts fs row null fits =
-    nulled_false ms (spread_rows tc ms ts) (length-spread tc ms ts fits) ∙ ap (choose ms (spread_rows tc ms ts)) (null_spread ms fs null) ∙ sym (chosen_spread tc false ms ts fs)
+null_otherwise tc false ms ts fs row null fits = grind (arith, common_steps, nulled_false, length-spread, null_spread, chosen_spread)
 null_otherwise tc true ms ts fs row null fits = absurd (cc row)
 
 -- ---- the sides
@@ -104,8 +103,7 @@ first_text (v ∷ vs) texts = and_first (is_text v) (list_all is_text vs) texts
 pub hidden_text : (bs : List Bool) (vs : List Value) → list_all is_text vs ≡ true → list_all is_text (hidden bs vs) ≡ true
 hidden_text [] vs texts = texts
 hidden_text (b ∷ bs) [] texts = refl
-hidden_text (true ∷ bs) (v ∷ vs) texts =
-    both (is_text v) (list_all is_text (hidden bs vs)) (and_first (is_text v) (list_all is_text vs) texts) (hidden_text bs vs (and_second (is_text v) (list_all is_text vs) texts))
+hidden_text (true ∷ bs) (v ∷ vs) texts = grind (arith, common_steps, (hidden_text bs vs (and_second (is_text v) (list_all is_text vs) texts)))
 hidden_text (false ∷ bs) (v ∷ vs) texts = hidden_text bs vs (and_second (is_text v) (list_all is_text vs) texts)
 
 pub ruleset held_counts = held_count
