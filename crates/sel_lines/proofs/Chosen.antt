@@ -1,6 +1,6 @@
 -- If-then-else of rows.
 use Rattle.std.proofs.Common.{◌≡◌, ℕ, zero, suc, ◌<◌, Bool, true, false, List, length, Option, Some, None, arith, refl, ap, sym, ◌∙◌, Decides, ◌==◌, ◌&&◌, count_by}
-use Rattle.sel_lines.proofs.Common.{Decides-and, Decides-eqb, Bits, bool_rows, Value, Truth, is_null}
+use Rattle.sel_lines.proofs.Common.{common_steps, Decides-and, Decides-eqb, Bits, bool_rows, Value, Truth, is_null}
 use Rattle.sel_arrow.proofs.Rows.{length-truth_rows}
 use Rattle.sel_ternary.specs.Choose.{choose}
 use Rattle.polars_compute.specs.Select.{effective_mask}
@@ -24,9 +24,6 @@ plain_mask bits validity none = sym (ap effective_mask (bare_rows Truth validity
 
 pub chosen : (bits : List Bool) (validity : Option Bits) (ts fs : List Value) → count_by is_null (bool_rows bits validity) ≡ 0 → length ts ≡ length (bool_rows bits validity) → length fs ≡ length (bool_rows bits validity)
     → Some (choose bits ts fs) ≡ choose_result (bool_rows bits validity) ts fs
-chosen bits validity ts fs none long other =
-    let mask = bool_rows bits validity in
-    ap (λ ms. Some (choose ms ts fs)) (sym (plain_mask bits validity none))
-    ∙ sym (cond-true _ _ _ ((test mask ts fs).1 (none, (long, other))))
+chosen bits validity ts fs none long other = grind (arith, common_steps, plain_mask, test)
 
 pub ruleset choices = (length-truth_rows, no_nulls, chosen)

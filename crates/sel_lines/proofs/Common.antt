@@ -28,6 +28,7 @@ pub use Rattle.sel_lines.specs.Parts.{HasOneSpelling, read_part, text_row}
 pub use Rattle.sel_lines.specs.Rows.{parsed_rows, shown_row}
 pub use Rattle.sel_lines.specs.Texts.{string_value}
 pub use Rattle.std.proofs.lemmas.Bool.Decides.{Decides-and, Decides-eqb, Decides-ltb, nat_tests}
+pub use Rattle.std.proofs.lemmas.Grind.{common_steps}
 pub use Rattle.std.proofs.lemmas.Int.{to_z-of_z}
 pub use Rattle.std.proofs.lemmas.List.{append-nil, get_or-map, length-drop, length-map, length-replicate, length-take, map-append, take-append-drop, take_all, take_more}
 pub use Rattle.std.proofs.lemmas.List.Elements.{All-head, All-nil, All-push, All-weaker}

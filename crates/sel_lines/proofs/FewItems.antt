@@ -1,6 +1,6 @@
 -- A word has no more rows, and no more items and bytes in them, than a column can have.
 use Rattle.std.proofs.Common.{◌≡◌, ◌≤◌, ℕ, suc, pos, ◌+◌, ◌*◌, Bool, true, false, cond, List, [], ◌∷◌, length, length-append, map, replicate, Option, Some, None, arith, refl, ap, sym, codes, bytes_eq, ◌==◌, nat_le, leb-true, option_map}
-use Rattle.sel_lines.proofs.Common.{slice_split, length-replicate, list_of, Value, Null, Number, Bytes, Items, items_in, joined_items, byte_count, bytes_needed, blocks_of, block_of, is_block, parsed_width, standing_for, all_some, column_of, row_of, AreFew, list_of_word, lists_of, number_of, size_of, string_value}
+use Rattle.sel_lines.proofs.Common.{common_steps, slice_split, length-replicate, list_of, Value, Null, Number, Bytes, Items, items_in, joined_items, byte_count, bytes_needed, blocks_of, block_of, is_block, parsed_width, standing_for, all_some, column_of, row_of, AreFew, list_of_word, lists_of, number_of, size_of, string_value}
 use Rattle.std.proofs.lemmas.Option.{cond_some, option_and_then_some}
 use Rattle.sel_gather.proofs.ItemRuns.{listed_values}
 use Rattle.sel_lines.proofs.Pieces.{weight, split_weight, few_parts}
@@ -51,9 +51,7 @@ string_bytes [] row is = absurd cc
 string_bytes (c ∷ text) row is = rw (← (cond_some (c == 61) (Bytes text) row is).1) (omega arith)
 
 row_bytes : (word : List ℕ) (row : Value) → row_of string_value word ≡ Some row → byte_count row ≤ length word
-row_bytes word row is =
-    either (bytes_eq word (codes "n")) (Some Null) (string_value word) (Some row) is
-    (λ made. let same : Null ≡ row = cc in rw (← same) (omega arith)) (string_bytes word row)
+row_bytes word row is = grind (arith, common_steps, either, string_bytes)
 
 pub few_texts : (word : List ℕ) (rows : List Value) → Some rows ≡ column_of string_value word →
     (length rows ≤ suc (length word)) × (bytes_needed rows ≤ 17 * suc (length word))
@@ -88,9 +86,7 @@ stored_count w word (Items items) narrow is = let count = item_count word (Items
 stored_count w word row narrow is = omega (arith, narrow, length-replicate w Null)
 
 block_count : (w : ℕ) (word : List ℕ) (row : Value) → w ≤ 16 → block_of w word ≡ Some row → length (items_in w (standing_for w row)) ≤ 17 * suc (length word)
-block_count w word row narrow is =
-    option_and_then_some (λ r. cond (is_block w r) (Some r) None) (list_of_word word) row is
-    (λ r here made. rw (← (cond_some (is_block w r) r row made).1) (stored_count w word r narrow here))
+block_count w word row narrow is = grind (arith, common_steps, stored_count)
 
 pub few_blocks : (w : ℕ) (word : List ℕ) (read : List Value) → w ≤ 16 → length word ≤ 1048576 → blocks_of w word ≡ Some read → AreFew read (joined_items w (map (standing_for w) read))
 few_blocks w word read narrow short is =
@@ -100,8 +96,4 @@ few_blocks w word read narrow short is =
     record { rows = omega (arith, few.0, short); items = omega (arith, few.1, short) }
 
 pub narrow_width : (word : List ℕ) (w : ℕ) → Some w ≡ parsed_width word → w ≤ 16
-narrow_width word w is =
-    option_and_then_some (λ n. cond (nat_le n 16) (Some n) None) (size_of word) w (sym is) (λ n here made.
-    let found = cond_some (nat_le n 16) n w made in
-    let le = leb-true n 16 found.0 in
-    omega (arith, found.1, le))
+narrow_width word w is = grind (arith, common_steps)

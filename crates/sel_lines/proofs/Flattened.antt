@@ -1,6 +1,6 @@
 -- The horizontal flatten of integer columns.
 use Rattle.std.proofs.Common.{◌≡◌, ℕ, ◌<◌, ◌≤◌, Bor, List, [], ◌∷◌, length, map, Option, Some, None, arith, refl, ap, sym, subst, ◌∙◌, Decides, IsTrue, ◌&&◌, nat_lt, option_map, codes}
-use Rattle.sel_lines.proofs.Common.{All, Decides-and, Decides-ltb, length-map, All-nil, All-head, All-weaker, max_rows, OutOfMemory, SizeLimit, ComputeError, rows, type_of, primitive_rows, of_int64, Value, ArrayRef, IsLimitOrMemory, ExceedsRows, all_some, column_text, flatten_part, side_by_side, flat_text, flatten_answer, flatten_words, read_part, size_of}
+use Rattle.sel_lines.proofs.Common.{common_steps, All, Decides-and, Decides-ltb, length-map, All-nil, All-head, All-weaker, max_rows, OutOfMemory, SizeLimit, ComputeError, rows, type_of, primitive_rows, of_int64, Value, ArrayRef, IsLimitOrMemory, ExceedsRows, all_some, column_text, flatten_part, side_by_side, flat_text, flatten_answer, flatten_words, read_part, size_of}
 use mathlib.Core.Logic.{⊎_elim}
 use Rattle.std.proofs.lemmas.Bool.{cond-true, cond-false}
 use Rattle.std.proofs.lemmas.Simd.{map-map}
@@ -35,8 +35,7 @@ first_number (a ∷ arrays) some numbers = All-head (λ a. type_of a.column ≡ 
 
 pub numbers_alike : (arrays : List ArrayRef) → All (λ a. type_of a.column ≡ of_int64) arrays → All (λ a. type_of a.column ≡ first_type (map (λ a. a.column) arrays)) arrays
 numbers_alike [] numbers = All-nil _
-numbers_alike (a ∷ arrays) numbers =
-    All-weaker (λ b. type_of b.column ≡ of_int64) (λ b. type_of b.column ≡ type_of a.column) (λ b is. is ∙ sym (All-head (λ b. type_of b.column ≡ of_int64) a arrays numbers)) (a ∷ arrays) numbers
+numbers_alike (a ∷ arrays) numbers = grind (arith, common_steps, All-weaker, All-head)
 
 -- ---- more rows than a column can have
 
@@ -57,14 +56,7 @@ pub refused_text : (h : ℕ) (arrays : List ArrayRef) (ws : List ℕ) (fault : P
     → IsLimitOrMemory (exceeded_flattened h (first_type (map (λ a. a.column) arrays)) (map (λ a. a.column) arrays) (flatten (map (λ a. rows a.column) arrays) ws h)) fault
     → IsLimitOrMemory (λ limit. option_map flat_text (side_by_side h (map (λ a. rows a.column) arrays) ws) ≡ Some (codes "size limit rows")) fault
 refused_text h arrays ws OutOfMemory some numbers fit refused = tt
-refused_text h arrays ws (SizeLimit limit) some numbers fit refused =
-    let xss = map (λ (a : ArrayRef). rows a.column) arrays in
-    let columns = map (λ (a : ArrayRef). a.column) arrays in
-    let long : 0 < length xss = rw length-map some in
-    let past : exceeded_flattened h of_int64 columns (flatten xss ws h) limit =
-    subst (λ s. exceeded_flattened h s columns (flatten xss ws h) limit) (first_number arrays some numbers) refused in
-    ap (option_map flat_text) (fitting h xss ws long fit)
-    ∙ ap Some (cond-true _ _ _ ((Decides-ltb max_rows _).1 (many_numbers h columns (flatten xss ws h) limit past)))
+refused_text h arrays ws (SizeLimit limit) some numbers fit refused = grind (arith, common_steps, length-map, first_number, fitting, Decides-ltb, many_numbers)
 refused_text h arrays ws ComputeError some numbers fit refused = absurd refused
 
 -- ---- the parsed parts

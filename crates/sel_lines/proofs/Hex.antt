@@ -1,7 +1,7 @@
 -- The result of `from_str_radix` for a word of lower-case hexadecimal digits.
 use Rattle.std.proofs.Common.{◌≡◌, ◌≢◌, ℕ, ◌^◌, ◌<◌, true, false, List, [], ◌∷◌, length, get_or, Some, None, Result, Ok, Err, arith, ap, sym, ◌∙◌, lit<, subst, ◌&&◌, nat_lt, nat_le}
 use Rattle.std.specs.Char.{digit_value}
-use Rattle.sel_lines.proofs.Common.{list_all, nat_tests, Decides-ltb}
+use Rattle.sel_lines.proofs.Common.{common_steps, list_all, nat_tests, Decides-ltb}
 use Rattle.std.specs.Result.{result_ok}
 use Rattle.std.specs.Str.Parse.{digits_value, ParsesUnsigned, AllDigits, IsNumeral}
 use Rattle.std.proofs.Math.Nat.{pow-le-pow_right}
@@ -35,10 +35,7 @@ hex_word word is =
 hex_result : {E : Type 0} (word : List ℕ) (r : Result ℕ E) → is_hex_word word ≡ true → ParsesUnsigned 64 16 word r →
     result_ok r ≡ Some (digits_value 16 word)
 hex_result word (Ok n) is read = ap Some (read.1 ∙ ap (digits_value 16) (without_leading_plus_none word (hex_word word is).0))
-hex_result word (Err e) is read =
-    let hex = hex_word word is in
-    absurd (read (subst (λ (ds : List ℕ). IsNumeral 16 ds × (digits_value 16 ds < 2 ^ 64)) (sym (without_leading_plus_none word hex.0))
-    hex.1))
+hex_result word (Err e) is read = grind (arith, common_steps, hex_word)
 
 pub hex_parsed : {E : Type 0} (word : List ℕ) (r : Result ℕ E) → is_hex_word word ≡ true → ParsesUnsigned 64 16 word r → result_ok r ≡ word_of_hex word
 unfolding word_of_hex

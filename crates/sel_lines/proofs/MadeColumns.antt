@@ -1,6 +1,6 @@
 -- Parsed parts break no rule of the column constructors.
 use Rattle.std.proofs.Common.{◌≡◌, ◌≤◌, ℕ, ◌*◌, Bool, true, false, List, [], ◌∷◌, length, map, Option, Some, None, arith, refl, ap, sym, ◌∙◌, IsTrue, not, nat_lt, ◌&&◌, ◌==◌}
-use Rattle.sel_lines.proofs.Common.{nat_tests, length-map, max_buffers, max_rows, Bits, list_fault, block_fault, views_fault, utf8view_fault, hidden, too_many, Value, is_valid, validities, and_first, and_second, joined_items, item_ends}
+use Rattle.sel_lines.proofs.Common.{common_steps, nat_tests, length-map, max_buffers, max_rows, Bits, list_fault, block_fault, views_fault, utf8view_fault, hidden, too_many, Value, is_valid, validities, and_first, and_second, joined_items, item_ends}
 use Rattle.sel_bits.specs.Faults.{first_broken, IsFault, IsFaultOrMemory}
 use Rattle.sel_bits.specs.declared.faults.MakeError.{MakeError}
 use Rattle.sel_bits.specs.declared.faults.MakeError.TheVariants.{Malformed as Broken, OutOfMemory as WantOfMemory}
@@ -39,18 +39,11 @@ two_sound false prefix h = absurd cc
 
 views_sound : (buffers : List (List ℕ)) (views : List View) → IsTrue (all_placed buffers views) → views_fault buffers views ≡ None
 views_sound buffers [] placed = refl
-views_sound buffers (v ∷ views) placed =
-    rw (
-      two_sound (is_in_range buffers v) (has_prefix buffers v) (and_first (is_placed buffers v) (all_placed buffers views) placed),
-      views_sound buffers views (and_second (is_placed buffers v) (all_placed buffers views) placed),
-    ) refl
+views_sound buffers (v ∷ views) placed = grind (arith, common_steps, two_sound, and_first, and_second, (views_sound buffers views (and_second (is_placed buffers v) (all_placed buffers views) placed)))
 
 pub texts_sound : (views : List View) (buffers : List (List ℕ)) (validity : Bits) (flags : List Bool) → length views ≤ max_rows → length buffers ≤ max_buffers → validity.bits ≡ flags → length flags ≡ length views →
     IsTrue (all_placed buffers views) → IsTrue (all_text (hidden flags (map (view_value buffers) views))) → utf8view_fault views buffers (Some validity) ≡ None
-texts_sound views buffers validity flags rows few_buffers shown same placed texts =
-    let long : length validity.bits ≡ length views = ap length shown ∙ same in
-    let utf8 : all_text (hidden validity.bits (map (view_value buffers) views)) ≡ true = ap (λ bs. all_text (hidden bs (map (view_value buffers) views))) shown ∙ texts in
-    rw (few (length views) rows, few (length buffers) few_buffers, alike (length validity.bits) (length views) long, views_sound buffers views placed, utf8) refl
+texts_sound views buffers validity flags rows few_buffers shown same placed texts = grind (arith, common_steps, few, alike, views_sound)
 
 -- ---- columns with children
 

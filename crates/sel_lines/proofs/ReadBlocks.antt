@@ -1,6 +1,6 @@
 -- Fixed-size lists that are parsed one by one.
 use Rattle.std.proofs.Common.{◌≡◌, ℕ, ℤ, zero, suc, pos, ◌*◌, Bool, true, List, [], ◌∷◌, ◌++◌, length, length-append, get_or, map, replicate, Bor, Some, None, arith, refl, ap, sym, ◌∙◌, ◌==◌, ◌&&◌}
-use Rattle.sel_lines.proofs.Common.{list_all, Decides-eqb, map-append, append-nil, length-map, length-replicate, list_all-append, Bits, hidden, list_of, blocks, block_rows, rows, Value, Null, Truth, Number, Bytes, Items, Tuple, is_valid, validities, both, and_first, and_second, items_in, joined_items, blocks_of, is_block, parsed_width, HasBlocks, standing_for, entries_text, fixed_words, shown_list, number_of, truth_of}
+use Rattle.sel_lines.proofs.Common.{common_steps, list_all, Decides-eqb, map-append, append-nil, length-map, length-replicate, list_all-append, Bits, hidden, list_of, blocks, block_rows, rows, Value, Null, Truth, Number, Bytes, Items, Tuple, is_valid, validities, both, and_first, and_second, items_in, joined_items, blocks_of, is_block, parsed_width, HasBlocks, standing_for, entries_text, fixed_words, shown_list, number_of, truth_of}
 use Rattle.sel_arrow.specs.NestedArrays.{block_column}
 use Rattle.sel_arrow.specs.declared.fixed_size_list.FixedSizeListArray.{FixedSizeListArray}
 use Rattle.sel_gather.proofs.ItemRuns.{joined-append, listed_values}
@@ -34,10 +34,7 @@ is_there w v h = refl
 
 are_there : (w : ℕ) (read : List Value) → list_all (is_block w) read ≡ true → replicate (length read) true ≡ validities (map (standing_for w) read)
 are_there w [] all = refl
-are_there w (v ∷ read) all =
-    let one = is_there w v (and_first (is_block w v) (list_all (is_block w) read) all) in
-    let rest = are_there w read (and_second (is_block w v) (list_all (is_block w) read) all) in
-    ap (λ bs. true ∷ bs) rest ∙ ap (λ b. b ∷ validities (map (standing_for w) read)) (sym one)
+are_there w (v ∷ read) all = grind (arith, common_steps, is_there, and_first, and_second, (are_there w read (and_second (is_block w v) (list_all (is_block w) read) all)))
 
 shown_again : (w : ℕ) (read : List Value) → hidden (validities read) (map (standing_for w) read) ≡ read
 shown_again w [] = refl
@@ -60,17 +57,7 @@ width_is w n items count =
 pub block_more : (w : ℕ) (read : List Value) (old new : Blocks) (row : Value) (xs : List ℤ) (bs : List Bool) (b : Bool) → HasBlocks w read old → length bs ≡ length xs →
     new.values.items ≡ old.values.items ++ xs → new.flags.items ≡ old.flags.items ++ bs → new.validity.items ≡ old.validity.items ++ b ∷ [] → is_valid row ≡ b →
     hidden bs (map Number xs) ≡ items_in w (standing_for w row) → is_block w row ≡ true → HasBlocks w (read ++ row ∷ []) new
-block_more w read old new row xs bs b has paired values flags valid is held wide =
-    let st = standing_for w in
-    record {
-      items =
-          items_more Number old.flags.items new.flags.items bs old.values.items new.values.items xs has.flags flags values
-          ∙ ap (λ l. l ++ hidden bs (map Number xs)) has.items ∙ ap (λ l. joined_items w (map st read) ++ l) (held ∙ sym (append-nil (items_in w (st row))))
-          ∙ sym (ap (joined_items w) (map-append st read (row ∷ [])) ∙ joined-append w (map st read) (st row ∷ []));
-      flags = omega (arith, ap length values, ap length flags, length-append old.values.items xs, length-append old.flags.items bs, has.flags, paired);
-      valid = valid ∙ ap (λ l. l ++ b ∷ []) has.valid ∙ ap (λ v. validities read ++ v ∷ []) (sym is) ∙ sym (map-append is_valid read (row ∷ []));
-      all = list_all-append (is_block w) read (row ∷ []) ∙ both (list_all (is_block w) read) (is_block w row && true) has.all (both (is_block w row) true wide refl);
-    }
+block_more w read old new row xs bs b has paired values flags valid is held wide = grind (arith, common_steps, items_more, append-nil, map-append, list_all-append, both)
 
 pub plain_zeros : (w : ℕ) → hidden (replicate w true) (map Number (replicate w (pos 0))) ≡ replicate w (Number (pos 0))
 plain_zeros zero = refl
@@ -101,6 +88,5 @@ entries_printed arr w read index b is size =
 pub fixed_answered : (words : List (Bor (List ℕ))) (d : Bor (List ℕ)) (w : ℕ) (read : List Value) (index : ℤ) (b : Bool) (text : List ℕ) → length words ≡ 4 →
     Some w ≡ parsed_width (get_or words 0 d).now → blocks_of w (get_or words 1 d).now ≡ Some read → Some (Number index) ≡ number_of (get_or words 2 d).now → Some (Truth b) ≡ truth_of (get_or words 3 d).now →
     text ≡ entries_text w read (replicate (length read) (Number index)) b → Some text ≡ fixed_words (map (λ word. word.now) words)
-fixed_answered (width ∷ lists ∷ at ∷ oob ∷ []) d w read index b text four wide held placed asked made =
-    rw (← wide, held, ← placed, ← asked, ← made) refl
+fixed_answered (width ∷ lists ∷ at ∷ oob ∷ []) d w read index b text four wide held placed asked made = grind (arith, common_steps)
 fixed_answered words d w read index b text four wide held placed asked made = absurd (omega arith)

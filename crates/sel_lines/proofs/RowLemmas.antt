@@ -1,6 +1,6 @@
 -- Rows that are parsed and printed one by one.
 use Rattle.std.proofs.Common.{◌≡◌, ◌≢◌, ℕ, zero, suc, ◌+◌, ◌≤◌, ◌<◌, Bool, false, List, [], ◌∷◌, ◌++◌, length, get_or, take, drop, map, Option, Some, None, arith, refl, ap, sym, ◌∙◌, Bor, append_assoc, option_map, codes, cond, is_some, unwrap_or}
-use Rattle.sel_lines.proofs.Common.{join_with_byte, slice_split, take_more, map-append, take-append-drop, length-take, length-map, hidden, shown_row, Value, Null}
+use Rattle.sel_lines.proofs.Common.{common_steps, join_with_byte, slice_split, take_more, map-append, take-append-drop, length-take, length-map, hidden, shown_row, Value, Null}
 use Rattle.std.proofs.Math.Seq.{drop-cons}
 use Rattle.std.proofs.lemmas.Simd.{map-map}
 use Rattle.sel_gather.proofs.Grown.{hidden-append}
@@ -25,19 +25,14 @@ all_some_none (Some x ∷ xs) zs = ap (option_map (λ ys. x ∷ ys)) (all_some_n
 -- One more row.
 pub rows_step : {A X : Type 0} (f : A → Option X) (words : List A) (i : ℕ) (d : A) (rows : List X) (row : X) → i < length words
     → all_some (map f (take i words)) ≡ Some rows → f (get_or words i d) ≡ Some row → all_some (map f (take (i + 1) words)) ≡ Some (rows ++ (row ∷ []))
-rows_step f words i d rows row lt before here =
-    let grown : map f (take (i + 1) words) ≡ map f (take i words) ++ (Some row ∷ []) =
-    ap (map f) (take_more words i d lt) ∙ map-append f (take i words) (get_or words i d ∷ []) ∙ ap (λ r. map f (take i words) ++ (r ∷ [])) here in
-    ap all_some grown ∙ all_some_push (map f (take i words)) rows row before
+rows_step f words i d rows row lt before here = grind (arith, common_steps, take_more, map-append, all_some_push)
 
 -- One more item, with the row that it shows.
 pub rows_pushed : {A B X : Type 0} (f : A → Option X) (shown : B → X) (words : List A) (i : ℕ) (d : A) (old new : List B) (item : B) →
     i < length words
     → all_some (map f (take i words)) ≡ Some (map shown old) → f (get_or words i d) ≡ Some (shown item) → new ≡ old ++ (item ∷ []) →
     all_some (map f (take (i + 1) words)) ≡ Some (map shown new)
-rows_pushed f shown words i d old new item lt before here more =
-    rows_step f words i d (map shown old) (shown item) lt before here
-    ∙ ap Some (sym (ap (map shown) more ∙ map-append shown old (item ∷ [])))
+rows_pushed f shown words i d old new item lt before here more = grind (arith, common_steps, rows_step, map-append)
 
 -- A word that is not a row.
 pub rows_none : {A X : Type 0} (f : A → Option X) (words : List A) (i : ℕ) (d : A) → i < length words → f (get_or words i d) ≡ None → None ≡ all_some (map f words)
@@ -65,13 +60,7 @@ join_first_step c f rows (suc i) d old new lt first before now = absurd (omega a
 pub join_step : {A : Type 0} (c : ℕ) (f : A → List ℕ) (rows : List A) (i : ℕ) (d : A) (old mid new : List ℕ) → i < length rows → 0 < i
     → old ≡ join_with_byte c (map f (take i rows)) → mid ≡ old ++ (c ∷ []) → new ≡ mid ++ f (get_or rows i d)
     → new ≡ join_with_byte c (map f (take (i + 1) rows))
-join_step c f rows i d old mid new lt some before comma now =
-    let grown : map f (take (i + 1) rows) ≡ map f (take i rows) ++ (f (get_or rows i d) ∷ []) =
-    ap (map f) (take_more rows i d lt) ∙ map-append f (take i rows) (get_or rows i d ∷ []) in
-    let long : 0 < length (map f (take i rows)) = rw (length-map, length-take) (omega arith) in
-    let joined = ap (join_with_byte c) grown ∙ join_push c (map f (take i rows)) (f (get_or rows i d)) long in
-    now ∙ ap (λ r. r ++ f (get_or rows i d)) (comma ∙ ap (λ r. r ++ (c ∷ [])) before)
-    ∙ append_assoc (join_with_byte c (map f (take i rows))) (c ∷ []) (f (get_or rows i d)) ∙ sym joined
+join_step c f rows i d old mid new lt some before comma now = grind (arith, common_steps, take_more, map-append, length-map, length-take, join_push)
 
 pub text_of_none : (rows : List Value) → length rows ≡ 0 → column_text rows ≡ codes "-"
 unfolding column_text
