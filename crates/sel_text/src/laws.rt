@@ -12,7 +12,6 @@ pub fn law_text_determines_rows()
 /// Two types whose list sizes fit in 64 bits, as those of every column do, are equal if their
 /// notations are equal. So if `parse_dtype` accepts the output of `print_dtype`, it returns the
 /// same type.
-#[tactic(auto, using(crate::proofs::OneType::one_type))]
 pub fn law_text_determines_type()
     ensures { TextDeterminesType }
 {}
