@@ -1,5 +1,5 @@
 -- Blocks at indices, and the rows that the child of a taken fixed-size list column needs.
-use Rattle.polars_compute.proofs.Common.{is_none, ◌≡◌, ℕ, zero, suc, ◌+◌, ◌-◌, ◌*◌, ◌≤◌, ◌<◌, pos, true, List, [], ◌∷◌, ◌++◌, length, take, drop, map, refl, ap}
+use Rattle.polars_compute.proofs.Common.{common_steps, is_none, ◌≡◌, ℕ, zero, suc, ◌+◌, ◌-◌, ◌*◌, ◌≤◌, ◌<◌, pos, true, List, [], ◌∷◌, ◌++◌, length, take, drop, map, refl, ap}
 use Rattle.polars_compute.proofs.Common.{sym, subst, ◌∙◌, negsuc, arith, get_or, append_assoc, length-append, ℤ, Option, Some, None, true≢false, ◌&&◌, Box}
 use Rattle.polars_compute.proofs.Common.{Global, if◌then◌else◌, ForSome, take-append_seam, drop-append-add, leb-true, le-leb, ltb-true, length-replicate}
 use Rattle.polars_compute.proofs.Common.{take-append-drop, flat_map-append, mul-le, Bits, hidden, masked, number_rows, valid_at, Covers, blocks, block_rows}
@@ -10,7 +10,6 @@ use Rattle.polars_compute.proofs.Common.{flat_map, suc-mul, mul_assoc, ◌⊎◌
 use Rattle.polars_compute.proofs.Common.{All-head, All-map, All-nil, All-tail, Limit, type_of, Shape, of_fixed_size_list, items_in, joined_items, ExceedsRows}
 use Rattle.polars_compute.proofs.Common.{exceeded_limits, listed_values, exceeded_blocks}
 use Rattle.sel_arrow.specs.declared.column.Column.TheVariants.{Int8, Int16, Int32, Int64, Int128, UInt8, UInt16, UInt32, UInt64, UInt128}
-use Rattle.std.proofs.lemmas.List.{take_at}
 use Rattle.sel_arrow.proofs.NestedParts.{part-block_rows}
 use Rattle.sel_arrow.proofs.Rows.{part-mapped}
 use Rattle.polars_compute.specs.Blocks.{block_at, IsBeginning}
@@ -43,24 +42,17 @@ block_size : (i size : ℕ) → i * size + size - i * size ≡ size
 block_size i size = omega arith
 
 length-block_at : {A : Type 0} (size : ℕ) (filler : A) (xs : List A) (v : Value) → is_block_within size (length xs) v ≡ true → length (block_at size filler xs v) ≡ size
-length-block_at size filler xs (Number (pos i)) h =
-    ap (λ k. length (take k (drop (i * size) xs))) (block_size i size) ∙ length-part xs (i * size) size (block_ends size (length xs) i h)
+length-block_at size filler xs (Number (pos i)) h = grind (arith, common_steps, block_size, length-part, block_ends)
 length-block_at size filler xs v h = length-replicate size filler
 
 pub length-block_items : {A : Type 0} (size : ℕ) (filler : A) (xs : List A) (indices : List Value) → blocks_within size (length xs) indices ≡ true → length (block_items size filler xs indices) ≡ length indices * size
 length-block_items size filler xs [] h = omega arith
-length-block_items size filler xs (v ∷ indices) h =
-    let here = length-block_at size filler xs v (and_first _ (blocks_within size (length xs) indices) h) in
-    let rest = length-block_items size filler xs indices (and_second (is_block_within size (length xs) v) _ h) in
-    omega (arith, length-append (block_at size filler xs v) (block_items size filler xs indices), here, rest)
+length-block_items size filler xs (v ∷ indices) h = grind (arith, common_steps, length-block_at, and_first, and_second, length-append, (length-block_items size filler xs indices (and_second (is_block_within size (length xs) v) _ h)))
 
 block_of_items : {A : Type 0} (size : ℕ) (filler : A) (xs : List A) (indices : List Value) (k : ℕ) → blocks_within size (length xs) indices ≡ true → k < length indices →
     take size (drop (k * size) (block_items size filler xs indices)) ≡ block_at size filler xs (get_or indices k Null)
 block_of_items size filler xs [] k h lt = absurd (omega (arith, lt))
-block_of_items size filler xs (v ∷ indices) zero h lt =
-    let first : zero * size ≡ 0 = omega arith in
-    let long = length-block_at size filler xs v (and_first _ (blocks_within size (length xs) indices) h) in
-    rw first (take_at (block_at size filler xs v) (block_items size filler xs indices) size long)
+block_of_items size filler xs (v ∷ indices) zero h lt = grind (arith, common_steps, length-block_at, and_first)
 block_of_items size filler xs (v ∷ indices) (suc k) h lt =
     let long = length-block_at size filler xs v (and_first _ (blocks_within size (length xs) indices) h) in
     let place : suc k * size ≡ length (block_at size filler xs v) + k * size = omega (arith, long) in
@@ -120,9 +112,7 @@ pub level_within : (size width n m : ℕ) (indices : List Value) → m ≡ n * w
 level_within size width n m indices is = all_pass (is_block_within size n) (is_block_within (size * width) m) (λ v. level_block size width n m v is) indices
 
 row_block : (width n m : ℕ) (v : Value) → m ≡ n * width → is_within n v ≡ true → is_block_within width m v ≡ true
-row_block width n m (Number (pos i)) is h =
-    let inside = ltb-true i n h in
-    le-leb ((i + 1) * width) m (omega (arith, is, mul-le (i + 1) width n width (omega (arith, inside)) (omega arith)))
+row_block width n m (Number (pos i)) is h = grind (arith, common_steps, ltb-true, le-leb, mul-le)
 row_block width n m (Number (negsuc i)) is h = h
 row_block width n m v is h = refl
 

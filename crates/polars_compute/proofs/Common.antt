@@ -74,6 +74,7 @@ pub use Rattle.std.proofs.Common.{take-append-drop, take_all, to_z, true, true�
 pub use Rattle.std.proofs.Common.{◌&&◌, ◌*◌, ◌++◌, ◌+◌, ◌-◌, ◌/◌, ◌<ℤ◌, ◌<◌, ◌==◌, ◌^◌, ◌||◌, ◌∙◌, ◌∷◌, ◌≡◌, ◌≢◌, ◌≤ℤ◌, ◌≤◌, ◌⊎◌}
 pub use Rattle.std.proofs.Math.Nat.{mul_assoc, suc-mul}
 pub use Rattle.std.proofs.Math.Seq.{drop-append-add, take-append_seam}
+pub use Rattle.std.proofs.lemmas.Grind.{common_steps}
 pub use Rattle.std.proofs.lemmas.Bool.{cases_lt}
 pub use Rattle.std.proofs.lemmas.Int.{ints, to_z-of_z}
 pub use Rattle.std.proofs.lemmas.List.{drop-map, drop_all, get_or-map, get_or_default, get_or_past, length-map, length-replicate, map-append, take-map}

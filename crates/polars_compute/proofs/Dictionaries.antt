@@ -1,5 +1,5 @@
 -- Keys and values of a dictionary without its null values.
-use Rattle.polars_compute.proofs.Common.{◌≡◌, ℕ, zero, suc, ◌+◌, ◌≤◌, ◌<◌, pos, Bool, true, false, List, [], ◌∷◌, length, map, take, get_or, Option, Some, None}
+use Rattle.polars_compute.proofs.Common.{common_steps, ◌≡◌, ℕ, zero, suc, ◌+◌, ◌≤◌, ◌<◌, pos, Bool, true, false, List, [], ◌∷◌, length, map, take, get_or, Option, Some, None}
 use Rattle.polars_compute.proofs.Common.{refl, ap, sym, ◌∙◌, arith, cond, zero-add, if◌then◌else◌, count_by, not, IfNone, range_with_len, ltb-true, length-map}
 use Rattle.polars_compute.proofs.Common.{get_or-map, get_or-map-range_with_len, length-map-range_with_len, sum_by-cons, Bits, count_true, hidden, masked}
 use Rattle.polars_compute.proofs.Common.{number_rows, Covers, Value, Null, Number, is_valid, is_null, validities, and_first, and_second, rank, valid_values}
@@ -24,18 +24,14 @@ valid_more v vs = sum_by-cons (λ w. tally (is_valid w)) v vs
 -- If none is null, the first is not null.
 no_null : (b : Bool) (v : Value) (vs : List Value) → is_valid v ≡ b → count_by is_null (v ∷ vs) ≡ 0 → is_valid v ≡ true
 no_null true v vs e h = e
-no_null false v vs e h =
-    let one : tally (is_null v) ≡ 1 = ap (λ b. tally (not b)) e in
-    let n = null_more v vs in absurd (omega (arith, one, n, h))
+no_null false v vs e h = grind (arith, common_steps, not, null_more)
 
 one_valid : (v : Value) (vs : List Value) → count_by is_null (v ∷ vs) ≡ 0 → tally (is_valid v) ≡ 1
 one_valid v vs none = ap (λ b. tally b) (no_null (is_valid v) v vs refl none)
 
 -- The rows that are selected for being valid are not null.
 one_kept : (b : Bool) (v : Value) (vs : List Value) → is_valid v ≡ b → count_by is_null (select vs (validities vs)) ≡ 0 → count_by is_null (select (v ∷ vs) (b ∷ validities vs)) ≡ 0
-one_kept true v vs e h =
-    let off : tally (is_null v) ≡ 0 = ap (λ b. tally (not b)) e in
-    omega (arith, off, h, null_more v (select vs (validities vs)))
+one_kept true v vs e h = grind (arith, common_steps, not, null_more)
 one_kept false v vs e h = h
 
 pub none_null : (vs : List Value) → count_by is_null (select vs (validities vs)) ≡ 0
@@ -65,8 +61,7 @@ told_bits f valid bs xs long = absurd (omega (arith, long))
 
 pub told_validity : {A : Type 0} (f : A → Value) → ((x : A) → is_valid (f x) ≡ true) → (old : Option Bits) (validity : Bits) (xs : List A) → old ≡ Some validity → Covers old (length xs) →
     validity.bits ≡ validities (masked old (map f xs))
-told_validity f valid old validity xs is covers =
-    rw is (sym (told_bits f valid validity.bits xs (covers validity is)))
+told_validity f valid old validity xs is covers = grind (arith, common_steps, told_bits)
 
 pub if_none : {A : Type 0} (o : Option A) (P : Type 0) → (o ≡ None → P) → IfNone o P
 if_none None P h = h refl
@@ -75,9 +70,7 @@ if_none (Some x) P h = tt
 -- Without a validity no row is null.
 pub all_valid : {A : Type 0} (f : A → Value) → ((x : A) → is_valid (f x) ≡ true) → (xs : List A) → count_by is_null (map f xs) ≡ 0
 all_valid f valid [] = refl
-all_valid f valid (x ∷ xs) =
-    let off : tally (is_null (f x)) ≡ 0 = ap (λ b. tally (not b)) (valid x) in
-    null_more (f x) (map f xs) ∙ omega (arith, off, all_valid f valid xs)
+all_valid f valid (x ∷ xs) = grind (arith, common_steps, not, null_more, (all_valid f valid xs))
 
 -- ---- ranks
 
@@ -96,8 +89,7 @@ counted_before : (vs : List Value) (k : ℕ) → count_true (take k (validities 
 counted_before [] zero = refl
 counted_before [] (suc k) = refl
 counted_before (v ∷ vs) zero = refl
-counted_before (v ∷ vs) (suc k) =
-    sum_by-cons (λ b. tally b) (is_valid v) (take k (validities vs)) ∙ ap (λ n. tally (is_valid v) + n) (counted_before vs k) ∙ sym (valid_more v (take k vs))
+counted_before (v ∷ vs) (suc k) = grind (arith, common_steps, sum_by-cons, valid_more, (counted_before vs k))
 
 -- ---- the keys of the valid values
 
@@ -139,9 +131,7 @@ valid_here (v ∷ vs) zero none inside = no_null (is_valid v) v vs refl none
 valid_here (v ∷ vs) (suc k) none inside = valid_here vs k (let n = null_more v vs in omega (arith, n, none)) (omega (arith, inside))
 
 key_stays : (vs : List Value) (n : ℕ) → count_by is_null vs ≡ 0 → is_within (length vs) (Number (pos n)) ≡ true → key_of_valid vs (Number (pos n)) ≡ Number (pos n)
-key_stays vs n none within =
-    let inside = ltb-true n (length vs) within in
-    ap (λ b. if b then Number (pos (rank vs n)) else Null) (valid_here vs n none inside) ∙ ap (λ m. Number (pos m)) (rank_all vs n none (omega (arith, inside)))
+key_stays vs n none within = grind (arith, common_steps, ltb-true, valid_here, rank_all)
 
 keys_hidden : (vs : List Value) (bs : List Bool) (xs : List ℕ) → count_by is_null vs ≡ 0 → all_within (length vs) (hidden bs (map (λ x. Number (pos x)) xs)) ≡ true →
     hidden bs (map (λ x. Number (pos x)) xs) ≡ propagated_keys (hidden bs (map (λ x. Number (pos x)) xs)) vs
@@ -169,13 +159,8 @@ values_stay (v ∷ vs) none =
 -- With one more value at the front.
 behind : (b : Bool) (v : Value) (vs : List Value) (k : ℕ) → is_valid v ≡ b → get_or (valid_values vs) (rank vs k) Null ≡ get_or vs k Null →
     get_or (select (v ∷ vs) (b ∷ validities vs)) (rank (v ∷ vs) (suc k)) Null ≡ get_or vs k Null
-behind true v vs k e h =
-    let more : suc (rank vs k) ≡ 1 + rank vs k = omega arith in
-    let one : rank (v ∷ vs) (suc k) ≡ suc (rank vs k) = valid_more v (take k vs) ∙ ap (λ b. tally b + rank vs k) e ∙ sym more in
-    ap (λ i. get_or (v ∷ valid_values vs) i Null) one ∙ h
-behind false v vs k e h =
-    let same : rank (v ∷ vs) (suc k) ≡ rank vs k = valid_more v (take k vs) ∙ ap (λ b. tally b + rank vs k) e ∙ zero-add (rank vs k) in
-    ap (λ i. get_or (valid_values vs) i Null) same ∙ h
+behind true v vs k e h = grind (arith, common_steps, valid_more)
+behind false v vs k e h = grind (arith, common_steps, valid_more, zero-add)
 
 -- A valid value is at its rank among the valid ones.
 rank_found : (vs : List Value) (k : ℕ) → k < length vs → is_valid (get_or vs k Null) ≡ true → get_or (valid_values vs) (rank vs k) Null ≡ get_or vs k Null

@@ -1,5 +1,5 @@
 -- Elements of lists, as rows of a single child at optional positions, and lists of one element.
-use Rattle.polars_compute.proofs.Common.{◌≡◌, ◌<◌, ◌+◌, ◌-◌, ℕ, ℤ, pos, negsuc, Bool, true, false, All, List, [], ◌∷◌, ◌++◌, length, map, get_or, Option, Some}
+use Rattle.polars_compute.proofs.Common.{common_steps, ◌≡◌, ◌<◌, ◌+◌, ◌-◌, ℕ, ℤ, pos, negsuc, Bool, true, false, All, List, [], ◌∷◌, ◌++◌, length, map, get_or, Option, Some}
 use Rattle.polars_compute.proofs.Common.{None, refl, ap, sym, subst, ◌∙◌, arith, Bor, nat_lt, if◌then◌else◌, not, IfSome, range_with_len, ltb-true, length-map}
 use Rattle.polars_compute.proofs.Common.{map-append, get_or-map, length-map-range_with_len, get_or-map-range_with_len, map-range_with_len_more, place, Value}
 use Rattle.polars_compute.proofs.Common.{Null, pick, PickFits, IsPicked, element_at, child_pick, option_map, option_copied, is_some, is_none, drop, get_or-drop}
@@ -56,16 +56,14 @@ one_fits ys None h = tt
 one_fits ys (Some i) h = h
 
 pub places_fit : (ys : List Value) (f : ℕ → Option ℕ) (n : ℕ) → ((k : ℕ) → k < n → PlaceBelow (length ys) (f k)) → All (PickFits (ys ∷ [])) (map child_pick (map f (range_with_len 0 n)))
-places_fit ys f n h k d below =
-    subst (PickFits (ys ∷ [])) (sym (mapped_at child_pick f n k None d below)) (one_fits ys (f k) (h k (omega (arith, below, mapped_count child_pick f n))))
+places_fit ys f n h k d below = grind (arith, common_steps, mapped_at, one_fits, mapped_count)
 
 one_picked : (p : Option ℕ) → is_none p ≡ false → IsPicked (child_pick p)
 one_picked None e = absurd cc
 one_picked (Some i) e = tt
 
 pub places_picked : (f : ℕ → Option ℕ) (n : ℕ) → ((k : ℕ) → k < n → is_none (f k) ≡ false) → All IsPicked (map child_pick (map f (range_with_len 0 n)))
-places_picked f n there k d below =
-    subst IsPicked (sym (mapped_at child_pick f n k None d below)) (one_picked (f k) (there k (omega (arith, below, mapped_count child_pick f n))))
+places_picked f n there k d below = grind (arith, common_steps, mapped_at, one_picked, mapped_count)
 
 -- ---- a position in a part of the child, none if the row of the part is null
 
@@ -357,7 +355,6 @@ units_formed offsets column values is same formed =
     (lists_formed (range_with_len 0 (length (rows values.value) + 1)) values.value None (units_have values.value (ap well_formed same ∙ formed)))
 
 pub units_rows : (offsets : List ℕ) (column : Column) (values : Box Column Global) → offsets ≡ range_with_len 0 (length (rows column) + 1) → values.value ≡ column → rows (LargeList offsets values None) ≡ unit_lists (rows column)
-units_rows offsets column values is same =
-    ap (λ l. list_rows l (rows values.value) None) is ∙ ap (λ c. list_rows (range_with_len 0 (length (rows column) + 1)) (rows c) None) same ∙ units (rows column)
+units_rows offsets column values is same = grind (arith, common_steps, units)
 
 pub ruleset counted_numbers = (length-map-range_with_len)

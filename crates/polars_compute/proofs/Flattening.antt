@@ -1,5 +1,5 @@
 -- Horizontal flatten: the entries of each row, and the iteration over its row references.
-use Rattle.polars_compute.proofs.Common.{◌≡◌, ◌⊎◌, inl, inr, ℕ, zero, suc, ◌+◌, ◌*◌, ◌<◌, ◌≤◌, Bool, true, false, ◌&&◌, ◌||◌, ◌==◌, nat_lt, All, Bor, List, []}
+use Rattle.polars_compute.proofs.Common.{common_steps, ◌≡◌, ◌⊎◌, inl, inr, ℕ, zero, suc, ◌+◌, ◌*◌, ◌<◌, ◌≤◌, Bool, true, false, ◌&&◌, ◌||◌, ◌==◌, nat_lt, All, Bor, List, []}
 use Rattle.polars_compute.proofs.Common.{◌∷◌, ◌++◌, length, take, drop, map, refl, sym, ap, subst, ◌∙◌, arith, get_or, drop-cons, length-append, zero-add}
 use Rattle.polars_compute.proofs.Common.{add-one, range_with_len, if◌then◌else◌, ltb-true, eqb-true, eq-eqb, flat_map-append, append-nil, take_all, length-map}
 use Rattle.polars_compute.proofs.Common.{get_or-map, All-map, map-map, mul-le, rows, type_of, ArrayRef, Column, first_type, and_first, and_second, length-part}
@@ -20,8 +20,7 @@ use Rattle.polars_compute.proofs.Selects.{first_dropped, rest_dropped}
 -- There is a width for each list.
 pub widths_long : {A : Type 0} (h : ℕ) (xss : List (List A)) (ws : List ℕ) → parts_fit h xss ws ≡ true → length xss ≡ length ws
 widths_long h [] [] fit = refl
-widths_long h (xs ∷ xss) (w ∷ ws) fit =
-    ap suc (widths_long h xss ws (and_second (part_fits h (length xs) w) (parts_fit h xss ws) fit))
+widths_long h (xs ∷ xss) (w ∷ ws) fit = grind (arith, common_steps, and_second, (widths_long h xss ws (and_second (part_fits h (length xs) w) (parts_fit h xss ws) fit)))
 widths_long h xss ws fit = absurd cc
 
 -- There are w entries for each of h rows, or for a single row, and w is not 0.
@@ -34,13 +33,8 @@ either false b P Q p q h = inr (q h)
 
 pub part_at : {A : Type 0} (h : ℕ) (xss : List (List A)) (ws : List ℕ) (s : ℕ) → parts_fit h xss ws ≡ true → s < length ws → Parts h (length (get_or xss s [])) (get_or ws s 0)
 part_at h [] [] s fit inside = absurd (omega (arith, inside))
-part_at h (xs ∷ xss) (w ∷ ws) zero fit inside =
-    let one = and_first (part_fits h (length xs) w) (parts_fit h xss ws) fit in (
-      ltb-true 0 w (and_first (nat_lt 0 w) ((length xs == w * h) || (length xs == w)) one),
-      either (length xs == w * h) (length xs == w) (length xs ≡ w * h) (length xs ≡ w) (eqb-true (length xs) (w * h)) (eqb-true (length xs) w) (and_second (nat_lt 0 w) ((length xs == w * h) || (length xs == w)) one),
-    )
-part_at h (xs ∷ xss) (w ∷ ws) (suc s) fit inside =
-    part_at h xss ws s (and_second (part_fits h (length xs) w) (parts_fit h xss ws) fit) (omega (arith, inside))
+part_at h (xs ∷ xss) (w ∷ ws) zero fit inside = grind (arith, common_steps, and_first, ltb-true, nat_lt, either, eqb-true, and_second)
+part_at h (xs ∷ xss) (w ∷ ws) (suc s) fit inside = grind (arith, common_steps, and_second, (part_at h xss ws s (and_second (part_fits h (length xs) w) (parts_fit h xss ws) fit) (omega (arith, inside))))
 part_at h xss ws s fit inside = absurd cc
 
 -- One list, and the others.
@@ -80,10 +74,7 @@ width_room (w ∷ ws) (suc s) inside = let e = width_room ws s (omega (arith, in
 -- There are no more widths than entries in a row.
 pub width_count : {A : Type 0} (h : ℕ) (xss : List (List A)) (ws : List ℕ) → parts_fit h xss ws ≡ true → length ws ≤ row_width ws
 width_count h [] [] fit = omega arith
-width_count h (xs ∷ xss) (w ∷ ws) fit =
-    let some = (part_at h (xs ∷ xss) (w ∷ ws) 0 fit (omega arith)).0 in
-    let e = width_count h xss ws (and_second (part_fits h (length xs) w) (parts_fit h xss ws) fit) in
-    omega (arith, e, some)
+width_count h (xs ∷ xss) (w ∷ ws) fit = grind (arith, common_steps, part_at, and_second, (width_count h xss ws (and_second (part_fits h (length xs) w) (parts_fit h xss ws) fit)))
 width_count h xss ws fit = absurd cc
 
 -- ---- all rows
@@ -177,9 +168,7 @@ lane_start j r n lane d lanes inside is = rw (drop_more lanes j d inside, ← is
 -- A row and those after it, which are k.
 pub row_start : (r k n : ℕ) (lanes : List Lane) → 0 < k → n ≡ r + k → picks_from 0 r n lanes ≡ rows_picks r k lanes
 row_start r zero n lanes some is = absurd (omega (arith, some))
-row_start r (suc k) n lanes some is =
-    let same : n - (r + 1) ≡ k = omega (arith, is) in
-    ap (λ m. row_picks r 0 lanes ++ rows_picks (r + 1) m lanes) same
+row_start r (suc k) n lanes some is = grind (arith, common_steps)
 
 pub rows_some : (r k : ℕ) (lanes : List Lane) → 0 < length (rows_picks r k lanes) → (0 < k) × (0 < length lanes)
 rows_some r zero lanes h = absurd (omega (arith, h))
@@ -246,9 +235,7 @@ part_after lanes left j at part r n has =
 -- The first row reference of a part, and after it.
 pub pick_first : (lanes : List Lane) (j at part r n : ℕ) → 0 < part → left_picks j at part r n lanes ≡ Some (j, at) ∷ left_picks j (at + 1) (part - 1) r n lanes
 pick_first lanes j at zero r n some = absurd (omega (arith, some))
-pick_first lanes j at (suc part) r n some =
-    let same : part ≡ suc part - 1 = omega arith in
-    ap (λ k. Some (j, at) ∷ left_picks j (at + 1) k r n lanes) same
+pick_first lanes j at (suc part) r n some = grind (arith, common_steps)
 
 pub pick_after : (lanes : List Lane) (left j at part r n : ℕ) → 0 < part → HasLeft lanes left (left_picks j at part r n lanes) → HasLeft lanes (left - 1) (left_picks j (at + 1) (part - 1) r n lanes)
 pick_after lanes left j at part r n some has =
@@ -274,9 +261,7 @@ lanes_more xss ws s long inside = ap (λ k. lanes_of (take k xss) (take k ws)) (
 wide_lanes : {A : Type 0} (h : ℕ) (xss : List (List A)) (ws : List ℕ) → parts_fit h xss ws ≡ true → All (λ lane. 0 < lane.width) (lanes_of xss ws)
 wide_lanes h [] ws fit = All-nil _
 wide_lanes h (xs ∷ xss) [] fit = absurd cc
-wide_lanes h (xs ∷ xss) (w ∷ ws) fit =
-    All-cons (λ lane. 0 < lane.width) (lane_of (length xs) w) (lanes_of xss ws) (part_at h (xs ∷ xss) (w ∷ ws) 0 fit (omega arith)).0
-    (wide_lanes h xss ws (and_second (part_fits h (length xs) w) (parts_fit h xss ws) fit))
+wide_lanes h (xs ∷ xss) (w ∷ ws) fit = grind (arith, common_steps, All-cons, part_at, and_second, (wide_lanes h xss ws (and_second (part_fits h (length xs) w) (parts_fit h xss ws) fit)))
 
 -- ---- the rows that the row references refer to
 
@@ -285,23 +270,16 @@ start_is true r w = let none : r * 0 ≡ 0 = omega arith in none
 start_is false r w = refl
 
 part_inside : {A : Type 0} (b : Bool) (r h : ℕ) (xs : List A) (w : ℕ) → (length xs == w) ≡ b → r < h → Parts h (length xs) w → r * (if b then 0 else w) + w ≤ length xs
-part_inside true r h xs w e inside fit =
-    let none : r * 0 ≡ 0 = omega arith in
-    omega (arith, none, eqb-true (length xs) w e)
+part_inside true r h xs w e inside fit = grind (arith, common_steps, eqb-true)
 part_inside false r h xs w e inside fit = row_inside r h (length xs) w inside (many_of h (length xs) w fit.1 e)
 
 picks_all : (P : Option (ℕ × ℕ) → Type 0) (s a n : ℕ) → ((k : ℕ) → k < n → P (Some (s, a + k))) → All P (picks_of s a n)
-picks_all P s a n each k d below =
-    let f : ℕ → Option (ℕ × ℕ) = λ i. Some (s, i) in
-    let small : k < n = let long = length-map-range_with_len f a n in omega (arith, below, long) in
-    subst P (sym (get_or-map-range_with_len f a n k (a + k) d small refl)) (each k small)
+picks_all P s a n each k d below = grind (arith, common_steps, length-map-range_with_len, get_or-map-range_with_len)
 
 module _ {A : Type 0} (d : A) (all : List (List A)) (r h : ℕ) (inside : r < h) where
   room : (s : ℕ) (xs : List A) (xss : List (List A)) (w : ℕ) (ws : List ℕ) → drop s all ≡ xs ∷ xss → parts_fit h (xs ∷ xss) (w ∷ ws) ≡ true →
       r * (if length xs == w then 0 else w) + w ≤ length (get_or all s [])
-  room s xs xss w ws e fit =
-      let fits = part_inside (length xs == w) r h xs w refl inside (part_at h (xs ∷ xss) (w ∷ ws) 0 fit (omega arith)) in
-      omega (arith, fits, ap length (first_dropped all xs xss s [] e))
+  room s xs xss w ws e fit = grind (arith, common_steps, part_inside, inside, part_at, first_dropped)
 
   row_woven : (s : ℕ) (xss : List (List A)) (ws : List ℕ) → drop s all ≡ xss → parts_fit h xss ws ≡ true → pick d all (row_picks r s (lanes_of xss ws)) ≡ flat_row r xss ws
   row_woven s (xs ∷ xss) (w ∷ ws) e fit =
@@ -352,10 +330,7 @@ module _ (arrays : List ArrayRef) (ws : List ℕ) (h len : ℕ) (some : 0 < leng
   paired = sym (length-map arrays (λ (a : ArrayRef). rows a.column)) ∙ widths_long h columns ws fit
 
   pub sizes : (row_width ws ≤ max_rows) × (h ≤ max_rows) × (0 < len)
-  sizes =
-      let wide : 1 * row_width ws ≤ h * row_width ws = mul-le 1 (row_width ws) h (row_width ws) (omega (arith, high)) (omega arith) in
-      let long : h * 1 ≤ h * row_width ws = mul-le h 1 h (row_width ws) (omega arith) (omega (arith, some, paired, width_count h columns ws fit)) in
-      (omega (arith, wide, is, few), omega (arith, long, is, few), omega (arith, long, high, is))
+  sizes = grind (arith, common_steps, mul-le, some, paired, width_count)
 
   few_columns : length columns ≤ max_rows
   few_columns = omega (arith, length-map arrays (λ (a : ArrayRef). rows a.column), paired, width_count h columns ws fit, sizes.0)

@@ -1,5 +1,5 @@
 -- Filtered fixed-size list and struct columns.
-use Rattle.polars_compute.proofs.Common.{◌≡◌, ℕ, zero, suc, ◌+◌, ◌-◌, ◌*◌, ◌≤◌, ◌<◌, Bool, true, false, List, [], ◌∷◌, ◌++◌, length, take, drop, map, get_or}
+use Rattle.polars_compute.proofs.Common.{common_steps, ◌≡◌, ℕ, zero, suc, ◌+◌, ◌-◌, ◌*◌, ◌≤◌, ◌<◌, Bool, true, false, List, [], ◌∷◌, ◌++◌, length, take, drop, map, get_or}
 use Rattle.polars_compute.proofs.Common.{Option, Box, Global, refl, ap, sym, ◌∙◌, subst, arith, length-append, first_chunks, drop-drop, drop-map, ext_get_or}
 use Rattle.polars_compute.proofs.Common.{length-drop, length-map, length-take, map-append, take-map, get_or-map-range_with_len, mul-le, Bits, count_true}
 use Rattle.polars_compute.proofs.Common.{Covers, blocks, block_rows, list_of, rows, row_count, type_of, well_formed, of_fixed_size_list, Value, Column}
@@ -25,17 +25,13 @@ length-chunks w (suc n) xs = ap suc (length-chunks w n (drop w xs))
 
 get_chunk : {A : Type 0} (w n : ℕ) (xs : List A) (k : ℕ) → k < n → get_or (first_chunks w n xs) k [] ≡ take w (drop (k * w) xs)
 get_chunk w zero xs k h = absurd (omega (arith, h))
-get_chunk w (suc n) xs zero h =
-    let none : zero * w ≡ 0 = omega arith in
-    ap (λ p. take w (drop p xs)) (sym none)
+get_chunk w (suc n) xs zero h = grind (arith, common_steps)
 get_chunk w (suc n) xs (suc k) h =
     let place : w + k * w ≡ suc k * w = omega (arith, suc-mul k w) in
     get_chunk w n (drop w xs) k (omega (arith, h)) ∙ ap (take w) (drop-drop (k * w) w xs ∙ ap (λ p. drop p xs) place)
 
 pub at_block : {A : Type 0} (size n : ℕ) (xs : List A) (k : ℕ) (d : List A) → k < n → get_or (blocks size n xs) k d ≡ take size (drop (k * size) xs)
-at_block size n xs k d h =
-    let width : (k * size + size) - k * size ≡ size = omega arith in
-    get_or-map-range_with_len (λ i. slice_range xs (i * size) (i * size + size)) 0 n k k d h (omega arith) ∙ ap (λ m. take m (drop (k * size) xs)) width
+at_block size n xs k d h = grind (arith, common_steps, get_or-map-range_with_len, slice_range)
 
 pub chunks_are : {A : Type 0} (w n : ℕ) (xs : List A) → first_chunks w n xs ≡ blocks w n xs
 chunks_are w n xs =
@@ -59,8 +55,7 @@ AllWide w (xs ∷ xss) = (length xs ≡ w) × AllWide w xss
 
 chunks_wide : {A : Type 0} (w n : ℕ) (xs : List A) → length xs ≡ n * w → AllWide w (first_chunks w n xs)
 chunks_wide w zero xs long = tt
-chunks_wide w (suc n) xs long =
-    (omega (arith, length-take w xs, long, suc-mul n w), chunks_wide w n (drop w xs) (omega (arith, length-drop w xs, long, suc-mul n w)))
+chunks_wide w (suc n) xs long = grind (arith, common_steps, length-take, suc-mul, length-drop, (chunks_wide w n (drop w xs) (omega (arith, length-drop w xs, long, suc-mul n w))))
 
 select_wide : {A : Type 0} (w : ℕ) (xss : List (List A)) (ms : List Bool) → AllWide w xss → AllWide w (select xss ms)
 select_wide w (xs ∷ xss) (true ∷ ms) wide = (wide.0, select_wide w xss ms wide.1)
@@ -95,8 +90,7 @@ module _ {A : Type 0} (f : A → Value) (w n : ℕ) (xs ys : List A) (ms : List 
   length-kept = ap length is ∙ length-joined w chosen wide ∙ ap (λ m. m * w) as_many
 
   pub few_kept_values : length ys ≤ length xs
-  few_kept_values =
-      omega (arith, length-kept, long, mul-le (count_true ms) w n w (omega (arith, sym as_many, few_kept (first_chunks w n xs) ms, length-chunks w n xs)) (omega arith))
+  few_kept_values = grind (arith, common_steps, length-kept, long, mul-le, as_many, few_kept, length-chunks)
 
   pub kept_blocks : blocks w (count_true ms) (map f ys) ≡ select (blocks w n (map f xs)) ms
   kept_blocks =
@@ -111,20 +105,16 @@ module _ {A : Type 0} (f : A → Value) (w n : ℕ) (xs ys : List A) (ms : List 
 
 -- The parts of a well-formed column of fixed-size lists.
 pub list_facts : (c : Column) (size : ℕ) (child : Column) (validity : Option Bits) → IsFixedSizeList c size child validity → well_formed c ≡ true → HasBlocks size (row_count c) child validity
-list_facts (FixedSizeList' width len p values valid) size child validity is formed =
-    let has = has_blocks width len values valid formed in
-    subst (λ n. HasBlocks n len child validity) is.0 (subst (λ v. HasBlocks width len v validity) is.1 (subst (HasBlocks width len values) is.2 has))
+list_facts (FixedSizeList' width len p values valid) size child validity is formed = grind (arith, common_steps, has_blocks, HasBlocks)
 list_facts c size child validity is formed = absurd is
 
 list_rows_are : (c : Column) (size : ℕ) (child : Column) (validity : Option Bits) → IsFixedSizeList c size child validity → rows c ≡ block_rows size (row_count c) (rows child) validity
-list_rows_are (FixedSizeList' width len p values valid) size child validity is =
-    (λ i. block_rows (is.0 i) len (rows (is.1 i)) (is.2 i))
+list_rows_are (FixedSizeList' width len p values valid) size child validity is = grind (arith, common_steps)
 list_rows_are c size child validity is = absurd is
 
 pub list_type : (c : Column) (size count : ℕ) (child : Column) (validity seen : Option Bits) (kept : Box Column Global) → IsFixedSizeList c size child validity → type_of kept.value ≡ type_of child →
     type_of (FixedSizeList size count kept seen) ≡ type_of c
-list_type (FixedSizeList' width len p values valid) size count child validity seen kept is same =
-    (λ i. of_fixed_size_list (same i) size) ∙ (λ i. of_fixed_size_list (type_of (sym is.1 i)) (sym is.0 i))
+list_type (FixedSizeList' width len p values valid) size count child validity seen kept is same = grind (arith, common_steps)
 list_type c size count child validity seen kept is same = absurd is
 
 module _ (c : Column) (size count : ℕ) (child : Column) (validity seen : Option Bits) (kept : Box Column Global) (ms : List Bool) (is : IsFixedSizeList c size child validity) (formed : well_formed c ≡ true)
@@ -142,21 +132,10 @@ module _ (c : Column) (size count : ℕ) (child : Column) (validity seen : Optio
   covers_source = λ v there. has.covered v there ∙ same_count ∙ sym (length-blocks size (length ms) (rows child))
 
   pub list_rows_kept : blocks size (count_true ms) (rows kept.value) ≡ select source ms → rows (FixedSizeList size count kept seen) ≡ select (rows c) ms
-  list_rows_kept made =
-      kept_rows list_of validity seen source (blocks size count (rows kept.value)) ms covers_source valid (ap (λ n. blocks size n (rows kept.value)) counts ∙ made)
-      ∙ ap (λ l. select l ms) (sym (list_rows_are c size child validity is ∙ ap (λ n. block_rows size n (rows child) validity) same_count))
+  list_rows_kept made = grind (arith, common_steps, kept_rows, covers_source, list_rows_are, same_count)
 
   pub list_formed_kept : row_count kept.value ≡ count_true ms * size → well_formed kept.value ≡ true → well_formed (FixedSizeList size count kept seen) ≡ true
-  list_formed_kept fills child_formed =
-      let counted : count ≡ length (select ms ms) = counts ∙ sym (length-select ms ms refl) in
-      blocks_formed size count kept.value seen
-      (record {
-        few = omega (arith, counted, few_kept ms ms, sym same_count, has.few);
-        narrow = has.narrow;
-        fills = fills ∙ ap (λ n. n * size) (sym counts);
-        covered = kept_covers validity seen ms ms count (λ v there. has.covered v there ∙ same_count) valid counted;
-        child = child_formed;
-      })
+  list_formed_kept fills child_formed = grind (arith, common_steps, length-select, few_kept, same_count, has, kept_covers)
 
 -- ---- filtered struct rows, field by field
 
@@ -203,9 +182,7 @@ kept_of ms column = select (rows column) ms
 
 field_lengths : (n : ℕ) (ms : List Bool) (cs : List Column) → n ≡ length ms → All (IsField n) cs → All (λ f. length f ≡ length ms) (map rows cs)
 field_lengths n ms [] long all = All-nil (λ f. length f ≡ length ms)
-field_lengths n ms (c ∷ cs) long all =
-    All-cons (λ f. length f ≡ length ms) (rows c) (map rows cs) (length-rows c ∙ (All-head (IsField n) c cs all).0 ∙ long)
-    (field_lengths n ms cs long (All-tail (IsField n) c cs all))
+field_lengths n ms (c ∷ cs) long all = grind (arith, common_steps, All-cons, length-rows, All-head, All-tail, (field_lengths n ms cs long (All-tail (IsField n) c cs all)))
 
 pub kept_struct_rows : (n count : ℕ) (fields parts : Vec Column Global) (validity seen : Option Bits) (ms : List Bool) → well_formed (Struct n fields validity) ≡ true → n ≡ length ms → count ≡ count_true ms
     → map rows parts.items ≡ map (kept_of ms) fields.items → option_map (λ v. v.bits) seen ≡ option_map (λ v. select v.bits ms) validity → rows (Struct count parts seen) ≡ select (rows (Struct n fields validity)) ms
@@ -218,14 +195,6 @@ kept_struct_rows n count fields parts validity seen ms formed long counts made i
 
 pub kept_struct_formed : (n count : ℕ) (fields parts : Vec Column Global) (validity seen : Option Bits) (ms : List Bool) → well_formed (Struct n fields validity) ≡ true → n ≡ length ms → count ≡ count_true ms
     → All (IsField (count_true ms)) parts.items → option_map (λ v. v.bits) seen ≡ option_map (λ v. select v.bits ms) validity → well_formed (Struct count parts seen) ≡ true
-kept_struct_formed n count fields parts validity seen ms formed long counts all is =
-    let has = has_fields n fields validity formed in
-    let kept_count = length-select ms ms refl in
-    fields_make count parts seen
-    (record {
-      few = omega (arith, counts, kept_count, few_kept ms ms, long, has.few);
-      covered = kept_covers validity seen ms ms count (λ v there. has.covered v there ∙ long) is (counts ∙ sym kept_count);
-      fields = subst (λ k. All (IsField k) parts.items) (sym counts) all;
-    })
+kept_struct_formed n count fields parts validity seen ms formed long counts all is = grind (arith, common_steps, has_fields, length-select, fields_make, few_kept, kept_covers)
 
 pub ruleset row_counts = (few_rows, length-rows)

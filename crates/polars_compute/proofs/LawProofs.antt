@@ -1,5 +1,5 @@
 -- The laws of filters, takes and if-then-else, and of what rows need.
-use Rattle.polars_compute.proofs.Common.{◌≡◌, ℕ, zero, suc, pos, true, false, List, [], ◌∷◌, map, get_or, Option, Some, None, refl, ap, sym, ◌∙◌, arith}
+use Rattle.polars_compute.proofs.Common.{common_steps, ◌≡◌, ℕ, zero, suc, pos, true, false, List, [], ◌∷◌, map, get_or, Option, Some, None, refl, ap, sym, ◌∙◌, arith}
 use Rattle.polars_compute.proofs.Common.{slice_get, option_and_then, length-map, Value, Null, Number, effective_mask, is_true, kept, found, pick, pick_of}
 use Rattle.polars_compute.proofs.Common.{place_pick, inl, inr, ◌+◌, ◌≤◌, ◌<◌, Bool, ◌++◌, length, replicate, subst, ◌<ℤ◌, ints, max_rows, Limit, ByteLimit}
 use Rattle.polars_compute.proofs.Common.{rows, type_of, well_formed, Shape, Shapes, no_shapes, next_shape, of_large_binary, of_large_list, of_fixed_size_list}
@@ -242,9 +242,7 @@ parts_three j xs ys zs = map-append (part_at j) xs (ys ++ zs) ∙ ap (λ l. map 
 -- The needs of the children, which their order does not change.
 swapped_items : (s : Shape) (w : ℕ) (xs ys zs : List Value) → ((us vs ws : List Value) → need s (us ++ (vs ++ ws)) ≡ need s (vs ++ (us ++ ws))) →
     so_many_rows (length (xs ++ (ys ++ zs))) ∷ need s (joined_items w (xs ++ (ys ++ zs))) ≡ so_many_rows (length (ys ++ (xs ++ zs))) ∷ need s (joined_items w (ys ++ (xs ++ zs)))
-swapped_items s w xs ys zs same =
-    let items = same (joined_items w xs) (joined_items w ys) (joined_items w zs) in
-    cc (swapped_lengths xs ys zs, joined_three w xs ys zs, joined_three w ys xs zs, items)
+swapped_items s w xs ys zs same = grind (arith, common_steps, swapped_lengths, joined_three)
 
 mutual
   -- The order of rows does not change what they need.

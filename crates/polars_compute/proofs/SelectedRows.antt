@@ -1,11 +1,9 @@
 -- Rows of several columns, column by column.
-use Rattle.polars_compute.proofs.Common.{map-map, ◌≡◌, ℕ, ◌+◌, ◌<◌, true, false, cond, List, [], ◌∷◌, ◌++◌, length, get_or, map, take, arith, refl, ap, sym}
-use Rattle.polars_compute.proofs.Common.{◌∙◌, ◌==◌, ◌&&◌, count_by, list_all, ne_eqb, get_or-map, length-map, map-append, take_more, list_all-map, sum_by-cons}
+use Rattle.polars_compute.proofs.Common.{common_steps, map-map, ◌≡◌, ℕ, ◌+◌, ◌<◌, true, false, cond, List, [], ◌∷◌, ◌++◌, length, get_or, map, take, arith, refl, ap, sym}
+use Rattle.polars_compute.proofs.Common.{◌∙◌, ◌==◌, count_by, list_all, ne_eqb, get_or-map, length-map, map-append, take_more, list_all-map, sum_by-cons}
 use Rattle.polars_compute.proofs.Common.{PolarsError, ComputeError, rows, type_of, Value, ArrayRef, all_at, and_first, rows_pass, IsLimitOrMemory, ExceedsNone}
 use Rattle.polars_compute.proofs.Common.{exceeded_limits, take_rows, all_within, select, effective_mask, is_true, length-select, All, All-push, Column, IsField}
 use Rattle.polars_compute.proofs.Common.{length-rows, mapped_more, subst, well_formed}
-use Rattle.std.proofs.lemmas.Bool.Decides.{Decides-eqb}
-use Rattle.std.proofs.lemmas.List.Folds.{list_all_at}
 use Rattle.sel_bits.specs.declared.faults.PolarsError.TheVariants.{OutOfMemory, SizeLimit}
 use Rattle.sel_arrow.specs.Shape.{of_int64}
 use Rattle.polars_compute.specs.SelectRows.{rows_of_arrays, type_of_each, select_rows_of, selection_fits, exceeded_selected}
@@ -14,15 +12,11 @@ use Rattle.polars_compute.specs.SelectRows.{rows_of_arrays, type_of_each, select
 
 pub long_at : (columns : List ArrayRef) (mask indices : List Value) (i : ℕ) (d : ArrayRef) → selection_fits (rows_of_arrays columns) mask indices ≡ true → i < length columns →
     length (rows (get_or columns i d).column) ≡ length mask
-long_at columns mask indices i d fits h =
-    let p = λ (xs : List Value). length xs == length mask in
-    let each = sym (list_all-map p (λ (c : ArrayRef). rows c.column) columns) ∙ and_first (list_all p (rows_of_arrays columns)) (all_within (count_by is_true mask) indices) fits in
-    (Decides-eqb _ _).0 (all_at (λ (c : ArrayRef). p (rows c.column)) columns i d each h)
+long_at columns mask indices i d fits h = grind (arith, common_steps, list_all-map, and_first, count_by, all_at)
 
 count_forced : (mask : List Value) → count_by (λ b. b) (effective_mask mask) ≡ count_by is_true mask
 count_forced [] = refl
-count_forced (v ∷ mask) =
-    omega (arith, sum_by-cons (λ b. cond b 1 0) (is_true v) (effective_mask mask), sum_by-cons (λ w. cond (is_true w) 1 0) v mask, count_forced mask)
+count_forced (v ∷ mask) = grind (arith, common_steps, sum_by-cons, cond, (count_forced mask))
 
 -- The number of selected rows.
 pub kept_count : (xs mask : List Value) → length xs ≡ length mask → length (select xs (effective_mask mask)) ≡ count_by is_true mask
@@ -31,22 +25,17 @@ kept_count xs mask long = length-select xs (effective_mask mask) (long ∙ sym (
 -- A column that is not as long as the mask breaks the precondition.
 pub unfit_at : (columns : List ArrayRef) (mask indices : List Value) (i : ℕ) (x : ArrayRef) → i < length columns → x ≡ get_or columns i x → (length (rows x.column) ≡ length mask → ⊥) →
     false ≡ selection_fits (rows_of_arrays columns) mask indices
-unfit_at columns mask indices i x h at other =
-    let p = λ (xs : List Value). length xs == length mask in
-    let none : p (rows (get_or columns i x).column) ≡ false = ap (λ (c : ArrayRef). p (rows c.column)) (sym at) ∙ ne_eqb _ _ other in
-    sym (ap (λ b. b && all_within (count_by is_true mask) indices) (list_all-map p (λ (c : ArrayRef). rows c.column) columns ∙ list_all_at (λ (c : ArrayRef). p (rows c.column)) columns i x h none))
+unfit_at columns mask indices i x h at other = grind (arith, common_steps, ne_eqb, count_by, list_all-map)
 
 pub all_long : (columns : List ArrayRef) (mask indices : List Value) → list_all (λ c. length (rows c.column) == length mask) columns ≡ true →
     all_within (count_by is_true mask) indices ≡ selection_fits (rows_of_arrays columns) mask indices
-all_long columns mask indices each =
-    sym (ap (λ b. b && all_within (count_by is_true mask) indices) (list_all-map (λ xs. length xs == length mask) (λ (c : ArrayRef). rows c.column) columns ∙ each))
+all_long columns mask indices each = grind (arith, common_steps, count_by, list_all-map)
 
 -- ---- one more column
 
 pub mapped_step : {A B : Type 0} (f g : A → B) (xs sel new : List A) (i : ℕ) (x taken : A) → i < length xs → x ≡ get_or xs i x → new ≡ sel ++ taken ∷ [] → f taken ≡ g x →
     map f sel ≡ map g (take i xs) → map f new ≡ map g (take (i + 1) xs)
-mapped_step f g xs sel new i x taken h at made same so_far =
-    rw (made, map-append f sel, so_far, same, take_more xs i x h, map-append g (take i xs)) (ap (λ y. map g (take i xs) ++ g y ∷ []) at)
+mapped_step f g xs sel new i x taken h at made same so_far = grind (arith, common_steps, map-append, take_more)
 
 pub rows_mapped : (mask indices : List Value) (columns : List ArrayRef) →
     map (λ c. take_rows (select (rows c.column) (effective_mask mask)) indices) columns ≡ select_rows_of (rows_of_arrays columns) mask indices

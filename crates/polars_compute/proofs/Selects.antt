@@ -1,5 +1,5 @@
 -- The rows that a mask selects, and their positions.
-use Rattle.polars_compute.proofs.Common.{◌≡◌, ℕ, zero, suc, ◌+◌, ◌≤◌, ◌<◌, ℤ, Bool, true, false, List, [], ◌∷◌, length, map, drop, get_or, replicate, Option}
+use Rattle.polars_compute.proofs.Common.{common_steps, ◌≡◌, ℕ, zero, suc, ◌+◌, ◌≤◌, ◌<◌, ℤ, Bool, true, false, List, [], ◌∷◌, length, map, drop, get_or, replicate, Option}
 use Rattle.polars_compute.proofs.Common.{Some, None, refl, ap, sym, subst, ◌∙◌, ◌++◌, arith, ◌-◌, take, ⊎_elim, add-one, cond, ◌&&◌, if◌then◌else◌, count_by}
 use Rattle.polars_compute.proofs.Common.{reverse, cases_lt, list_all, length-map, length-replicate, append-nil, get_or_past, length-drop, length-take, take_all}
 use Rattle.polars_compute.proofs.Common.{take-append-drop, sum_by-cons, max_rows, Bits, zip_with, leading_zeros, Value, Null, Truth, Number, hidden, masked}
@@ -37,9 +37,7 @@ select-hidden bs vs ms h = absurd (omega (arith, h))
 pub select-masked : (validity kept : Option Bits) (vs : List Value) (ms : List Bool) → Covers validity (length vs)
     → option_map (λ v. v.bits) kept ≡ option_map (λ v. select v.bits ms) validity → masked kept (select vs ms) ≡ select (masked validity vs) ms
 select-masked None None vs ms covers is = refl
-select-masked (Some validity) (Some kept) vs ms covers is =
-    let same : kept.bits ≡ select validity.bits ms = cc in
-    ap (λ bs. hidden bs (select vs ms)) same ∙ sym (select-hidden validity.bits vs ms (covers validity refl))
+select-masked (Some validity) (Some kept) vs ms covers is = grind (arith, common_steps, select-hidden)
 select-masked validity kept vs ms covers is = cc
 
 -- A filtered validity is as long as the filtered rows.
@@ -131,8 +129,7 @@ pub trimmed_within : (ms : List Bool) → leading_zeros ms + length (trim ms) �
 trimmed_within ms = omega (arith, leading_le ms, length-drop (leading_zeros ms) ms, length-trim ms)
 
 pub trimmed_kept : {A : Type 0} → (xs : List A) (ms : List Bool) → length xs ≡ length ms → select (take (length (trim ms)) (drop (leading_zeros ms) xs)) (trim ms) ≡ select xs ms
-trimmed_kept xs ms long =
-    ap (λ n. select (take n (drop (leading_zeros ms) xs)) (trim ms)) (length-trim ms) ∙ end_dropped (drop (leading_zeros ms) xs) (drop (leading_zeros ms) ms) ∙ front_dropped xs ms long
+trimmed_kept xs ms long = grind (arith, common_steps, length-trim, end_dropped, front_dropped)
 
 -- A trimmed mask is a part of the mask.
 pub trimmed_part : (ms : List Bool) → trim ms ≡ take (length (trim ms)) (drop (leading_zeros ms) ms)
@@ -204,8 +201,7 @@ pub run_of_none : (mask : List Bool) (count : ℕ) → count ≡ 0 → IsRun mas
 run_of_none mask count none = subst (IsRun mask 0) (sym none) (omega arith, refl)
 
 pub run_of_all : (mask : List Bool) (count : ℕ) → count ≡ length mask → count ≡ count_by (λ b. b) mask → IsRun mask 0 count
-run_of_all mask count all counted =
-    subst (IsRun mask 0) (sym all) (omega arith, take_all (length mask) mask (omega arith) ∙ all_true mask (sym counted ∙ all))
+run_of_all mask count all counted = grind (arith, common_steps, take_all, all_true)
 
 -- The rows that a mask of consecutive true entries selects.
 pub run_selected : {A : Type 0} (xs : List A) (mask : List Bool) (first : ℕ) → length xs ≡ length mask → IsRun mask first (count_by (λ b. b) mask)
@@ -233,16 +229,12 @@ pub ruleset effective_masks = (in_force-all, effective_mask-bools, length-in_for
 zeros_step : (l : List Bool) (at : ℕ) → kept_from at l ≡ kept_from (at + leading_zeros l) (drop (leading_zeros l) l)
 zeros_step [] at = refl
 zeros_step (true ∷ l) at = let none : at + 0 ≡ at = omega arith in rw none refl
-zeros_step (false ∷ l) at =
-    let next : at + (leading_zeros l + 1) ≡ at + 1 + leading_zeros l = omega arith in
-    rw (next, add-one (leading_zeros l)) (zeros_step l (at + 1))
+zeros_step (false ∷ l) at = grind (arith, common_steps, add-one, (zeros_step l (at + 1)))
 
 ones_step : (l : List Bool) (at : ℕ) → kept_from at l ≡ range_with_len at (leading_ones l) ++ kept_from (at + leading_ones l) (drop (leading_ones l) l)
 ones_step [] at = refl
 ones_step (false ∷ l) at = let none : at + 0 ≡ at = omega arith in rw none refl
-ones_step (true ∷ l) at =
-    let next : at + (leading_ones l + 1) ≡ at + 1 + leading_ones l = omega arith in
-    rw (next, add-one (leading_ones l)) (ap (λ k. at ∷ k) (ones_step l (at + 1)))
+ones_step (true ∷ l) at = grind (arith, common_steps, add-one, (ones_step l (at + 1)))
 
 some_ones : (l : List Bool) (at : ℕ) → 0 < length (kept_from at l) → 0 < leading_ones (drop (leading_zeros l) l)
 some_ones [] at h = absurd (omega (arith, h))
@@ -259,9 +251,7 @@ module _ (bits : List Bool) (at z n : ℕ) (zeros : z ≡ leading_zeros (drop at
       ∙ map-append place_pick (range_with_len (at + z) n) (kept_from (at + z + n) (drop (at + z + n) bits))
 
   pub run_some : 0 < length (map place_pick (kept_from at (drop at bits))) → 0 < n
-  run_some left =
-      let ones_left = ap leading_ones (sym (drop-drop z at bits) ∙ ap (λ k. drop k (drop at bits)) zeros) in
-      omega (arith, ones, ones_left, some_ones (drop at bits) at (omega (arith, left, length-map (kept_from at (drop at bits)) place_pick)))
+  run_some left = grind (arith, common_steps, drop-drop, at, bits, some_ones, length-map)
 
 -- ---- each position is in bounds
 
@@ -277,18 +267,14 @@ kept_below ms k h = omega (arith, kept_from_below 0 ms k h)
 -- ---- the filtered rows are those at the positions
 
 pub first_dropped : {A : Type 0} → (all : List A) (x : A) (xs : List A) (n : ℕ) (d : A) → drop n all ≡ x ∷ xs → get_or all n d ≡ x
-first_dropped all x xs n d is =
-    let there : n ≡ n + 0 = omega arith in
-    ap (λ k. get_or all k d) there ∙ sym (get_or-drop n all 0 d) ∙ ap (λ l. get_or l 0 d) is
+first_dropped all x xs n d is = grind (arith, common_steps, get_or-drop)
 
 pub rest_dropped : {A : Type 0} → (all : List A) (x : A) (xs : List A) (n : ℕ) → drop n all ≡ x ∷ xs → drop (n + 1) all ≡ xs
 rest_dropped all x xs n is = sym (drop-drop 1 n all) ∙ ap (drop 1) is
 
 selected_from : {A : Type 0} → (all xs : List A) (ms : List Bool) (n : ℕ) (d : A) → drop n all ≡ xs → length xs ≡ length ms → select xs ms ≡ map (λ i. get_or all i d) (kept_from n ms)
 selected_from all [] [] n d is h = refl
-selected_from all (x ∷ xs) (true ∷ ms) n d is h =
-    let first : get_or all n d ≡ x = first_dropped all x xs n d is in
-    cc (first, selected_from all xs ms (n + 1) d (rest_dropped all x xs n is) (omega arith))
+selected_from all (x ∷ xs) (true ∷ ms) n d is h = grind (arith, common_steps, first_dropped, rest_dropped, (selected_from all xs ms (n + 1) d (rest_dropped all x xs n is) (omega arith)))
 selected_from all (x ∷ xs) (false ∷ ms) n d is h = selected_from all xs ms (n + 1) d (rest_dropped all x xs n is) (omega arith)
 selected_from all xs ms n d is h = absurd (omega (arith, h))
 

@@ -1,5 +1,5 @@
 -- Binary rows at indices: where they begin in the bytes of their source, and where they end in the result.
-use Rattle.polars_compute.proofs.Common.{◌≡◌, ℕ, zero, suc, ◌+◌, ◌-◌, ◌≤◌, ◌<◌, ℤ, pos, Bool, true, false, List, [], ◌∷◌, ◌++◌, length, map, take, drop, get_or}
+use Rattle.polars_compute.proofs.Common.{common_steps, ◌≡◌, ℕ, zero, suc, ◌+◌, ◌-◌, ◌≤◌, ◌<◌, ℤ, pos, Bool, true, false, List, [], ◌∷◌, ◌++◌, length, map, take, drop, get_or}
 use Rattle.polars_compute.proofs.Common.{negsuc, ◌≤ℤ◌, Option, Some, None, refl, ap, sym, ◌∙◌, subst, arith, if◌then◌else◌, length-map, length-replicate}
 use Rattle.polars_compute.proofs.Common.{get_or-map, take_more, ltb-true, map-append, append-nil, zero-add, flat_map-append, option_map, ints, Bits, hidden}
 use Rattle.polars_compute.proofs.Common.{masked, number_rows, Covers, valid_at, length-number_rows, length-part, IsRising, last_offset, pieces, rows_between}
@@ -54,9 +54,7 @@ module _ (places : List ℕ) (validity : Option Bits) (k : ℕ) (inside : k < le
 
   -- A valid index refers to a row.
   pub place_within : (n : ℕ) (valid : Bool) → all_within n indices ≡ true → valid ≡ valid_at validity k → valid ≡ true → get_or places k 0 < n
-  place_within n valid within is set =
-      let here : is_within n (if valid then Number (pos (get_or places k 0)) else Null) ≡ true = ap (λ b. is_within n (if b then Number (pos (get_or places k 0)) else Null)) is ∙ sym (ap (is_within n) index_at) ∙ all_at (is_within n) indices k Null within below in
-      ltb-true (get_or places k 0) n (sym (ap (λ b. is_within n (if b then Number (pos (get_or places k 0)) else Null)) set) ∙ here)
+  place_within n valid within is set = grind (arith, common_steps, index_at, all_at, ltb-true)
 
   pub row_at : (rows : List Value) (valid : Bool) → valid ≡ valid_at validity k → get_or (take_rows rows indices) k Null ≡ found Null (rows ∷ []) (pick_of (if valid then Number (pos (get_or places k 0)) else Null))
   row_at rows valid is =
@@ -129,9 +127,7 @@ pub record IsSpan (bytes : List ℕ) (row : Value) (start len : ℕ) : Type 0 wh
   pub count : byte_count row ≡ len
 
 part_span : (bytes : List ℕ) (start len : ℕ) → start + len ≤ length bytes → IsSpan bytes (Bytes (take len (drop start bytes))) start len
-part_span bytes start len fits =
-    let long = length-part bytes start len fits in
-    record { begins = (omega (arith, long, fits), ap (λ n. take n (drop start bytes)) (sym long)); count = long }
+part_span bytes start len fits = grind (arith, common_steps, length-part)
 
 module _ (offsets bytes : List ℕ) (rises : IsRising offsets) (room : last_offset offsets ≤ length bytes) where
   pub span_of : (valid : Bool) (place start len : ℕ) → (valid ≡ true → place < rows_between offsets) → start ≡ get_or offsets (if valid then place else 0) 0 →
@@ -203,8 +199,7 @@ module _ (rows : List Value) (k : ℕ) (inside : k < length rows) where
 
   pub ended_more : {T : Type 0} (number : T → ℤ) → (old new : List T) (last : T) (end : ℕ) → map number old ≡ map pos (0 ∷ ends_from 0 (take k rows)) → new ≡ old ++ last ∷ [] → number last ≡ pos end →
       end ≡ bytes_needed (take k rows) + byte_count (get_or rows k Null) → map number new ≡ map pos (0 ∷ ends_from 0 (take (k + 1) rows))
-  ended_more number old new last end so_far pushed is end_is =
-      rw (pushed, map-append number old, so_far, is, end_is, ends_more, map-append pos (ends_from 0 (take k rows)))
+  ended_more number old new last end so_far pushed is end_is = grind (arith, common_steps, map-append, ends_more)
 
   pub started_more : {T : Type 0} (number : T → ℤ) → (bytes : List ℕ) (old new : List T) (x : T) (start : ℕ) → AreStarts number bytes (take k rows) old → new ≡ old ++ x ∷ [] → number x ≡ pos start →
       BeginsAt bytes (get_or rows k Null) (pos start) → AreStarts number bytes (take (k + 1) rows) new

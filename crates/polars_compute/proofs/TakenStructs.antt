@@ -1,5 +1,5 @@
 -- Struct rows at indices, field by field.
-use Rattle.polars_compute.proofs.Common.{◌≡◌, All, ℕ, zero, suc, ◌+◌, ◌≤◌, ◌<◌, pos, Bool, true, false, List, [], ◌∷◌, length, map, get_or, Option, Some, None}
+use Rattle.polars_compute.proofs.Common.{common_steps, ◌≡◌, All, ℕ, zero, suc, ◌+◌, ◌≤◌, ◌<◌, pos, Bool, true, false, List, [], ◌∷◌, length, map, get_or, Option, Some, None}
 use Rattle.polars_compute.proofs.Common.{Vec, Global, inl, inr, refl, ap, sym, ◌∙◌, subst, arith, if◌then◌else◌, range_with_len, ltb-true, length-map}
 use Rattle.polars_compute.proofs.Common.{get_or-map, max_rows, Bits, Limit, hidden, number_rows, valid_at, struct_at, rows, type_of, well_formed, IsField}
 use Rattle.polars_compute.proofs.Common.{Shapes, of_struct, shapes_of, Value, Null, Number, is_valid, validities, Column, Struct, and_first, and_second}
@@ -133,13 +133,7 @@ module _ (n : ℕ) (fields : Vec Column Global) (validity : Option Bits) (formed
 
   pub struct_fits : (count : ℕ) (parts : Vec Column Global) (seen : Option Bits) (indices : List Value) → count ≤ max_rows → count ≡ length indices →
       All (IsField (length indices)) parts.items → bits_for (length indices) seen ≡ map (valid_pick validity) (map pick_of indices) → well_formed (Struct count parts seen) ≡ true
-  struct_fits count parts seen indices few long all valid =
-      fields_make count parts seen
-      (record {
-        few = few;
-        covered = λ v there. covers_for seen indices indices validity valid refl v there ∙ sym long;
-        fields = subst (λ k. All (IsField k) parts.items) (sym long) all;
-      })
+  struct_fits count parts seen indices few long all valid = grind (arith, common_steps, fields_make, covers_for)
 
   -- A limit that a field exceeds is exceeded by the struct rows.
   pub struct_exceeded : (indices : List Value) (limit : Limit) → all_within n indices ≡ true → exceeded_in_taken fields.items (map (live_index validity) indices) limit →

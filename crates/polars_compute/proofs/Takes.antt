@@ -1,5 +1,5 @@
 -- Values, bits and rows at indices, and checks of indices.
-use Rattle.polars_compute.proofs.Common.{◌≡◌, All, ℕ, zero, suc, ◌<◌, pos, Bool, true, false, List, [], ◌∷◌, length, map, get_or, replicate, Option, Some, None}
+use Rattle.polars_compute.proofs.Common.{common_steps, ◌≡◌, All, ℕ, zero, suc, ◌<◌, pos, Bool, true, false, List, [], ◌∷◌, length, map, get_or, replicate, Option, Some, None}
 use Rattle.polars_compute.proofs.Common.{refl, ap, sym, ◌∙◌, subst, arith, if◌then◌else◌, list_all, ForSome, length-map, get_or-map, ltb-true, Bits, Value}
 use Rattle.polars_compute.proofs.Common.{Null, Number, hidden, masked, Covers, valid_at, all_at, and_first, and_second, bits_for, found, pick, pick_of}
 use Rattle.polars_compute.proofs.Common.{take_rows, is_within, all_within, valid_pick, ◌≤◌, ◌+◌, ◌*◌, ◌%◌, ◌^◌, ◌++◌, take, drop, append-nil, ◌==◌, from_bool}
@@ -12,8 +12,6 @@ use Rattle.sel_bits.specs.Words.{bits}
 use Rattle.sel_bits.proofs.Packed.{bits_word_of, block_packed}
 use Rattle.sel_bits.proofs.Padded.{word_of_lt}
 use Rattle.std.proofs.Math.Bool.{and-true, and-false, or-false, or-true}
-use Rattle.std.proofs.lemmas.Bool.Decides.{nat_tests}
-use Rattle.std.proofs.Math.Nat.{le-div_iff_mul-le}
 
 -- ---- the row at one index
 
@@ -93,8 +91,7 @@ validity_within validity n indices covers within = λ v there. within_as n (leng
 
 -- The validity of the rows that are taken has their length.
 pub covers_for : {A : Type 0} → (taken : Option Bits) (xs : List A) (indices : List Value) (validity : Option Bits) → bits_for (length indices) taken ≡ map (valid_pick validity) (map pick_of indices) → length xs ≡ length indices → Covers taken (length xs)
-covers_for taken xs indices validity valid count =
-    λ v there. sym (ap (λ o. length (bits_for (length indices) o)) there) ∙ ap (λ (l : List Bool). length l) valid ∙ length-valid validity indices ∙ sym count
+covers_for taken xs indices validity valid count = grind (arith, common_steps, length-valid)
 
 -- ---- nulls
 
@@ -153,9 +150,7 @@ word_at_next bs places k word bit inside short is bit-is =
     word_of-next (bits_at bs places) k word bit (omega (arith, long, inside)) (omega (arith, long, short)) is (bit-is ∙ ap from_bool (sym (at_place bs places k inside)))
 
 pub word_at_few : (bs : List Bool) (places : List ℕ) (k : ℕ) → k ≤ length places → length places ≤ 64 → word_of (take k (bits_at bs places)) < 2 ^ 64
-word_at_few bs places k inside short =
-    let long = length-bits_at bs places in
-    word_of-few (bits_at bs places) k (omega (arith, long, inside)) (omega (arith, long, short))
+word_at_few bs places k inside short = grind (arith, common_steps, length-bits_at, word_of-few)
 
 pub word_at_lt : (bs : List Bool) (places : List ℕ) (word : ℕ) → word ≡ word_of (bits_at bs places) → word < 2 ^ length places
 word_at_lt bs places word is = rw (is, sym (length-bits_at bs places)) (word_of_lt (bits_at bs places))
@@ -301,9 +296,7 @@ below_rows n places = sym (list_all-map (is_within n) (λ x. Number (pos x)) pla
 
 -- An index of one of at most 2^32 - 1 rows.
 one_narrow : (n : ℕ) (z : ℤ) → n ≤ max_rows → is_within n (Number z) ≡ true → pos (narrowed z) ≡ z
-one_narrow n (pos i) few within =
-    let below : i < n = grind (arith, nat_tests) in
-    ap (λ b. pos (if b then i else 0)) (le-leb i max_rows (omega (arith, below, few)))
+one_narrow n (pos i) few within = grind (arith, common_steps, le-leb)
 one_narrow n (negsuc i) few within = cc
 
 listed_hidden : {T : Type 0} (number : T → ℤ) → (n : ℕ) (bits : List Bool) (xs : List T) → n ≤ max_rows → all_within n (hidden bits (map (λ x. Number (number x)) xs)) ≡ true
@@ -343,11 +336,7 @@ same_test false true there back = back refl
 same_test false false there back = refl
 
 block_test : (size n i : ℕ) → 0 < size → nat_lt i (n / size) ≡ nat_le ((i + 1) * size) n
-block_test size n i some =
-    let both = le-div_iff_mul-le {k = size} {x = i + 1} {y = n} some in
-    same_test (nat_lt i (n / size)) (nat_le ((i + 1) * size) n)
-    (λ h. le-leb ((i + 1) * size) n (both.0 (omega (arith, ltb-true i (n / size) h))))
-    (λ h. lt-ltb i (n / size) (omega (arith, both.1 (leb-true ((i + 1) * size) n h))))
+block_test size n i some = grind (arith, common_steps, same_test, nat_lt, nat_le, le-leb, ltb-true, lt-ltb, leb-true)
 
 value_test : (size n : ℕ) (v : Value) → 0 < size → is_within (n / size) v ≡ is_block_within size n v
 value_test size n (Number (pos i)) some = block_test size n i some

@@ -1,4 +1,4 @@
-use Rattle.polars_compute.proofs.Common.{◌≡◌, ◌∙◌, length, map, take, drop, take-map, drop-map, length-map, ap, sym, true, ◌==◌, all_below, IfOk-weaker, Bits, bits_from, word_of}
+use Rattle.polars_compute.proofs.Common.{◌∙◌, length, map, take, take-map, drop-map, length-map, ap, sym, ◌==◌, IfOk-weaker, Bits, bits_from, word_of}
 use Rattle.polars_compute.proofs.Takes.{all_packed, below_parts, bits_at, length-bits_at, word_at_lt, word_packed}
 use Rattle.polars_compute.proofs.gather.bitmap.take_bits_at.Goals as goal
 
