@@ -4,8 +4,10 @@ from __future__ import annotations
 
 import ctypes
 from ctypes import byref, c_int64, c_size_t, c_void_p
+from typing import Any, Callable, Iterator, List, Tuple, Union
 
 import numpy as np
+import numpy.typing as npt
 
 import sel
 from sel._column import _NOTHING, Column
@@ -15,7 +17,15 @@ from sel._owner import Owner
 RNG = np.random.default_rng(7)
 DENSITIES = (.001, .01, .1, .5, .9, .99, .999)
 FEW = (.01, .5, .99)
-NUMBERS = {1: np.uint8, 2: np.uint16, 4: np.uint32, 8: np.uint64}
+NUMBERS: dict[int, Any] = {1: np.uint8, 2: np.uint16, 4: np.uint32, 8: np.uint64}
+
+Array = npt.NDArray[Any]
+# what a job points to, or one of its numbers
+Part = Union[Array, Column, "ctypes.Array[Handle]", int]
+
+# the values of an array with nulls, and where they are null
+data_of: Callable[[Array], Array] = np.ma.getdata
+nulls_of: Callable[[Array], Array] = np.ma.getmaskarray
 
 
 class Job(ctypes.Structure):
@@ -29,18 +39,20 @@ class Job(ctypes.Structure):
 class Case:
     """One row of the table."""
 
-    def __init__(self, kernel, rows, varied, calls, check, numpy=None, keep=(), read=0, written=0, **parts):
+    def __init__(self, kernel: str, rows: int, varied: str, calls: Tuple[str, str], check: Callable[[], None], numpy: Callable[[], object] | None = None,
+                 keep: object = (), read: int = 0, written: int = 0, **parts: Part) -> None:
         """`read` and `written` are the bytes that any implementation must read and write; the copy moves as many in total."""
         self.kernel, self.rows, self.varied, self.calls, self.check, self.numpy = kernel, rows, varied, calls, check, numpy
         copied = (read + written + 1) // 2
-        self.job, self.keep = Job(rows=rows, copied=copied), [keep]
+        self.job = Job(rows=rows, copied=copied)
+        self.keep: List[object] = [keep]
         parts["source"] = np.ones(copied + 1, dtype=np.uint8)
         for name, part in parts.items():
             self.keep.append(part)
             setattr(self.job, name, place_of(part))
 
 
-def place_of(part):
+def place_of(part: Part) -> int:
     """Returns the address of an array or of a column's handle. Returns a number unchanged."""
     if isinstance(part, np.ndarray):
         return part.ctypes.data
@@ -51,7 +63,7 @@ def place_of(part):
     return part
 
 
-def equal(found, wanted, what):
+def equal(found: npt.ArrayLike, wanted: npt.ArrayLike, what: str) -> None:
     if not np.array_equal(np.asarray(found), np.asarray(wanted)):
         raise SystemExit(f"wrong result: {what}")
 
@@ -59,22 +71,22 @@ def equal(found, wanted, what):
 # ---- data
 
 
-def padded(values):
+def padded(values: Array) -> Array:
     """Returns the same values with spare memory after them, so that whole blocks of 64 can be read."""
     room = np.zeros(len(values) + 64, dtype=values.dtype)
     room[:len(values)] = values
     return room[:len(values)]
 
 
-def packed(flags):
+def packed(flags: Array) -> Array:
     return np.concatenate([np.packbits(flags, bitorder="little"), np.zeros(16, dtype=np.uint8)])
 
 
-def random_mask(rows, density):
+def random_mask(rows: int, density: float) -> Array:
     return RNG.random(rows) < density
 
 
-def long_runs(rows, density):
+def long_runs(rows: int, density: float) -> Array:
     """Returns a mask of runs of some hundred rows."""
     mask, at, keep = np.zeros(rows, dtype=bool), 0, False
     while at < rows:
@@ -84,29 +96,29 @@ def long_runs(rows, density):
     return mask
 
 
-def mask_column(mask, offset=0):
+def mask_column(mask: Array, offset: int = 0) -> Column:
     return Column.from_numpy(np.concatenate([np.zeros(offset, dtype=bool), mask])).sliced(offset, len(mask))
 
 
-def made_by(name, *arguments):
+def made_by(name: str, *arguments: object) -> Column:
     """Returns the column that a call makes."""
     made = Owner()
     call(name, *arguments, byref(made._handle))
     return Column._owning(made)
 
 
-def wides(values):
+def wides(values: Array) -> Column:
     """Returns the UInt128 column of pairs of words."""
     return made_by("sel_uint128_new", values.ctypes.data, len(values), _NOTHING, 0, False)
 
 
-def read_wides(column):
+def read_wides(column: Column) -> Array:
     values = np.zeros((len(column), 2), dtype=np.uint64)
     call("sel_uint128_values", column, values.ctypes.data, len(column))
     return values
 
 
-def views_of(rows):
+def views_of(rows: int) -> Array:
     """Returns the views of strings of eight letters, stored inline."""
     views = np.zeros((rows + 64, 4), dtype=np.uint32)
     views[:rows, 0] = 8
@@ -114,37 +126,37 @@ def views_of(rows):
     return views[:rows]
 
 
-def texts(views, valid=None):
+def texts(views: Array, valid: Array | None = None) -> Column:
     bits = packed(valid) if valid is not None else None
     given = (_NOTHING, 0, False) if bits is None else (bits.ctypes.data, len(bits), True)
     return made_by("sel_string_view_new", views.ctypes.data, len(views), (Slice * 1)(), 0, *given)
 
 
-def read_views(column):
+def read_views(column: Column) -> Array:
     views = np.zeros((len(column), 4), dtype=np.uint32)
     call("sel_views", column, views.ctypes.data, len(column))
     return views
 
 
-def lists(offsets, values):
+def lists(offsets: Array, values: Array) -> Column:
     return made_by("sel_list_new", offsets.ctypes.data, len(offsets), _NOTHING, 0, False, Column.from_numpy(values))
 
 
-def read_lists(column):
+def read_lists(column: Column) -> Tuple[Array, Array]:
     offsets = np.zeros(len(column) + 1, dtype=np.int64)
     call("sel_offsets", column, offsets.ctypes.data, len(offsets))
     return np.diff(offsets), column.child().to_numpy()[offsets[0]:offsets[-1]]
 
 
-def blocks(width, values):
+def blocks(width: int, values: Array) -> Column:
     return made_by("sel_fixed_size_list_new", width, len(values) // width, _NOTHING, 0, False, Column.from_numpy(values))
 
 
-def binaries(offsets, values):
+def binaries(offsets: Array, values: Array) -> Column:
     return made_by("sel_binary_new", offsets.ctypes.data, len(offsets), values.ctypes.data, len(values), _NOTHING, 0, False)
 
 
-def several(columns):
+def several(columns: List[Column]) -> Tuple[ctypes.Array[Handle], List[Column]]:
     """Returns an array of handles that share the columns, and the columns that own the handles."""
     shares = [column.share() for column in columns]
     handles = (Handle * len(shares))(*[share._handle for share in shares])
@@ -154,7 +166,7 @@ def several(columns):
 # ---- filters
 
 
-def filter_of_numbers(rows, size, density, runs=False, offset=0, nulls=False):
+def filter_of_numbers(rows: int, size: int, density: float, runs: bool = False, offset: int = 0, nulls: bool = False) -> Case:
     mask = (long_runs if runs else random_mask)(rows, density)
     values = padded(RNG.integers(0, 2 ** (8 * size) - 1, rows, dtype=NUMBERS[size], endpoint=True))
     valid = random_mask(rows, .9) if nulls else None
@@ -162,19 +174,21 @@ def filter_of_numbers(rows, size, density, runs=False, offset=0, nulls=False):
     kept = int(mask.sum())
     varied = f"{density:g} {'runs' if runs else 'random'}" + (f", at bit {offset}" if offset else "") + (", nulls" if nulls else "")
 
-    def check():
+    def check() -> None:
         answer = column.filter(flags).to_numpy()
-        equal(np.ma.getdata(answer)[~np.ma.getmaskarray(answer)], values[mask] if valid is None else values[mask & valid], varied)
+        equal(data_of(answer)[~nulls_of(answer)], values[mask] if valid is None else values[mask & valid], varied)
         if valid is not None:
-            equal(~np.ma.getmaskarray(answer), valid[mask], varied)
+            equal(~nulls_of(answer), valid[mask], varied)
 
-    by_numpy = (lambda: values[mask]) if valid is None else (lambda: (values[mask], valid[mask]))
-    parts = {} if valid is None else {"valid": packed(valid)}
+    def by_numpy() -> object:
+        return values[mask] if valid is None else (values[mask], valid[mask])
+
+    parts: dict[str, Part] = {} if valid is None else {"valid": packed(valid)}
     return Case(f"filter, {size} byte{'s' if size > 1 else ''}", rows, varied, ("filter", "loop_filter"), check, by_numpy, made=kept, size=size,
                 read=rows // 8 + kept * size + (rows // 8 if nulls else 0), written=kept * size + (kept // 8 if nulls else 0), mask=bits, values=values, first=column, second=flags, **parts)
 
 
-def filter_of_wides(rows, density):
+def filter_of_wides(rows: int, density: float) -> Case:
     mask = random_mask(rows, density)
     values = np.zeros((rows + 64, 2), dtype=np.uint64)[:rows]
     values[:] = RNG.integers(0, 2 ** 63, (rows, 2), dtype=np.uint64)
@@ -183,31 +197,31 @@ def filter_of_wides(rows, density):
                 lambda: pairs[mask], made=int(mask.sum()), size=16, read=rows // 8 + int(mask.sum()) * 16, written=int(mask.sum()) * 16, mask=packed(mask), values=values, first=column, second=flags)
 
 
-def filter_of_bits(rows, density):
+def filter_of_bits(rows: int, density: float) -> Case:
     mask, flags = random_mask(rows, density), random_mask(rows, .5)
     column, by, kept = Column.from_numpy(flags), mask_column(mask), int(mask.sum())
     return Case("filter, bits", rows, f"{density:g} random", ("filter", "loop_filter_bits"), lambda: equal(column.filter(by).to_numpy(), flags[mask], "bits"),
                 lambda: flags[mask], made=kept, read=rows // 4, written=kept // 8, mask=packed(mask), values=packed(flags), first=column, second=by)
 
 
-def filter_of_views(rows, density):
+def filter_of_views(rows: int, density: float) -> Case:
     mask, views = random_mask(rows, density), views_of(rows)
     column, flags, kept = texts(views), mask_column(mask), int(mask.sum())
     return Case("filter, views", rows, f"{density:g} random", ("filter", "loop_filter"), lambda: equal(read_views(column.filter(flags)), views[mask], "views"),
                 made=kept, size=16, read=rows // 8 + kept * 16, written=kept * 16, mask=packed(mask), values=views, first=column, second=flags)
 
 
-def list_data(rows):
+def list_data(rows: int) -> Tuple[Array, Array, Array]:
     lengths = RNG.integers(0, 7, rows)
     offsets = np.concatenate([[0], np.cumsum(lengths)]).astype(np.int64)
     return lengths, offsets, RNG.integers(0, 2 ** 62, int(offsets[-1]), dtype=np.int64)
 
 
-def filter_of_lists(rows, density):
+def filter_of_lists(rows: int, density: float) -> Case:
     mask, (lengths, offsets, values) = random_mask(rows, density), list_data(rows)
     column, flags, kept = lists(offsets, values), mask_column(mask), int(mask.sum())
 
-    def check():
+    def check() -> None:
         found, items = read_lists(column.filter(flags))
         equal(found, lengths[mask], "list lengths")
         equal(items, values[np.repeat(mask, lengths)], "list items")
@@ -216,7 +230,7 @@ def filter_of_lists(rows, density):
                 mask=packed(mask), values=values, offsets=offsets, first=column, second=flags)
 
 
-def filter_of_blocks(rows, density):
+def filter_of_blocks(rows: int, density: float) -> Case:
     mask, values = random_mask(rows, density), RNG.integers(0, 2 ** 62, rows * 4, dtype=np.int64)
     column, flags, kept, square = blocks(4, values), mask_column(mask), int(mask.sum()), values.reshape(-1, 4)
     return Case("filter, lists of four", rows, f"{density:g} random", ("filter", "loop_filter_blocks"),
@@ -224,7 +238,7 @@ def filter_of_blocks(rows, density):
                 made=kept, width=4, read=rows // 8 + kept * 32, written=kept * 32, mask=packed(mask), values=values, first=column, second=flags)
 
 
-def filter_of_structs(rows, density):
+def filter_of_structs(rows: int, density: float) -> Case:
     mask, first, second = random_mask(rows, density), padded(RNG.integers(0, 2 ** 62, rows)), padded(RNG.integers(0, 2 ** 62, rows))
     handles, shares = several([Column.from_numpy(first), Column.from_numpy(second)])
     column = made_by("sel_struct_new", rows, _NOTHING, 0, False, handles, 2)
@@ -232,7 +246,7 @@ def filter_of_structs(rows, density):
         share._handle = Handle()
     flags, kept = mask_column(mask), int(mask.sum())
 
-    def check():
+    def check() -> None:
         answer = column.filter(flags)
         equal(answer.field(0).to_numpy(), first[mask], "the first field")
         equal(answer.field(1).to_numpy(), second[mask], "the second field")
@@ -244,7 +258,7 @@ def filter_of_structs(rows, density):
 # ---- takes
 
 
-def take_of_numbers(rows, size, order, nulls=False):
+def take_of_numbers(rows: int, size: int, order: str, nulls: bool = False) -> Case:
     places = RNG.integers(0, rows, rows, dtype=np.uint32)
     if order == "sorted":
         places.sort()
@@ -252,19 +266,21 @@ def take_of_numbers(rows, size, order, nulls=False):
     valid = random_mask(rows, .9) if nulls else None
     column, indices = Column.from_numpy(values, valid), Column.from_numpy(places)
 
-    def check():
+    def check() -> None:
         answer = column.take(indices).to_numpy()
         there = np.ones(rows, dtype=bool) if valid is None else valid[places]
-        equal(~np.ma.getmaskarray(answer), there, "nulls of a take")
-        equal(np.ma.getdata(answer)[there], values[places][there], "values of a take")
+        equal(~nulls_of(answer), there, "nulls of a take")
+        equal(data_of(answer)[there], values[places][there], "values of a take")
 
-    by_numpy = (lambda: np.take(values, places)) if valid is None else (lambda: (np.take(values, places), np.take(valid, places)))
-    parts = {} if valid is None else {"valid": packed(valid)}
+    def by_numpy() -> object:
+        return np.take(values, places) if valid is None else (np.take(values, places), np.take(valid, places))
+
+    parts: dict[str, Part] = {} if valid is None else {"valid": packed(valid)}
     return Case(f"take, {size} byte{'s' if size > 1 else ''}", rows, order + (", nulls" if nulls else ""), ("take", "loop_take"), check, by_numpy,
                 made=rows, size=size, read=rows * (4 + size), written=rows * size, values=values, indices=places, first=column, second=indices, **parts)
 
 
-def take_of_others(rows):
+def take_of_others(rows: int) -> Iterator[Case]:
     places = RNG.integers(0, rows, rows, dtype=np.uint32)
     indices = Column.from_numpy(places)
     flags, views, (lengths, offsets, values) = random_mask(rows, .5), views_of(rows), list_data(rows)
@@ -274,7 +290,7 @@ def take_of_others(rows):
     yield Case("take, views", rows, "random", ("take", "loop_take"), lambda: equal(read_views(shown.take(indices)), views[places], "views of a take"),
                made=rows, size=16, read=rows * 20, written=rows * 16, values=views, indices=places, first=shown, second=indices)
 
-    def check_lists():
+    def check_lists() -> None:
         found, items = read_lists(listed.take(indices))
         starts = offsets[places]
         wanted = np.repeat(starts - np.concatenate([[0], np.cumsum(lengths[places])[:-1]]), lengths[places]) + np.arange(int(lengths[places].sum()))
@@ -287,7 +303,7 @@ def take_of_others(rows):
     text = RNG.integers(0, 256, int(offsets[-1]), dtype=np.uint8)
     joined = binaries(offsets, text)
 
-    def check_bytes():
+    def check_bytes() -> None:
         answer = joined.take(indices)
         found = np.zeros(rows + 1, dtype=np.int64)
         call("sel_offsets", answer, found.ctypes.data, rows + 1)
@@ -306,12 +322,12 @@ def take_of_others(rows):
 # ---- if-then-else
 
 
-def choices(rows):
+def choices(rows: int) -> Iterator[Case]:
     mask = random_mask(rows, .5)
     first, second = padded(RNG.integers(0, 2 ** 62, rows)), padded(RNG.integers(0, 2 ** 62, rows))
     flags, bits, one = mask_column(mask), packed(mask), Column.from_numpy(first)
     two, scalar, other = Column.from_numpy(second), Column.from_numpy(first[:1]), Column.from_numpy(second[:1])
-    parts = {"made": rows, "size": 8, "read": rows // 8 + rows * 8, "written": rows * 8, "mask": bits, "values": first, "others": second}
+    parts: dict[str, Any] = {"made": rows, "size": 8, "read": rows // 8 + rows * 8, "written": rows * 8, "mask": bits, "values": first, "others": second}
     yield Case("choose, 8 bytes", rows, "both columns", ("choose", "loop_choose"), lambda: equal(sel.choose(flags, one, two).to_numpy(), np.where(mask, first, second), "if-then-else"),
                lambda: np.where(mask, first, second), first=flags, second=one, third=two, **parts)
     yield Case("choose, 8 bytes", rows, "one scalar", ("choose_one", "loop_choose_one"),
@@ -330,14 +346,14 @@ def choices(rows):
 # ---- lists and several columns
 
 
-def lists_and_several(rows):
+def lists_and_several(rows: int) -> Iterator[Case]:
     lengths, offsets, values = list_data(rows)
     column = lists(offsets, values)
 
-    def check_get():
+    def check_get() -> None:
         answer, there = column.sublist_get(1).to_numpy(), lengths > 1
-        equal(~np.ma.getmaskarray(answer), there, "validity of list elements")
-        equal(np.ma.getdata(answer)[there], values[offsets[:-1][there] + 1], "list elements")
+        equal(~nulls_of(answer), there, "validity of list elements")
+        equal(data_of(answer)[there], values[offsets[:-1][there] + 1], "list elements")
 
     yield Case("sublist_get", rows, "index 1", ("sublist_get", "loop_sublist_get"), check_get, made=rows, read=rows * 16, written=rows * 8, index=1,
                values=values, offsets=offsets, first=column)
@@ -355,7 +371,7 @@ def lists_and_several(rows):
     picks = np.stack([RNG.integers(0, 2, rows, dtype=np.uint32), RNG.integers(0, rows, rows, dtype=np.uint32)], axis=1).copy()
     both = np.stack([one, two])
 
-    def check_picks():
+    def check_picks() -> None:
         given = several(pair)
         answer = made_by("sel_collect_rows", given[0], 2, picks.ctypes.data, rows, _NOTHING, 0, False)
         equal(answer.to_numpy(), both[picks[:, 0], picks[:, 1]], "gathered rows")
@@ -366,11 +382,11 @@ def lists_and_several(rows):
     there, views, keys = random_mask(count, .9), views_of(count), RNG.integers(0, count, rows, dtype=np.uint32)
     dictionary, named = texts(views, there), Column.from_numpy(keys)
 
-    def check_dictionary():
+    def check_dictionary() -> None:
         new_keys, new_values = sel.propagate_dictionary(named, dictionary)
         found = new_keys.to_numpy()
-        equal(~np.ma.getmaskarray(found), there[keys], "validity of the keys")
-        equal(np.ma.getdata(found)[there[keys]], (np.cumsum(there) - 1)[keys[there[keys]]], "the keys")
+        equal(~nulls_of(found), there[keys], "validity of the keys")
+        equal(data_of(found)[there[keys]], (np.cumsum(there) - 1)[keys[there[keys]]], "the keys")
         equal(read_views(new_values), views[there], "the values")
 
     yield Case("propagate_dictionary", rows, ".9 of the values valid", ("propagate", "loop_propagate"), check_dictionary, made=rows, height=count, read=rows * 4 + count * 16, written=rows * 4 + rows // 8 + count * 16,
@@ -380,7 +396,7 @@ def lists_and_several(rows):
 # ---- all of them
 
 
-def at_size(rows):
+def at_size(rows: int) -> Iterator[Case]:
     """Yields the cases of one size."""
     for density in DENSITIES:
         yield filter_of_bits(rows, density)
@@ -403,7 +419,7 @@ def at_size(rows):
     yield from lists_and_several(rows)
 
 
-def at_scale(most):
+def at_scale(most: int) -> Iterator[Case]:
     """Yields a filter and a take at 2^12 rows, and at four times as many each time up to `most`."""
     rows = 2 ** 12
     while rows <= most:

@@ -8,8 +8,16 @@ import pathlib
 import platform
 import subprocess
 import sys
+from typing import Dict, Tuple
 
 import numpy
+
+# the best and the median time per row of each contender, in ns
+Times = Dict[str, Tuple[float, float]]
+# a case: its kernel, its number of rows, what is varied, and its times
+Result = Tuple[str, int, str, Times]
+# a row of a table: the time to that of the best peer, its name, the time to that of the copy, and the case
+Row = Tuple[float, str, float, str, int, str, Times]
 
 # why a row is slower than a peer, by a prefix of its kernel's name; the first match counts
 CAUSES = (
@@ -55,17 +63,17 @@ def cause_of(kernel: str) -> str:
     return next((str(number) for number, (start, _) in enumerate(CAUSES, 1) if kernel.startswith(start)), "not known")
 
 
-def causes(rows: list[tuple]) -> list[str]:
+def causes(rows: list[Row]) -> list[str]:
     """Returns the numbered list of the causes of these rows."""
     used = {cause_of(kernel) for _, _, _, kernel, _, _, _ in rows}
     return [f"{number}. {start}: {cause.replace('x86-64-v2', built_for())}." for number, (start, cause) in enumerate(CAUSES, 1) if str(number) in used]
 
 
-def best_peer(times: dict) -> tuple[str, float]:
+def best_peer(times: Times) -> tuple[str, float]:
     return min(((name, each[0]) for name, each in times.items() if name in ("loop", "numpy")), key=lambda pair: pair[1])
 
 
-def row_of(result) -> tuple:
+def row_of(result: Result) -> Row:
     kernel, rows, varied, times = result
     name, peer = best_peer(times)
     ours = times["sel"][0]
@@ -85,20 +93,20 @@ def version_of(words: list[str]) -> str:
     return (done.stdout.split("\n") or [""])[0].strip()
 
 
-def spread(times: dict) -> float:
+def spread(times: Times) -> float:
     """Returns by which fraction the median of the library's times exceeds the best."""
     best, median = times["sel"]
     return median / best - 1
 
 
-def ns(times: dict, name: str) -> str:
+def ns(times: Times, name: str) -> str:
     if name not in times:
         return "-"
     best, median = times[name]
     return f"{best:.3f} ({median:.3f})"
 
 
-def table(rows: list[tuple], with_cause: bool) -> list[str]:
+def table(rows: list[Row], with_cause: bool) -> list[str]:
     head = "| kernel | rows | varied | sel | loop | numpy | copy | to the best peer | to the copy |" + (" cause |" if with_cause else "")
     lines = [head, "|" + "---|" * (head.count("|") - 1)]
     for ratio, name, to_copy, kernel, count, varied, times in rows:
@@ -107,7 +115,7 @@ def table(rows: list[tuple], with_cause: bool) -> list[str]:
     return lines
 
 
-def summary(rows: list[tuple]) -> list[str]:
+def summary(rows: list[Row]) -> list[str]:
     """Returns the table of the rows that SUMMARY names, in its order."""
     found = {(kernel, varied): row for row in rows for _, _, _, kernel, count, varied, _ in [row] if count == SUMMARY_ROWS}
     lines = ["| kernel | varied | this library | best peer | copy | library to best peer |", "|---|---|---|---|---|---|"]
@@ -170,12 +178,12 @@ def chart(path: pathlib.Path, title: str, labels: list[str], lines: dict[str, li
     path.write_text("\n".join(parts + ["</svg>"]) + "\n")
 
 
-def lines_of(results: list) -> dict[str, list[float]]:
+def lines_of(results: list[Result]) -> dict[str, list[float]]:
     names = [name for name, _, _ in COLORS if all(name in times for _, _, _, times in results)]
     return {name: [times[name][0] for _, _, _, times in results] for name in names}
 
 
-def charts(docs: pathlib.Path, results: list, scale: list) -> None:
+def charts(docs: pathlib.Path, results: list[Result], scale: list[Result]) -> None:
     densities = [each for each in results if each[0] == "filter, 8 bytes" and each[1] > 2 ** 16 and each[2].split()[-1] == "random"]
     chart(docs / "bench-density.svg", "Filter of 1,048,576 8-byte values: ns per row, by the share of rows kept", [each[2].split()[0] for each in densities], lines_of(densities))
     for kernel, name in (("filter", "filter"), ("take", "take")):
@@ -184,7 +192,7 @@ def charts(docs: pathlib.Path, results: list, scale: list) -> None:
         chart(docs / f"bench-{name}-size.svg", f"{kernel.capitalize()} of 8-byte values: ns per row, by the number of rows", labels, lines_of(found))
 
 
-def write(docs: pathlib.Path, results: list, scale: list, beside: list[str], sections: list[str], load: list[float], compiler: str, flags: list[str]) -> None:
+def write(docs: pathlib.Path, results: list[Result], scale: list[Result], beside: list[str], sections: list[str], load: list[float], compiler: str, flags: list[str]) -> None:
     rows = sorted((row_of(each) for each in results), key=lambda row: -row[0])
     worse, others = [row for row in rows if row[0] > 1], [row for row in rows if row[0] <= 1]
     repeats = sum(spread(each[3]) <= .1 for each in results)

@@ -17,6 +17,7 @@ import statistics
 import subprocess
 import sys
 import tempfile
+from typing import Callable, Tuple
 
 HERE = pathlib.Path(__file__).resolve().parent
 ROOT = HERE.parent.parent
@@ -80,6 +81,7 @@ def loops(folder: pathlib.Path) -> pathlib.Path:
 def run(made: pathlib.Path, line: str) -> tuple[float, str]:
     """Runs a program on a line. Returns its seconds of processor time and its output."""
     child = subprocess.Popen([made], stdin=subprocess.PIPE, stdout=subprocess.PIPE, text=True)
+    assert child.stdin and child.stdout
     child.stdin.write(f"{line}\n")
     child.stdin.close()
     said = child.stdout.read()
@@ -96,7 +98,9 @@ class Contender:
 
     def __init__(self, made: pathlib.Path, name: str, rows: int, left: int, right: int) -> None:
         self.made, self.rows, self.job = made, rows, f"{name} {rows} {left} {right}"
-        self.repeats, self.long, self.short = 2, [], []
+        self.repeats = 2
+        self.long: list[float] = []
+        self.short: list[float] = []
 
     def number(self, repeats: int) -> str:
         return run(self.made, f"{self.job} {repeats}")[1]
@@ -117,14 +121,18 @@ class Contender:
         self.long.append(self.time(self.repeats))
         self.short.append(self.time(1))
 
-    def ns(self, which) -> float:
+    def ns(self, which: Callable[[list[float]], float]) -> float:
         """Returns the time per row in ns, by the best or the median times."""
         return (which(self.long) - which(self.short)) * 1e9 / (self.repeats - 1) / self.rows
 
 
-def compared(ours: pathlib.Path, theirs: pathlib.Path) -> list[tuple]:
+# a case, its number of rows, and its two contenders
+Row = Tuple[Tuple[str, str, str, int, int, str, str], int, Contender, Contender]
+
+
+def compared(ours: pathlib.Path, theirs: pathlib.Path) -> list[Row]:
     """Returns each case at each size with its two contenders, after comparing their checksums."""
-    found = []
+    found: list[Row] = []
     for rows in SIZES:
         for case in CASES:
             _, name, _, left, right, _, loop = case
@@ -139,7 +147,7 @@ def compared(ours: pathlib.Path, theirs: pathlib.Path) -> list[tuple]:
     return found
 
 
-def measured(ours: pathlib.Path | None) -> list[tuple] | None:
+def measured(ours: pathlib.Path | None) -> list[Row] | None:
     """Returns each case at each size with its two contenders, timed in turn, or None without a program."""
     if ours is None:
         return None
@@ -174,7 +182,7 @@ def cell(each: Contender) -> str:
     return f"{each.ns(min):.3g} ({each.ns(statistics.median):.3g})"
 
 
-def section(found: list[tuple] | None) -> list[str]:
+def section(found: list[Row] | None) -> list[str]:
     """Returns the lines of the page."""
     text = ["## Words and bits", ""]
     if found is None:
