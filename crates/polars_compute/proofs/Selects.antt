@@ -253,6 +253,24 @@ module _ (bits : List Bool) (at z n : ℕ) (zeros : z ≡ leading_zeros (drop at
   pub run_some : 0 < length (map place_pick (kept_from at (drop at bits))) → 0 < n
   run_some left = grind (arith, common_steps, drop-drop, at, bits, some_ones, length-map)
 
+-- The first of the positions that are left, and those after it.
+first_row : (l : List Bool) (at : ℕ) → 0 < length (kept_from at l) → kept_from at l ≡ (at + leading_zeros l) ∷ kept_from (at + leading_zeros l + 1) (drop (leading_zeros l + 1) l)
+first_row [] at h = absurd (omega (arith, h))
+first_row (true ∷ l) at h = let none : at + 0 ≡ at = omega arith in rw none refl
+first_row (false ∷ l) at h = grind (arith, common_steps, add-one, (first_row l (at + 1) h))
+
+first_below : (l : List Bool) (at : ℕ) → 0 < length (kept_from at l) → leading_zeros l < length l
+first_below [] at h = absurd (omega (arith, h))
+first_below (true ∷ l) at h = omega arith
+first_below (false ∷ l) at h = omega (arith, first_below l (at + 1) h)
+
+module _ (bits : List Bool) (at z : ℕ) (zeros : z ≡ leading_zeros (drop at bits)) (left : 0 < length (map place_pick (kept_from at (drop at bits)))) where
+  pub row_kept : map place_pick (kept_from at (drop at bits)) ≡ picks_of 0 (at + z) 1 ++ map place_pick (kept_from (at + z + 1) (drop (at + z + 1) bits))
+  row_kept = grind (arith, common_steps, drop-drop, length-map, (first_row (drop at bits) at))
+
+  pub row_within : at + z + 1 ≤ length bits
+  row_within = omega (arith, zeros, length-drop at bits, first_below (drop at bits) at (omega (arith, left, length-map (kept_from at (drop at bits)) place_pick)))
+
 -- ---- each position is in bounds
 
 kept_from_below : (n : ℕ) (ms : List Bool) (k : ℕ) → k < length (kept_from n ms) → get_or (kept_from n ms) k 0 < n + length ms
@@ -323,5 +341,11 @@ count_kept ms = from 0 ms
     from n [] = refl
     from n (true ∷ ms) = omega (arith, from (n + 1) ms, sum_by-cons (λ b. cond b 1 0) true ms)
     from n (false ∷ ms) = omega (arith, from (n + 1) ms, sum_by-cons (λ b. cond b 1 0) false ms)
+
+pub kept_long : (ms : List Bool) → length (map place_pick (kept ms)) ≡ count_true ms
+kept_long ms = length-map (kept ms) place_pick ∙ count_kept ms
+
+pub kept_few : (ms : List Bool) → count_true ms ≤ length ms
+kept_few ms = count_by-le-length (λ b. b) ms
 
 pub ruleset taken_places = (length-map, get_or-map, all_picked)

@@ -9,9 +9,10 @@ ghost use Rattle.sel_arrow.specs.Rows.{rows, type_of, IsField, IsWellFormed};
 ghost use Rattle.sel_arrow.specs.declared.column.Column.{Struct};
 ghost use Rattle.sel_arrow.specs.Value.{Null};
 ghost use Rattle.sel_gather.specs.Gathers.{Collects};
-ghost use Rattle.sel_gather.specs.Picks.{pick, PickFits};
+ghost use Rattle.sel_gather.specs.Picks.{pick};
 ghost use Rattle.polars_compute.specs.FixedSizeLists.{IsFixedSizeList};
-ghost use Rattle.polars_compute.specs.Select.{select, effective_mask};
+ghost use Rattle.polars_compute.specs.Pick.{place_pick};
+ghost use Rattle.polars_compute.specs.Select.{select, effective_mask, kept};
 
 pub mod boolean;
 mod fixed_size_list;
@@ -19,7 +20,7 @@ pub mod primitive;
 pub mod scalar;
 pub mod selection;
 
-use crate::runs::MaskRuns;
+use crate::runs::{MaskRows, MaskRuns, count_runs};
 pub use boolean::filter_boolean_kernel;
 use boolean::{filter_counted_booleans, filter_validity};
 use fixed_size_list::filter_child;
@@ -35,7 +36,6 @@ use sel_arrow::utf8view::Utf8ViewArray;
 use sel_bits::bitmap::Bitmap;
 use sel_bits::faults::PolarsResult;
 use sel_gather::gather::{collect_plan, collect_rising};
-use sel_gather::row_refs::Plan;
 use sel_gather::run_refs::RunRefs;
 use sel_gather::runs::NO_ROWS;
 pub use selection::Selection;
@@ -297,30 +297,37 @@ fn filter_runs(
     ensures dtype { IfOk result (λ kept. type_of kept.column ≡ type_of column.now) }
     ensures refusal { IfErr result IsOutOfMemory }
 {
-    let plan = RunRefs {
-        first: NO_ROWS,
-        rest: MaskRuns { mask, at: 0 },
-        left: count,
-    };
-    let column = collect_kept(alloc, column, &plan)?;
+    let column = collect_kept(alloc, column, mask, count)?;
     Ok(ArrayRef { column })
 }
 
-/// Returns the rows of `column` at the row references of `plan`, which are not null.
+/// Returns the rows of `column` whose bit is set, as `filter_runs` does.
 ///
 /// If most runs are short, no run is listed, and lists are copied one by one. Long runs are few, so
 /// they are listed, and the items of all lists of a run are copied at once.
-fn collect_kept<P: Plan>(alloc: Global, column: &Column, plan: &P) -> PolarsResult<Column>
+fn collect_kept(alloc: Global, column: &Column, mask: &Bitmap, count: usize) -> PolarsResult<Column>
     requires formed { IsWellFormed column.now }
-    requires fits { All (PickFits (rows column.now ∷ [])) (P.picks plan.now) }
+    requires long { length (rows column.now) ≡ length mask.now.bits }
+    requires few { length mask.now.bits ≤ max_rows }
+    requires count { count ≡ count_true mask.now.bits }
     ensures { Collects result (type_of column.now) (column.now ∷ [])
-        (pick Null (rows column.now ∷ []) (P.picks plan.now)) }
+        (pick Null (rows column.now ∷ []) (map place_pick (kept mask.now.bits))) }
 {
     let sources = [column];
-    if plan.run_count() < plan.len() / LONG_RUN {
-        return collect_plan(alloc, &sources, plan, true);
+    if count_runs(mask) < count / LONG_RUN {
+        let plan = RunRefs {
+            first: NO_ROWS,
+            rest: MaskRuns { mask, at: 0 },
+            left: count,
+        };
+        return collect_plan(alloc, &sources, &plan, true);
     }
-    collect_rising(alloc, &sources, plan)
+    let plan = RunRefs {
+        first: NO_ROWS,
+        rest: MaskRows { mask, at: 0 },
+        left: count,
+    };
+    collect_rising(alloc, &sources, &plan)
 }
 
 /// Returns one null for each set bit of `_mask`.

@@ -1,22 +1,9 @@
-use Rattle.polars_compute.proofs.Common.{◌∷◌, [], ◌∙◌, arith, sym, subst, length-map, map, err_from_is_err_and, rows, type_of, Null, pick, memory_alone}
+use Rattle.polars_compute.proofs.Common.{◌∷◌, [], ◌∙◌, subst, map, err_from_is_err_and, rows, type_of, Null, pick, memory_alone}
 use Rattle.polars_compute.proofs.Common.{exceeded_limits, exceeded_taken, place_pick, kept}
-use Rattle.std.proofs.lemmas.List.Sums.{count_by-le-length}
 use Rattle.sel_gather.proofs.OneSource.{one_source}
-use Rattle.polars_compute.proofs.Selects.{count_kept, kept_fit, kept_near, picked_kept}
+use Rattle.polars_compute.proofs.Selects.{picked_kept}
 use Rattle.polars_compute.proofs.LawProofs.{kept_fits}
 use Rattle.polars_compute.proofs.filter.filter_runs.Goals as goal
-
-pub invariant_of-plan-2 : goal.invariant_of-plan-2
-invariant_of-plan-2 c =
-    let mask = c.args.mask.now.bits in
-    record {
-      count = length-map (kept mask) place_pick ∙ count_kept mask ∙ sym c.requires.count;
-      few = omega (arith, c.requires.count, count_by-le-length (λ b. b) mask, c.requires.few);
-      near = kept_near mask c.requires.few;
-    }
-
-pub collect_kept-requires-clause-fits : goal.collect_kept-requires-clause-fits
-collect_kept-requires-clause-fits c = kept_fit (rows c.args.column.now) c.args.mask.now.bits c.requires.long
 
 pub returns-in_err-column-clause-refusal : goal.returns-in_err-column-clause-refusal
 returns-in_err-column-clause-refusal c =
