@@ -1,22 +1,19 @@
 -- Blocks at indices, and the rows that the child of a taken fixed-size list column needs.
-use Rattle.polars_compute.proofs.Common.{common_steps, is_none, ◌≡◌, ℕ, zero, suc, ◌+◌, ◌-◌, ◌*◌, ◌≤◌, ◌<◌, pos, true, List, [], ◌∷◌, ◌++◌, length, take, drop, map, refl, ap}
-use Rattle.polars_compute.proofs.Common.{sym, subst, ◌∙◌, negsuc, arith, get_or, append_assoc, length-append, ℤ, Option, Some, None, true≢false, ◌&&◌, Box}
-use Rattle.polars_compute.proofs.Common.{Global, if◌then◌else◌, ForSome, take-append_seam, drop-append-add, leb-true, le-leb, ltb-true, length-replicate}
-use Rattle.polars_compute.proofs.Common.{take-append-drop, flat_map-append, mul-le, Bits, hidden, masked, number_rows, valid_at, Covers, blocks, block_rows}
-use Rattle.polars_compute.proofs.Common.{list_of, rows, row_count, well_formed, Value, Null, Number, Column, FixedSizeList, FixedSizeList', all_at, and_first}
-use Rattle.polars_compute.proofs.Common.{and_second, HasBlocks, has_blocks, length-blocks, length-rows, length-number_rows, length-part, block_items}
-use Rattle.polars_compute.proofs.Common.{is_block_within, blocks_within, is_bare, HoldsBlocks, all_within, found, is_within, pick_of, take_rows, valid_pick}
-use Rattle.polars_compute.proofs.Common.{flat_map, suc-mul, mul_assoc, ◌⊎◌, inl, inr, ⊎_elim, false, Bool, All, cases_lt, get_or_past, All-append, All-cons}
-use Rattle.polars_compute.proofs.Common.{All-head, All-map, All-nil, All-tail, Limit, type_of, Shape, of_fixed_size_list, items_in, joined_items, ExceedsRows}
-use Rattle.polars_compute.proofs.Common.{exceeded_limits, listed_values, exceeded_blocks}
+use Rattle.polars_compute.proofs.Common.{common_steps, is_none, ◌≡◌, ℕ, zero, suc, ◌+◌, ◌-◌, ◌*◌, ◌≤◌, ◌<◌, pos, true, List, [], ◌∷◌, ◌++◌, length, take, drop}
+use Rattle.polars_compute.proofs.Common.{map, refl, ap, sym, subst, ◌∙◌, negsuc, arith, get_or, append_assoc, length-append, ℤ, Option, Some, None, true≢false}
+use Rattle.polars_compute.proofs.Common.{◌&&◌, Box, Global, if◌then◌else◌, ForSome, take-append_seam, drop-append-add, leb-true, le-leb, ltb-true}
+use Rattle.polars_compute.proofs.Common.{length-replicate, take-append-drop, flat_map-append, mul-le, Bits, hidden, masked, number_rows, valid_at, Covers}
+use Rattle.polars_compute.proofs.Common.{blocks, block_rows, list_of, rows, row_count, well_formed, Value, Null, Number, Column, FixedSizeList, FixedSizeList'}
+use Rattle.polars_compute.proofs.Common.{all_at, and_first, and_second, HasBlocks, has_blocks, length-blocks, length-rows, length-number_rows, length-part}
+use Rattle.polars_compute.proofs.Common.{block_items, is_block_within, blocks_within, is_bare, HoldsBlocks, all_within, found, is_within, pick_of, take_rows}
+use Rattle.polars_compute.proofs.Common.{valid_pick, flat_map, suc-mul, mul_assoc, ◌⊎◌, inl, inr, ⊎_elim, false, Bool, All, cases_lt, get_or_past, All-append}
+use Rattle.polars_compute.proofs.Common.{All-cons, All-head, All-map, All-nil, All-tail, Limit, type_of, Shape, of_fixed_size_list, items_in, joined_items}
+use Rattle.polars_compute.proofs.Common.{ExceedsRows, exceeded_limits, listed_values, exceeded_blocks}
 use Rattle.sel_arrow.specs.declared.column.Column.TheVariants.{Int8, Int16, Int32, Int64, Int128, UInt8, UInt16, UInt32, UInt64, UInt128}
-use Rattle.sel_arrow.proofs.NestedParts.{part-block_rows}
-use Rattle.sel_arrow.proofs.Rows.{part-mapped}
+use Rattle.sel_arrow.proofs.{NestedParts.part-block_rows, Rows.part-mapped}
 use Rattle.polars_compute.specs.Blocks.{block_at, IsBeginning}
-use Rattle.polars_compute.proofs.KeptColumns.{at_block}
-use Rattle.polars_compute.proofs.Takes.{row_taken, validity_within, length-pick, all_pass}
-use Rattle.std.specs.Prelude.{⊤}
-use Rattle.std.proofs.lemmas.List.Elements.{All-replicate, All-take, All-drop}
+use Rattle.polars_compute.proofs.{KeptColumns.at_block, Takes.row_taken, Takes.validity_within, Takes.length-pick, Takes.all_pass}
+use Rattle.std.{specs.Prelude.⊤, proofs.lemmas.List.Elements.All-replicate, proofs.lemmas.List.Elements.All-take, proofs.lemmas.List.Elements.All-drop}
 
 -- ---- one more block
 

@@ -1,14 +1,13 @@
 -- Keys and values of a dictionary without its null values.
-use Rattle.polars_compute.proofs.Common.{common_steps, ◌≡◌, ℕ, zero, suc, ◌+◌, ◌≤◌, ◌<◌, pos, Bool, true, false, List, [], ◌∷◌, length, map, take, get_or, Option, Some, None}
-use Rattle.polars_compute.proofs.Common.{refl, ap, sym, ◌∙◌, arith, cond, zero-add, if◌then◌else◌, count_by, not, IfNone, range_with_len, ltb-true, length-map}
-use Rattle.polars_compute.proofs.Common.{get_or-map, get_or-map-range_with_len, length-map-range_with_len, sum_by-cons, Bits, count_true, hidden, masked}
-use Rattle.polars_compute.proofs.Common.{number_rows, Covers, Value, Null, Number, is_valid, is_null, validities, and_first, and_second, rank, valid_values}
-use Rattle.polars_compute.proofs.Common.{propagated_keys, found, pick_of, take_rows, is_within, all_within, select, map-range_with_len_more, take_more}
-use Rattle.polars_compute.specs.Dictionary.{key_of_valid}
-use Rattle.polars_compute.specs.Laws.{PropagationDecodes}
+use Rattle.polars_compute.proofs.Common.{common_steps, ◌≡◌, ℕ, zero, suc, ◌+◌, ◌≤◌, ◌<◌, pos, Bool, true, false, List, [], ◌∷◌, length, map, take, get_or}
+use Rattle.polars_compute.proofs.Common.{Option, Some, None, refl, ap, sym, ◌∙◌, arith, cond, zero-add, if◌then◌else◌, count_by, not, IfNone, range_with_len}
+use Rattle.polars_compute.proofs.Common.{ltb-true, length-map, get_or-map, get_or-map-range_with_len, length-map-range_with_len, sum_by-cons, Bits, count_true}
+use Rattle.polars_compute.proofs.Common.{hidden, masked, number_rows, Covers, Value, Null, Number, is_valid, is_null, validities, and_first, and_second, rank}
+use Rattle.polars_compute.proofs.Common.{valid_values, propagated_keys, found, pick_of, take_rows, is_within, all_within, select, map-range_with_len_more}
+use Rattle.polars_compute.proofs.Common.{take_more}
+use Rattle.polars_compute.{specs.Dictionary.key_of_valid, specs.Laws.PropagationDecodes, proofs.Takes.row_under}
 use Rattle.sel_filter.proofs.Selects.{count_true-append}
 use Rattle.sel_gather.proofs.Rebuilt.{only_null}
-use Rattle.polars_compute.proofs.Takes.{row_under}
 
 -- ---- the number of null rows
 

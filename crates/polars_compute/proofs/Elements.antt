@@ -1,24 +1,20 @@
 -- Elements of lists, as rows of a single child at optional positions, and lists of one element.
-use Rattle.polars_compute.proofs.Common.{common_steps, ◌≡◌, ◌<◌, ◌+◌, ◌-◌, ℕ, ℤ, pos, negsuc, Bool, true, false, All, List, [], ◌∷◌, ◌++◌, length, map, get_or, Option, Some}
-use Rattle.polars_compute.proofs.Common.{None, refl, ap, sym, subst, ◌∙◌, arith, Bor, nat_lt, if◌then◌else◌, not, IfSome, range_with_len, ltb-true, length-map}
-use Rattle.polars_compute.proofs.Common.{map-append, get_or-map, length-map-range_with_len, get_or-map-range_with_len, map-range_with_len_more, place, Value}
-use Rattle.polars_compute.proofs.Common.{Null, pick, PickFits, IsPicked, element_at, child_pick, option_map, option_copied, is_some, is_none, drop, get_or-drop}
-use Rattle.polars_compute.proofs.Common.{get_or-take, map-map, take, ◌≤◌, fill_by_all, Box, Global, list_any, length-take, length-drop, list_any_at, max_rows}
-use Rattle.polars_compute.proofs.Common.{Bits, hidden, number_value, valid_at, rows_between, rows, well_formed, Number, Column, LargeList, length-rows}
-use Rattle.polars_compute.proofs.Common.{listed_values, list_get, lacks_place, child_place, places_in, unwrap_or, true≢false, ◌*◌, ◌&&◌, get_or-range_with_len}
-use Rattle.polars_compute.proofs.Common.{length-range_with_len, PolarsError, ComputeError, type_of, is_null, has_blocks, exceeded_limits, IsLimitOrMemory}
-use Rattle.polars_compute.proofs.Common.{place_of, fixed_get, at_each, entry_place, zero-add, IsRising, list_of, pieces, length-pieces, get_or-pieces, few_rows}
+use Rattle.polars_compute.proofs.Common.{common_steps, ◌≡◌, ◌<◌, ◌+◌, ◌-◌, ℕ, ℤ, pos, negsuc, Bool, true, false, All, List, [], ◌∷◌, ◌++◌, length, map, get_or}
+use Rattle.polars_compute.proofs.Common.{Option, Some, None, refl, ap, sym, subst, ◌∙◌, arith, Bor, nat_lt, if◌then◌else◌, not, IfSome, range_with_len}
+use Rattle.polars_compute.proofs.Common.{ltb-true, length-map, map-append, get_or-map, length-map-range_with_len, get_or-map-range_with_len}
+use Rattle.polars_compute.proofs.Common.{map-range_with_len_more, place, Value, Null, pick, PickFits, IsPicked, element_at, child_pick, option_map}
+use Rattle.polars_compute.proofs.Common.{option_copied, is_some, is_none, drop, get_or-drop, get_or-take, map-map, take, ◌≤◌, fill_by_all, Box, Global}
+use Rattle.polars_compute.proofs.Common.{list_any, length-take, length-drop, list_any_at, max_rows, Bits, hidden, number_value, valid_at, rows_between, rows}
+use Rattle.polars_compute.proofs.Common.{well_formed, Number, Column, LargeList, length-rows, listed_values, list_get, lacks_place, child_place, places_in}
+use Rattle.polars_compute.proofs.Common.{unwrap_or, true≢false, ◌*◌, ◌&&◌, get_or-range_with_len, length-range_with_len, PolarsError, ComputeError, type_of}
+use Rattle.polars_compute.proofs.Common.{is_null, has_blocks, exceeded_limits, IsLimitOrMemory, place_of, fixed_get, at_each, entry_place, zero-add, IsRising}
+use Rattle.polars_compute.proofs.Common.{list_of, pieces, length-pieces, get_or-pieces, few_rows}
 use Rattle.sel_arrow.proofs.NestedRows.{has_lists, HasLists, lists_formed}
 use Rattle.sel_gather.proofs.ListParts.{list_null, list_row, OfBlock, block_null, block_row}
-use Rattle.polars_compute.specs.Lists.{element_of, unit_lists}
-use Rattle.std.proofs.lemmas.Bool.{false_from_ne_true}
+use Rattle.polars_compute.specs.{Lists.element_of, Lists.unit_lists, Steps.entry_places}
+use Rattle.std.proofs.lemmas.{Bool.false_from_ne_true, List.get_or-replicate, List.drop_more, List.Folds.list_any_none}
 use Rattle.polars_compute.specs.Entries.{is_get_error, entry_of, lacks_entry, IsGetError}
-use Rattle.polars_compute.specs.Steps.{entry_places}
-use Rattle.std.proofs.lemmas.List.{get_or-replicate, drop_more}
-use Rattle.std.proofs.lemmas.List.Folds.{list_any_none}
-use Rattle.sel_arrow.specs.NestedArrays.{block_column}
-use Rattle.sel_arrow.specs.declared.fixed_size_list.FixedSizeListArray.{FixedSizeListArray}
-use Rattle.sel_arrow.specs.Nested.{list_rows}
+use Rattle.sel_arrow.specs.{NestedArrays.block_column, Nested.list_rows, declared.fixed_size_list.FixedSizeListArray.FixedSizeListArray}
 
 -- ---- a loop over positions
 

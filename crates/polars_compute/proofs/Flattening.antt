@@ -1,18 +1,16 @@
 -- Horizontal flatten: the entries of each row, and the iteration over its row references.
-use Rattle.polars_compute.proofs.Common.{common_steps, ◌≡◌, ◌⊎◌, inl, inr, ℕ, zero, suc, ◌+◌, ◌*◌, ◌<◌, ◌≤◌, Bool, true, false, ◌&&◌, ◌||◌, ◌==◌, nat_lt, All, Bor, List, []}
-use Rattle.polars_compute.proofs.Common.{◌∷◌, ◌++◌, length, take, drop, map, refl, sym, ap, subst, ◌∙◌, arith, get_or, drop-cons, length-append, zero-add}
-use Rattle.polars_compute.proofs.Common.{add-one, range_with_len, if◌then◌else◌, ltb-true, eqb-true, eq-eqb, flat_map-append, append-nil, take_all, length-map}
-use Rattle.polars_compute.proofs.Common.{get_or-map, All-map, map-map, mul-le, rows, type_of, ArrayRef, Column, first_type, and_first, and_second, length-part}
-use Rattle.polars_compute.proofs.Common.{flatten, flat_row, row_part, part_fits, parts_fit, row_width, true≢false, flat_map, ◌-◌, append_assoc, Some, None}
-use Rattle.polars_compute.proofs.Common.{Option, drop_all, map-append, All-append, All-cons, All-nil, get_or-map-range_with_len, length-map-range_with_len}
-use Rattle.polars_compute.proofs.Common.{max_rows, Value, Null, length-rows, few_rows, found, pick, PickFits, picks_of, lane_of, lanes_of, rows_picks}
-use Rattle.polars_compute.proofs.Common.{length-unrolled_from, HasLeft}
+use Rattle.polars_compute.proofs.Common.{common_steps, ◌≡◌, ◌⊎◌, inl, inr, ℕ, zero, suc, ◌+◌, ◌*◌, ◌<◌, ◌≤◌, Bool, true, false, ◌&&◌, ◌||◌, ◌==◌, nat_lt, All}
+use Rattle.polars_compute.proofs.Common.{Bor, List, [], ◌∷◌, ◌++◌, length, take, drop, map, refl, sym, ap, subst, ◌∙◌, arith, get_or, drop-cons, length-append}
+use Rattle.polars_compute.proofs.Common.{zero-add, add-one, range_with_len, if◌then◌else◌, ltb-true, eqb-true, eq-eqb, flat_map-append, append-nil, take_all}
+use Rattle.polars_compute.proofs.Common.{length-map, get_or-map, All-map, map-map, mul-le, rows, type_of, ArrayRef, Column, first_type, and_first, and_second}
+use Rattle.polars_compute.proofs.Common.{length-part, flatten, flat_row, row_part, part_fits, parts_fit, row_width, true≢false, flat_map, ◌-◌, append_assoc}
+use Rattle.polars_compute.proofs.Common.{Some, None, Option, drop_all, map-append, All-append, All-cons, All-nil, get_or-map-range_with_len}
+use Rattle.polars_compute.proofs.Common.{length-map-range_with_len, max_rows, Value, Null, length-rows, few_rows, found, pick, PickFits, picks_of, lane_of}
+use Rattle.polars_compute.proofs.Common.{lanes_of, rows_picks, length-unrolled_from, HasLeft}
 use Rattle.sel_arrow.specs.Rows.{IsWellFormed}
-use Rattle.std.proofs.lemmas.Bool.{false_from_ne_true}
-use Rattle.std.proofs.lemmas.List.{drop_more}
+use Rattle.std.proofs.lemmas.{Bool.false_from_ne_true, List.drop_more}
 use Rattle.sel_gather.proofs.RunLists.{length-pick, All-left, All-right, below_length, pick_rows}
-use Rattle.polars_compute.specs.Lanes.{left_picks, row_picks, picks_from, IsReference}
-use Rattle.polars_compute.specs.declared.lanes.Lane.{Lane}
+use Rattle.polars_compute.specs.{Lanes.left_picks, Lanes.row_picks, Lanes.picks_from, Lanes.IsReference, declared.lanes.Lane.Lane}
 use Rattle.polars_compute.proofs.Selects.{first_dropped, rest_dropped}
 
 -- ---- lists that fit their widths

@@ -1,18 +1,16 @@
 -- Filtered fixed-size list and struct columns.
-use Rattle.polars_compute.proofs.Common.{common_steps, ◌≡◌, ℕ, zero, suc, ◌+◌, ◌-◌, ◌*◌, ◌≤◌, ◌<◌, Bool, true, false, List, [], ◌∷◌, ◌++◌, length, take, drop, map, get_or}
-use Rattle.polars_compute.proofs.Common.{Option, Box, Global, refl, ap, sym, ◌∙◌, subst, arith, length-append, first_chunks, drop-drop, drop-map, ext_get_or}
-use Rattle.polars_compute.proofs.Common.{length-drop, length-map, length-take, map-append, take-map, get_or-map-range_with_len, mul-le, Bits, count_true}
-use Rattle.polars_compute.proofs.Common.{Covers, blocks, block_rows, list_of, rows, row_count, type_of, well_formed, of_fixed_size_list, Value, Column}
-use Rattle.polars_compute.proofs.Common.{FixedSizeList, FixedSizeList', HasBlocks, has_blocks, length-blocks, length-rows, few_kept, length-select, select}
-use Rattle.polars_compute.proofs.Common.{flat_map, slice_range, option_map, suc-mul, map-map, All, Vec, range_with_len, get_or-map, All-nil, All-cons, All-head}
-use Rattle.polars_compute.proofs.Common.{All-tail, length-map-range_with_len, fill_by_all, masked, struct_at, IsField, Null, Struct, rows-Struct, has_fields}
-use Rattle.polars_compute.proofs.Common.{fields_make, kept, few_rows}
-use Rattle.sel_arrow.proofs.NestedRows.{blocks_formed}
+use Rattle.polars_compute.proofs.Common.{common_steps, ◌≡◌, ℕ, zero, suc, ◌+◌, ◌-◌, ◌*◌, ◌≤◌, ◌<◌, Bool, true, false, List, [], ◌∷◌, ◌++◌, length, take, drop}
+use Rattle.polars_compute.proofs.Common.{map, get_or, Option, Box, Global, refl, ap, sym, ◌∙◌, subst, arith, length-append, first_chunks, drop-drop, drop-map}
+use Rattle.polars_compute.proofs.Common.{ext_get_or, length-drop, length-map, length-take, map-append, take-map, get_or-map-range_with_len, mul-le, Bits}
+use Rattle.polars_compute.proofs.Common.{count_true, Covers, blocks, block_rows, list_of, rows, row_count, type_of, well_formed, of_fixed_size_list, Value}
+use Rattle.polars_compute.proofs.Common.{Column, FixedSizeList, FixedSizeList', HasBlocks, has_blocks, length-blocks, length-rows, few_kept, length-select}
+use Rattle.polars_compute.proofs.Common.{select, flat_map, slice_range, option_map, suc-mul, map-map, All, Vec, range_with_len, get_or-map, All-nil, All-cons}
+use Rattle.polars_compute.proofs.Common.{All-head, All-tail, length-map-range_with_len, fill_by_all, masked, struct_at, IsField, Null, Struct, rows-Struct}
+use Rattle.polars_compute.proofs.Common.{has_fields, fields_make, kept, few_rows}
+use Rattle.sel_arrow.{proofs.NestedRows.blocks_formed, specs.Nested.struct_rows, specs.Value.Tuple, specs.Value.values_of}
 use Rattle.std.proofs.lemmas.List.{take_at, drop_at}
 use Rattle.polars_compute.specs.FixedSizeLists.{IsFixedSizeList}
 use Rattle.polars_compute.proofs.Selects.{count_kept, kept_below, kept_covers, kept_rows, select-map, select-masked, selected}
-use Rattle.sel_arrow.specs.Nested.{struct_rows}
-use Rattle.sel_arrow.specs.Value.{Tuple, values_of}
 
 -- ---- blocks as consecutive chunks
 

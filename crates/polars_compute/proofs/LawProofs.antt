@@ -1,22 +1,18 @@
 -- The laws of filters, takes and if-then-else, and of what rows need.
-use Rattle.polars_compute.proofs.Common.{common_steps, ◌≡◌, ℕ, zero, suc, pos, true, false, List, [], ◌∷◌, map, get_or, Option, Some, None, refl, ap, sym, ◌∙◌, arith}
-use Rattle.polars_compute.proofs.Common.{slice_get, option_and_then, length-map, Value, Null, Number, effective_mask, is_true, kept, found, pick, pick_of}
-use Rattle.polars_compute.proofs.Common.{place_pick, inl, inr, ◌+◌, ◌≤◌, ◌<◌, Bool, ◌++◌, length, replicate, subst, ◌<ℤ◌, ints, max_rows, Limit, ByteLimit}
-use Rattle.polars_compute.proofs.Common.{rows, type_of, well_formed, Shape, Shapes, no_shapes, next_shape, of_large_binary, of_large_list, of_fixed_size_list}
-use Rattle.polars_compute.proofs.Common.{of_struct, Column, length-rows, items_in, joined_items, part_at, few_rows, bytes_needed, ExceedsBytes, exceeded_limits}
-use Rattle.polars_compute.proofs.Common.{exceeded_in_parts, so_many_rows, so_many_bytes, need, need_of_parts, NoneAbove, select, few_kept, few_rows_pass}
-use Rattle.polars_compute.proofs.Common.{ExceedsNone, cases_lt, ⊎_elim, length-append, append-nil, take, reverse, map-append, take_all, take_more, take_rows}
-use Rattle.polars_compute.proofs.Common.{all_within, last_to_first}
+use Rattle.polars_compute.proofs.Common.{common_steps, ◌≡◌, ℕ, zero, suc, pos, true, false, List, [], ◌∷◌, map, get_or, Option, Some, None, refl, ap, sym, ◌∙◌}
+use Rattle.polars_compute.proofs.Common.{arith, slice_get, option_and_then, length-map, Value, Null, Number, effective_mask, is_true, kept, found, pick}
+use Rattle.polars_compute.proofs.Common.{pick_of, place_pick, inl, inr, ◌+◌, ◌≤◌, ◌<◌, Bool, ◌++◌, length, replicate, subst, ◌<ℤ◌, ints, max_rows, Limit}
+use Rattle.polars_compute.proofs.Common.{ByteLimit, rows, type_of, well_formed, Shape, Shapes, no_shapes, next_shape, of_large_binary, of_large_list}
+use Rattle.polars_compute.proofs.Common.{of_fixed_size_list, of_struct, Column, length-rows, items_in, joined_items, part_at, few_rows, bytes_needed}
+use Rattle.polars_compute.proofs.Common.{ExceedsBytes, exceeded_limits, exceeded_in_parts, so_many_rows, so_many_bytes, need, need_of_parts, NoneAbove, select}
+use Rattle.polars_compute.proofs.Common.{few_kept, few_rows_pass, ExceedsNone, cases_lt, ⊎_elim, length-append, append-nil, take, reverse, map-append, take_all}
+use Rattle.polars_compute.proofs.Common.{take_more, take_rows, all_within, last_to_first}
 use Rattle.polars_compute.specs.Laws.{composed, source_pick, SelectedRowsAreTaken, TakesCompose, KeepsThen, KeepsOtherwise}
-use Rattle.polars_compute.proofs.Selects.{picked_kept, select-map}
+use Rattle.polars_compute.{proofs.Selects.picked_kept, proofs.Selects.select-map, specs.Meaning.NeedsDecideLimits, specs.Need.Needed, specs.Need.NoneGreater}
 use Rattle.sel_bits.specs.declared.faults.Limit.TheVariants.{Rows as RowLimit}
-use Rattle.sel_gather.proofs.Thinned.{whole_fits}
-use Rattle.polars_compute.specs.Meaning.{NeedsDecideLimits}
-use Rattle.polars_compute.specs.Need.{Needed, NoneGreater}
+use Rattle.sel_gather.proofs.{Thinned.whole_fits, ItemRuns.joined-append, JoinedRows.needed-append}
 use mathlib.Core.List.{reverse_aux}
 use Rattle.std.proofs.lemmas.List.{length-reverse, reverse-append}
-use Rattle.sel_gather.proofs.ItemRuns.{joined-append}
-use Rattle.sel_gather.proofs.JoinedRows.{needed-append}
 
 -- ---- filters and takes
 

@@ -1,24 +1,19 @@
 -- The rows that a mask selects, and their positions.
-use Rattle.polars_compute.proofs.Common.{common_steps, ◌≡◌, ℕ, zero, suc, ◌+◌, ◌≤◌, ◌<◌, ℤ, Bool, true, false, List, [], ◌∷◌, length, map, drop, get_or, replicate, Option}
-use Rattle.polars_compute.proofs.Common.{Some, None, refl, ap, sym, subst, ◌∙◌, ◌++◌, arith, ◌-◌, take, ⊎_elim, add-one, cond, ◌&&◌, if◌then◌else◌, count_by}
-use Rattle.polars_compute.proofs.Common.{reverse, cases_lt, list_all, length-map, length-replicate, append-nil, get_or_past, length-drop, length-take, take_all}
-use Rattle.polars_compute.proofs.Common.{take-append-drop, sum_by-cons, max_rows, Bits, zip_with, leading_zeros, Value, Null, Truth, Number, hidden, masked}
-use Rattle.polars_compute.proofs.Common.{number_rows, Covers, view_value, View, and_first, and_second, both, length-number_rows, length-truth_rows}
-use Rattle.polars_compute.proofs.Common.{length-view_rows, few_kept, length-select, select, effective_mask, is_true, IsRun, map-map, option_map, map-id}
-use Rattle.polars_compute.proofs.Common.{range_with_len, drop-drop, get_or-drop, map-append, picks_of, place_pick, kept, kept_from, All, pos, negsuc, IsTrue}
-use Rattle.polars_compute.proofs.Common.{ltb-true, count_true, pick, PickFits, IsPicked, IsNear, pick_of, is_within, all_within, found, All-map, all_at}
-use Rattle.polars_compute.proofs.Common.{unwrap_or, get_or-map}
+use Rattle.polars_compute.proofs.Common.{common_steps, ◌≡◌, ℕ, zero, suc, ◌+◌, ◌≤◌, ◌<◌, ℤ, Bool, true, false, List, [], ◌∷◌, length, map, drop, get_or}
+use Rattle.polars_compute.proofs.Common.{replicate, Option, Some, None, refl, ap, sym, subst, ◌∙◌, ◌++◌, arith, ◌-◌, take, ⊎_elim, add-one, cond, ◌&&◌}
+use Rattle.polars_compute.proofs.Common.{if◌then◌else◌, count_by, reverse, cases_lt, list_all, length-map, length-replicate, append-nil, get_or_past}
+use Rattle.polars_compute.proofs.Common.{length-drop, length-take, take_all, take-append-drop, sum_by-cons, max_rows, Bits, zip_with, leading_zeros, Value}
+use Rattle.polars_compute.proofs.Common.{Null, Truth, Number, hidden, masked, number_rows, Covers, view_value, View, and_first, and_second, both}
+use Rattle.polars_compute.proofs.Common.{length-number_rows, length-truth_rows, length-view_rows, few_kept, length-select, select, effective_mask, is_true}
+use Rattle.polars_compute.proofs.Common.{IsRun, map-map, option_map, map-id, range_with_len, drop-drop, get_or-drop, map-append, picks_of, place_pick, kept}
+use Rattle.polars_compute.proofs.Common.{kept_from, All, pos, negsuc, IsTrue, ltb-true, count_true, pick, PickFits, IsPicked, IsNear, pick_of, is_within}
+use Rattle.polars_compute.proofs.Common.{all_within, found, All-map, all_at, unwrap_or, get_or-map}
 use Rattle.std.proofs.Math.Bool.{and-true, and-false}
-use Rattle.std.proofs.lemmas.List.{get_or-reverse}
-use Rattle.std.proofs.lemmas.List.Sums.{count_by-le-length}
-use Rattle.sel_bits.specs.Bits.{trailing_zeros, leading_ones}
-use Rattle.sel_bits.proofs.Zeros.{leading_le}
-use Rattle.sel_arrow.specs.Masked.{bool_rows}
-use Rattle.sel_arrow.specs.Views.{view_rows}
+use Rattle.std.proofs.lemmas.List.{get_or-reverse, Sums.count_by-le-length, Elements.All-from_get_or}
+use Rattle.sel_bits.{specs.Bits.trailing_zeros, specs.Bits.leading_ones, proofs.Zeros.leading_le}
+use Rattle.sel_arrow.{specs.Masked.bool_rows, specs.Views.view_rows, proofs.ByteRows.length-byte_rows}
 use Rattle.sel_filter.proofs.Selects.{all_kept, none_kept as nothing_kept, as_many_kept, count_true-append, select_split}
-use Rattle.sel_arrow.proofs.ByteRows.{length-byte_rows}
 use Rattle.polars_compute.specs.Trim.{KeepsAll}
-use Rattle.std.proofs.lemmas.List.Elements.{All-from_get_or}
 
 -- ---- rows under a validity
 

@@ -1,21 +1,16 @@
 -- Binary rows at indices: where they begin in the bytes of their source, and where they end in the result.
-use Rattle.polars_compute.proofs.Common.{common_steps, ◌≡◌, ℕ, zero, suc, ◌+◌, ◌-◌, ◌≤◌, ◌<◌, ℤ, pos, Bool, true, false, List, [], ◌∷◌, ◌++◌, length, map, take, drop, get_or}
-use Rattle.polars_compute.proofs.Common.{negsuc, ◌≤ℤ◌, Option, Some, None, refl, ap, sym, ◌∙◌, subst, arith, if◌then◌else◌, length-map, length-replicate}
-use Rattle.polars_compute.proofs.Common.{get_or-map, take_more, ltb-true, map-append, append-nil, zero-add, flat_map-append, option_map, ints, Bits, hidden}
-use Rattle.polars_compute.proofs.Common.{masked, number_rows, Covers, valid_at, length-number_rows, length-part, IsRising, last_offset, pieces, rows_between}
-use Rattle.polars_compute.proofs.Common.{get_or-pieces, length-pieces, Value, Null, Number, is_valid, validities, bits_for, finished, ends_from, joined_bytes}
-use Rattle.polars_compute.proofs.Common.{byte_count, bytes_needed, all_at, and_first, and_second, nat_lt, magnitudes, offsets_of, same_numbers, found, pick_of}
-use Rattle.polars_compute.proofs.Common.{take_rows, is_within, all_within, live_index, bit_or_true}
-use Rattle.std.specs.List.{AllZip}
-use Rattle.std.proofs.lemmas.Slice.Zip.{all_zipped_more}
-use Rattle.sel_arrow.specs.Pieces.{byte_rows}
-use Rattle.sel_arrow.specs.Value.{Bytes}
-use Rattle.sel_bits.specs.Offsets.{IsOffsets}
-use Rattle.sel_bits.specs.Signs.{magnitude}
-use Rattle.sel_bits.proofs.OffsetLemmas.{shown_at}
+use Rattle.polars_compute.proofs.Common.{common_steps, ◌≡◌, ℕ, zero, suc, ◌+◌, ◌-◌, ◌≤◌, ◌<◌, ℤ, pos, Bool, true, false, List, [], ◌∷◌, ◌++◌, length, map, take}
+use Rattle.polars_compute.proofs.Common.{drop, get_or, negsuc, ◌≤ℤ◌, Option, Some, None, refl, ap, sym, ◌∙◌, subst, arith, if◌then◌else◌, length-map}
+use Rattle.polars_compute.proofs.Common.{length-replicate, get_or-map, take_more, ltb-true, map-append, append-nil, zero-add, flat_map-append, option_map, ints}
+use Rattle.polars_compute.proofs.Common.{Bits, hidden, masked, number_rows, Covers, valid_at, length-number_rows, length-part, IsRising, last_offset, pieces}
+use Rattle.polars_compute.proofs.Common.{rows_between, get_or-pieces, length-pieces, Value, Null, Number, is_valid, validities, bits_for, finished, ends_from}
+use Rattle.polars_compute.proofs.Common.{joined_bytes, byte_count, bytes_needed, all_at, and_first, and_second, nat_lt, magnitudes, offsets_of, same_numbers}
+use Rattle.polars_compute.proofs.Common.{found, pick_of, take_rows, is_within, all_within, live_index, bit_or_true}
+use Rattle.std.{specs.List.AllZip, proofs.lemmas.Slice.Zip.all_zipped_more}
+use Rattle.sel_arrow.specs.{Pieces.byte_rows, Value.Bytes}
+use Rattle.sel_bits.{specs.Offsets.IsOffsets, specs.Signs.magnitude, proofs.OffsetLemmas.shown_at}
 use Rattle.sel_gather.proofs.JoinedRows.{built_rows, column_bytes, ends-append, needed-append, needed_part, picked_bytes, rebuilt}
-use Rattle.polars_compute.specs.JoinedBytes.{bytes_of}
-use Rattle.polars_compute.specs.Spans.{AreStarts, BeginsAt}
+use Rattle.polars_compute.specs.{JoinedBytes.bytes_of, Spans.AreStarts, Spans.BeginsAt}
 use Rattle.polars_compute.proofs.Takes.{length-pick, row_under, within_as}
 
 -- ---- the indices of valid rows

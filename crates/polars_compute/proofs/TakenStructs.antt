@@ -1,19 +1,14 @@
 -- Struct rows at indices, field by field.
-use Rattle.polars_compute.proofs.Common.{common_steps, ◌≡◌, All, ℕ, zero, suc, ◌+◌, ◌≤◌, ◌<◌, pos, Bool, true, false, List, [], ◌∷◌, length, map, get_or, Option, Some, None}
-use Rattle.polars_compute.proofs.Common.{Vec, Global, inl, inr, refl, ap, sym, ◌∙◌, subst, arith, if◌then◌else◌, range_with_len, ltb-true, length-map}
-use Rattle.polars_compute.proofs.Common.{get_or-map, max_rows, Bits, Limit, hidden, number_rows, valid_at, struct_at, rows, type_of, well_formed, IsField}
-use Rattle.polars_compute.proofs.Common.{Shapes, of_struct, shapes_of, Value, Null, Number, is_valid, validities, Column, Struct, and_first, and_second}
-use Rattle.polars_compute.proofs.Common.{length-tuple_rows, rows-Struct, has_fields, fields_make, type_of-Struct, part_at, bits_for, finished, exceeded_limits}
-use Rattle.polars_compute.proofs.Common.{exceeded_in_parts, found, pick_of, take_rows, is_within, all_within, exceeded_in_taken, live_index, valid_pick}
-use Rattle.polars_compute.proofs.Common.{length-range_with_len, zero-add, fill_by_all, get_or-range_with_len, list_all-map}
+use Rattle.polars_compute.proofs.Common.{common_steps, ◌≡◌, All, ℕ, zero, suc, ◌+◌, ◌≤◌, ◌<◌, pos, Bool, true, false, List, [], ◌∷◌, length, map, get_or}
+use Rattle.polars_compute.proofs.Common.{Option, Some, None, Vec, Global, inl, inr, refl, ap, sym, ◌∙◌, subst, arith, if◌then◌else◌, range_with_len, ltb-true}
+use Rattle.polars_compute.proofs.Common.{length-map, get_or-map, max_rows, Bits, Limit, hidden, number_rows, valid_at, struct_at, rows, type_of, well_formed}
+use Rattle.polars_compute.proofs.Common.{IsField, Shapes, of_struct, shapes_of, Value, Null, Number, is_valid, validities, Column, Struct, and_first}
+use Rattle.polars_compute.proofs.Common.{and_second, length-tuple_rows, rows-Struct, has_fields, fields_make, type_of-Struct, part_at, bits_for, finished}
+use Rattle.polars_compute.proofs.Common.{exceeded_limits, exceeded_in_parts, found, pick_of, take_rows, is_within, all_within, exceeded_in_taken, live_index}
+use Rattle.polars_compute.proofs.Common.{valid_pick, length-range_with_len, zero-add, fill_by_all, get_or-range_with_len, list_all-map}
 use Rattle.sel_arrow.specs.Shape.{shape_list}
-use Rattle.sel_gather.specs.Children.{field}
-use Rattle.sel_gather.specs.Steps.{parts_of}
-use Rattle.sel_gather.proofs.Below.{listed_shapes}
-use Rattle.sel_gather.proofs.FieldsOf.{any_default, field_found}
-use Rattle.sel_gather.proofs.Layouts.{rows_tuples}
-use Rattle.sel_gather.proofs.Rebuilt.{IsTuple, picked_all, tuples_rebuilt}
-use Rattle.sel_gather.proofs.TupleRows.{field_row}
+use Rattle.sel_gather.{specs.Children.field, specs.Steps.parts_of, proofs.Below.listed_shapes, proofs.Layouts.rows_tuples, proofs.TupleRows.field_row}
+use Rattle.sel_gather.proofs.{FieldsOf.any_default, FieldsOf.field_found, Rebuilt.IsTuple, Rebuilt.picked_all, Rebuilt.tuples_rebuilt}
 use Rattle.polars_compute.proofs.Takes.{covers_for, length-pick, row_under, all_pass}
 
 -- ---- indices with a null for each null row

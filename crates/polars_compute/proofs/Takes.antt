@@ -1,17 +1,15 @@
 -- Values, bits and rows at indices, and checks of indices.
-use Rattle.polars_compute.proofs.Common.{common_steps, ◌≡◌, All, ℕ, zero, suc, ◌<◌, pos, Bool, true, false, List, [], ◌∷◌, length, map, get_or, replicate, Option, Some, None}
-use Rattle.polars_compute.proofs.Common.{refl, ap, sym, ◌∙◌, subst, arith, if◌then◌else◌, list_all, ForSome, length-map, get_or-map, ltb-true, Bits, Value}
-use Rattle.polars_compute.proofs.Common.{Null, Number, hidden, masked, Covers, valid_at, all_at, and_first, and_second, bits_for, found, pick, pick_of}
-use Rattle.polars_compute.proofs.Common.{take_rows, is_within, all_within, valid_pick, ◌≤◌, ◌+◌, ◌*◌, ◌%◌, ◌^◌, ◌++◌, take, drop, append-nil, ◌==◌, from_bool}
-use Rattle.polars_compute.proofs.Common.{eqb-true, drop-map, get_or_default, take-append-drop, take-map, word_of, word_of-few, word_of-next, all_below}
-use Rattle.polars_compute.proofs.Common.{place_pick, ◌≢◌, lt-ltb, nat_lt, number_rows, near_place, near_value, zip_with, ◌&&◌, ◌||◌, not, both, map-id, ℤ}
-use Rattle.polars_compute.proofs.Common.{list_all-map, max_rows, negsuc, nat_le, narrowed, ◌/◌, leb-true, le-leb, is_block_within, blocks_within, take_all}
+use Rattle.polars_compute.proofs.Common.{common_steps, ◌≡◌, All, ℕ, zero, suc, ◌<◌, pos, Bool, true, false, List, [], ◌∷◌, length, map, get_or, replicate}
+use Rattle.polars_compute.proofs.Common.{Option, Some, None, refl, ap, sym, ◌∙◌, subst, arith, if◌then◌else◌, list_all, ForSome, length-map, get_or-map}
+use Rattle.polars_compute.proofs.Common.{ltb-true, Bits, Value, Null, Number, hidden, masked, Covers, valid_at, all_at, and_first, and_second, bits_for, found}
+use Rattle.polars_compute.proofs.Common.{pick, pick_of, take_rows, is_within, all_within, valid_pick, ◌≤◌, ◌+◌, ◌*◌, ◌%◌, ◌^◌, ◌++◌, take, drop, append-nil}
+use Rattle.polars_compute.proofs.Common.{◌==◌, from_bool, eqb-true, drop-map, get_or_default, take-append-drop, take-map, word_of, word_of-few, word_of-next}
+use Rattle.polars_compute.proofs.Common.{all_below, place_pick, ◌≢◌, lt-ltb, nat_lt, number_rows, near_place, near_value, zip_with, ◌&&◌, ◌||◌, not, both}
+use Rattle.polars_compute.proofs.Common.{map-id, ℤ, list_all-map, max_rows, negsuc, nat_le, narrowed, ◌/◌, leb-true, le-leb, is_block_within, blocks_within}
+use Rattle.polars_compute.proofs.Common.{take_all}
 use Rattle.sel_arrow.proofs.Rows.{null_mapped, valid_mapped}
-use Rattle.std.proofs.lemmas.List.Folds.{list_all-append}
-use Rattle.sel_bits.specs.Words.{bits}
-use Rattle.sel_bits.proofs.Packed.{bits_word_of, block_packed}
-use Rattle.sel_bits.proofs.Padded.{word_of_lt}
-use Rattle.std.proofs.Math.Bool.{and-true, and-false, or-false, or-true}
+use Rattle.std.proofs.{lemmas.List.Folds.list_all-append, Math.Bool.and-true, Math.Bool.and-false, Math.Bool.or-false, Math.Bool.or-true}
+use Rattle.sel_bits.{specs.Words.bits, proofs.Packed.bits_word_of, proofs.Packed.block_packed, proofs.Padded.word_of_lt}
 
 -- ---- the row at one index
 

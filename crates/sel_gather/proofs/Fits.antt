@@ -3,8 +3,7 @@ use Rattle.sel_gather.proofs.Common.{All-map, range_with_len, get_or-range_with_
 use Rattle.sel_gather.proofs.Common.{◌∷◌, map, length, get_or, take, refl, sym, ap, ◌∙◌, arith, Option, Some, Bool, true, false, ◌↔◌, nat_le, All-append}
 use Rattle.sel_gather.proofs.Common.{take_all, length-map, get_or-map, leb-true, le-leb, slice_get, rows, type_of, Column, Run, PickFits, expand, unrolled}
 use Rattle.sel_gather.proofs.Common.{picks_of, unrolled_from, first_type}
-use Rattle.std.proofs.Common.{IsTrue}
-use Rattle.std.proofs.lemmas.Option.{get_or_from_slice_get}
+use Rattle.std.proofs.{Common.IsTrue, lemmas.Option.get_or_from_slice_get}
 use Rattle.sel_gather.proofs.RunLists.{length_more, run_at, expand_more, all_at, run_there}
 
 -- The number of rows after one more run.

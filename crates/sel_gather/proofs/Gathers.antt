@@ -1,13 +1,10 @@
 -- Gathering rows one row reference at a time.
-use Rattle.sel_gather.proofs.Common.{common_steps, All-map, ◌≡◌, ℕ, ◌+◌, ◌*◌, ◌%◌, ◌^◌, ◌≤◌, ◌<◌, All, Bool, true, false, List, [], ◌∷◌, ◌++◌, length, take, drop, map}
-use Rattle.sel_gather.proofs.Common.{replicate, get_or, Option, Some, None, zero, suc, refl, ap, sym, subst, ◌∙◌, arith, append_assoc, take-add, length-map}
-use Rattle.sel_gather.proofs.Common.{get_or-map, take_more, map_push, map-append, get_or-take, get_or-drop, drop-map, drop-drop, length-drop, All-get_or}
-use Rattle.sel_gather.proofs.Common.{All-head, All-tail, All-drop, Bits, bits, word_of, found, pick, bit_found, bits_found, IsPicked}
-use Rattle.std.specs.Int.{from_bool}
-use Rattle.std.proofs.lemmas.List.{length-take}
-use Rattle.sel_bits.proofs.Combining.{packed_more}
-use Rattle.sel_bits.proofs.Packed.{word_of-next, word_of-few}
-use Rattle.sel_bits.proofs.Padded.{word_of_lt}
+use Rattle.sel_gather.proofs.Common.{common_steps, All-map, ◌≡◌, ℕ, ◌+◌, ◌*◌, ◌%◌, ◌^◌, ◌≤◌, ◌<◌, All, Bool, true, false, List, [], ◌∷◌, ◌++◌, length, take}
+use Rattle.sel_gather.proofs.Common.{drop, map, replicate, get_or, Option, Some, None, zero, suc, refl, ap, sym, subst, ◌∙◌, arith, append_assoc, take-add}
+use Rattle.sel_gather.proofs.Common.{length-map, get_or-map, take_more, map_push, map-append, get_or-take, get_or-drop, drop-map, drop-drop, length-drop}
+use Rattle.sel_gather.proofs.Common.{All-get_or, All-head, All-tail, All-drop, Bits, bits, word_of, found, pick, bit_found, bits_found, IsPicked}
+use Rattle.std.{specs.Int.from_bool, proofs.lemmas.List.length-take}
+use Rattle.sel_bits.proofs.{Combining.packed_more, Padded.word_of_lt, Packed.word_of-next, Packed.word_of-few}
 
 -- One more row reference.
 pub pick_next : {A : Type 0} (d : A) (xss : List (List A)) (ps : List (Option (ℕ × ℕ))) (k : ℕ) → k < length ps →

@@ -1,15 +1,13 @@
 -- The items of the lists of one column, by the start of each list and the ends of all.
-use Rattle.sel_gather.proofs.Common.{common_steps, ◌≡◌, ◌∙◌, ◌+◌, ◌-◌, ◌≤◌, ◌<◌, ◌∷◌, [], ◌++◌, All, Bor, ℕ, ℤ, List, Option, Some, true, not, nat_le, ◌&&◌, refl, ap, sym, arith, length, map, pos, take, drop, get_or}
-use Rattle.sel_gather.proofs.Common.{length-append, length-map-range_with_len, All-append, All-head, All-nil, All-tail, take_all, take_more, le-leb, leb-true, and_first, and_second, both, max_rows, type_of, IsWellFormed}
-use Rattle.sel_gather.proofs.Common.{Null, Value, Column, is_listing, items_in, joined_items, item_ends, item_picks, items_at, found, pick, PickFits, IsPicked, expand, picks_of, unrolled, Run}
-use Rattle.std.proofs.Common.{negsuc, of_z, rules, to_z, w64}
-use Rattle.std.proofs.lemmas.Int.{to_z-of_z}
+use Rattle.sel_gather.proofs.Common.{common_steps, ◌≡◌, ◌∙◌, ◌+◌, ◌-◌, ◌≤◌, ◌<◌, ◌∷◌, [], ◌++◌, All, Bor, ℕ, ℤ, List, Option, Some, true, not, nat_le, ◌&&◌}
+use Rattle.sel_gather.proofs.Common.{refl, ap, sym, arith, length, map, pos, take, drop, get_or, length-append, length-map-range_with_len, All-append, All-head}
+use Rattle.sel_gather.proofs.Common.{All-nil, All-tail, take_all, take_more, le-leb, leb-true, and_first, and_second, both, max_rows, type_of, IsWellFormed}
+use Rattle.sel_gather.proofs.Common.{Null, Value, Column, is_listing, items_in, joined_items, item_ends, item_picks, items_at, found, pick, PickFits, IsPicked}
+use Rattle.sel_gather.proofs.Common.{expand, picks_of, unrolled, Run}
+use Rattle.std.proofs.{Common.negsuc, Common.of_z, Common.rules, Common.to_z, Common.w64, lemmas.Int.to_z-of_z}
 use Rattle.sel_bits.specs.Signs.{is_negative, magnitude}
 use Rattle.sel_gather.specs.Spans.{AreStarts, are_ends, spans}
-use Rattle.sel_gather.proofs.Gathers.{next_below, next_is}
-use Rattle.sel_gather.proofs.ItemPicks.{list_long}
-use Rattle.sel_gather.proofs.ItemRuns.{rows_of}
-use Rattle.sel_gather.proofs.RunLists.{length-unrolled, picked_rows}
+use Rattle.sel_gather.proofs.{Gathers.next_below, Gathers.next_is, ItemPicks.list_long, ItemRuns.rows_of, RunLists.length-unrolled, RunLists.picked_rows}
 
 -- ---- starts
 

@@ -1,15 +1,13 @@
 -- Concatenated binary rows, and the column that is built from them.
 use Rattle.sel_gather.proofs.Common.{common_steps, map-id, ◌≡◌, ℕ, suc, ◌+◌, ◌≤◌, ℤ, pos, List, [], ◌∷◌, ◌++◌, length, take, drop, map, Option, refl, ap, sym}
-use Rattle.sel_gather.proofs.Common.{◌∙◌, arith, get_or, length-append, append_assoc, if◌then◌else◌, take-append-drop, append-nil, map-append}
-use Rattle.sel_gather.proofs.Common.{flat_map-append, Bits, IsOffsets, IsRising, magnitudes, Value, Null, Bytes, validities, is_valid, hidden, pieces}
-use Rattle.sel_gather.proofs.Common.{pieces_after, byte_rows, rows_between, last_offset, length-pieces, Run, ends_from, IsBytesRow, bytes_of, joined_bytes}
-use Rattle.sel_gather.proofs.Common.{AllBytesRows, GrewBy, bytes_needed, pick, unrolled, bits_for}
+use Rattle.sel_gather.proofs.Common.{◌∙◌, arith, get_or, length-append, append_assoc, if◌then◌else◌, take-append-drop, append-nil, map-append, flat_map-append}
+use Rattle.sel_gather.proofs.Common.{Bits, IsOffsets, IsRising, magnitudes, Value, Null, Bytes, validities, is_valid, hidden, pieces, pieces_after, byte_rows}
+use Rattle.sel_gather.proofs.Common.{rows_between, last_offset, length-pieces, Run, ends_from, IsBytesRow, bytes_of, joined_bytes, AllBytesRows, GrewBy}
+use Rattle.sel_gather.proofs.Common.{bytes_needed, pick, unrolled, bits_for}
 use Rattle.sel_bits.specs.Signs.{magnitude}
-use Rattle.sel_gather.specs.declared.binary.Joined.{Joined}
-use Rattle.sel_gather.proofs.RunLists.{length-pick, length-unrolled}
+use Rattle.sel_gather.{specs.declared.binary.Joined.Joined, proofs.RunLists.length-pick, proofs.RunLists.length-unrolled, proofs.Grown.finished}
 use Rattle.sel_gather.proofs.EachRow.{mapped_all, masked_all, picked_all, sources_all}
 use Rattle.sel_gather.proofs.EndsBy.{byte_ends, ends_by-append, ends_by_between, ends_by_last, ends_by_rise, length-bytes_of, pieces_by}
-use Rattle.sel_gather.proofs.Grown.{finished}
 
 -- ---- the number of rows of a run
 

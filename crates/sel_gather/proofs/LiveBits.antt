@@ -1,11 +1,8 @@
 -- Equal bits at the low end of words and of parts of bitmaps.
-use Rattle.sel_gather.proofs.Common.{◌≡◌, ℕ, ◌+◌, ◌-◌, ◌%◌, ◌^◌, ◌<◌, ◌≤◌, ◌==◌, ◌∙◌, ap, sym, refl, arith, cond, Bool, true, false, List, get_or, take, drop, w64, cases_lt}
-use Rattle.sel_gather.proofs.Common.{get_or-drop, get_or-take, word_of}
-use Rattle.std.proofs.Common.{◌/◌, ⊎_elim}
-use Rattle.std.specs.Int.{bit_at, trailing_ones, trailing_zeros}
-use Rattle.sel_bits.specs.Words.{is_set}
-use Rattle.sel_bits.specs.Bits.{bits_from}
-use Rattle.sel_bits.proofs.{BitLists.bits_from_part, Loads.from_byte, Padded.bit_at_word_of}
+use Rattle.sel_gather.proofs.Common.{◌≡◌, ℕ, ◌+◌, ◌-◌, ◌%◌, ◌^◌, ◌<◌, ◌≤◌, ◌==◌, ◌∙◌, ap, sym, refl, arith, cond, Bool, true, false, List, get_or, take, drop}
+use Rattle.sel_gather.proofs.Common.{w64, cases_lt, get_or-drop, get_or-take, word_of}
+use Rattle.std.{proofs.Common.◌/◌, proofs.Common.⊎_elim, specs.Int.bit_at, specs.Int.trailing_ones, specs.Int.trailing_zeros}
+use Rattle.sel_bits.{specs.Words.is_set, specs.Bits.bits_from, proofs.BitLists.bits_from_part, proofs.Loads.from_byte, proofs.Padded.bit_at_word_of}
 use Rattle.sel_gather.specs.KeptPicks.{AreEqualBits}
 use Rattle.std.proofs.lemmas.Nat.Bits.{bit_at-trailing_ones, bit_at-trailing_zeros, bit_at-zero, bit_at_ones}
 

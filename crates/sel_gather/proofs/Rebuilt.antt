@@ -3,12 +3,11 @@ use Rattle.sel_gather.proofs.Common.{fill_by_all, length-range_with_len, ◌≡�
 use Rattle.sel_gather.proofs.Common.{length, take, drop, map, Option, refl, ap, sym, ◌∙◌, arith, get_or, length-append, if◌then◌else◌, slice_range}
 use Rattle.sel_gather.proofs.Common.{range_with_len, length-map, get_or-map, length-replicate, ext_get_or, length-map-range_with_len, get_or-map-range_with_len}
 use Rattle.sel_gather.proofs.Common.{common_steps, max_rows, Bits, IsRising, hidden, Covers, list_of, list_rows, blocks, block_rows, struct_at, struct_rows}
-use Rattle.sel_gather.proofs.Common.{pieces, pieces_after, rows_between, last_offset, rows, well_formed, Value, Values, no_values, next_value, Null}
-use Rattle.sel_gather.proofs.Common.{Items, Tuple, values_of, listed, is_valid, validities, Column, length-pieces, HasLists, HasBlocks, length-rows}
-use Rattle.sel_gather.proofs.Common.{length-blocks, items_in, joined_items, part_at, parts_of, item_ends, bits_for}
+use Rattle.sel_gather.proofs.Common.{pieces, pieces_after, rows_between, last_offset, rows, well_formed, Value, Values, no_values, next_value, Null, Items}
+use Rattle.sel_gather.proofs.Common.{Tuple, values_of, listed, is_valid, validities, Column, length-pieces, HasLists, HasBlocks, length-rows, length-blocks}
+use Rattle.sel_gather.proofs.Common.{items_in, joined_items, part_at, parts_of, item_ends, bits_for}
 use Rattle.std.proofs.lemmas.Simd.{map-map}
-use Rattle.sel_gather.proofs.EndsBy.{ends_by_between, ends_by_last, ends_by_rise, list_ends, pieces_by}
-use Rattle.sel_gather.proofs.Grown.{finished}
+use Rattle.sel_gather.proofs.{EndsBy.ends_by_between, EndsBy.ends_by_last, EndsBy.ends_by_rise, EndsBy.list_ends, EndsBy.pieces_by, Grown.finished}
 pub use Rattle.sel_gather.proofs.EachRow.{picked_all}
 
 -- ---- rows of one layout

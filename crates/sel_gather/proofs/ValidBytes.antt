@@ -1,17 +1,16 @@
 -- Binary rows without nulls: their bytes are contiguous.
-use Rattle.sel_gather.proofs.Common.{common_steps, All-map, ◌≡◌, All, ℕ, zero, suc, ◌+◌, ◌-◌, ◌≤◌, ◌<◌, pos, Bool, true, false, List, [], ◌∷◌, ◌++◌, length, take, drop, map}
-use Rattle.sel_gather.proofs.Common.{replicate, Option, Some, None, refl, ap, sym, subst, ◌∙◌, arith, get_or, true≢false, if◌then◌else◌, is_some, slice_range}
-use Rattle.sel_gather.proofs.Common.{take-add, take_more, take_all, append-nil, drop-drop, get_or-take, get_or-drop, get_or-replicate, length-map}
-use Rattle.sel_gather.proofs.Common.{flat_map-append, Bits, IsRising, binary_rows, Covers, valid_at, byte_rows, last_offset, rows_between, Value, Null, Bytes}
-use Rattle.sel_gather.proofs.Common.{is_valid, validities, length-byte_rows, null_bytes, valid_bytes, length-part, cleared, IsLive, ends_from, bytes_of}
-use Rattle.sel_gather.proofs.Common.{joined_bytes, byte_count, bytes_needed, found, pick, PickFits, picks_of, unrolled, IsNear, Run}
-use Rattle.sel_gather.proofs.Common.{Collects, Column, ExceedsBytes, ExceedsNone, IfOk, IsLimitOrMemory, IsWellFormed, PolarsError, Result, rows, type_of}
+use Rattle.sel_gather.proofs.Common.{common_steps, All-map, ◌≡◌, All, ℕ, zero, suc, ◌+◌, ◌-◌, ◌≤◌, ◌<◌, pos, Bool, true, false, List, [], ◌∷◌, ◌++◌, length}
+use Rattle.sel_gather.proofs.Common.{take, drop, map, replicate, Option, Some, None, refl, ap, sym, subst, ◌∙◌, arith, get_or, true≢false, if◌then◌else◌}
+use Rattle.sel_gather.proofs.Common.{is_some, slice_range, take-add, take_more, take_all, append-nil, drop-drop, get_or-take, get_or-drop, get_or-replicate}
+use Rattle.sel_gather.proofs.Common.{length-map, flat_map-append, Bits, IsRising, binary_rows, Covers, valid_at, byte_rows, last_offset, rows_between, Value}
+use Rattle.sel_gather.proofs.Common.{Null, Bytes, is_valid, validities, length-byte_rows, null_bytes, valid_bytes, length-part, cleared, IsLive, ends_from}
+use Rattle.sel_gather.proofs.Common.{bytes_of, joined_bytes, byte_count, bytes_needed, found, pick, PickFits, picks_of, unrolled, IsNear, Run, Collects, Column}
+use Rattle.sel_gather.proofs.Common.{ExceedsBytes, ExceedsNone, IfOk, IsLimitOrMemory, IsWellFormed, PolarsError, Result, rows, type_of}
 use Rattle.std.specs.Prelude.{IfErr}
-use Rattle.sel_arrow.specs.Shape.{of_large_binary}
+use Rattle.sel_arrow.specs.{Shape.of_large_binary, declared.binary.BinaryArray.BinaryArray}
 use Rattle.sel_bits.specs.declared.native.NativeType.{Ghosts}
-use Rattle.sel_arrow.specs.declared.binary.BinaryArray.{BinaryArray}
 use Rattle.sel_gather.proofs.JoinedRows.{ends-append, length-joined, needed-append, needed_part}
-use Rattle.sel_gather.proofs.{SplitRuns.bit_at, SplitRuns.null_bits, Gathers.map-replicate, Grown.source_rows, RunLists.run_there, RunLists.pick_run}
+use Rattle.sel_gather.proofs.{SplitRuns.bit_at, SplitRuns.null_bits, RunLists.run_there, RunLists.pick_run, Gathers.map-replicate, Grown.source_rows}
 
 -- ---- contiguous parts of a list
 

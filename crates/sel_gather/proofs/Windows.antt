@@ -2,8 +2,7 @@
 use Rattle.sel_gather.proofs.Common.{◌≡◌, ℕ, zero, suc, ◌+◌, ◌-◌, ◌≤◌, ◌<◌, Bool, true, false, List, [], ◌∷◌, ◌++◌, length, take, drop, get_or, replicate, refl}
 use Rattle.sel_gather.proofs.Common.{ap, ◌∙◌, arith, append_assoc, cond, count_by, not, take-append-add, take_more, take_all, take-take, get_or-drop}
 use Rattle.sel_gather.proofs.Common.{replicate-append-replicate}
-use Rattle.std.proofs.Common.{length-drop}
-use Rattle.std.proofs.lemmas.List.Sums.{sum_by-cons}
+use Rattle.std.proofs.{Common.length-drop, lemmas.List.Sums.sum_by-cons}
 
 pub window_more : {A : Type 0} (xs : List A) (a i : ℕ) (d : A) → a + i < length xs → take (i + 1) (drop a xs) ≡ take i (drop a xs) ++ get_or xs (a + i) d ∷ []
 window_more xs a i d h =

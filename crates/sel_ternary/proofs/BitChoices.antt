@@ -1,9 +1,8 @@
 -- If-then-else of bits, as bitmap operations.
-use Rattle.sel_ternary.proofs.Common.{◌≡◌, refl, ap, arith, List, [], ◌∷◌, length, map, Bool, true, false, not, ◌&&◌, zip_with, broadcast_true}
-use Rattle.sel_ternary.proofs.Common.{broadcast_false, broadcast_both, if◌then◌else◌}
-use Rattle.std.proofs.Common.{◌||◌}
+use Rattle.sel_ternary.proofs.Common.{◌≡◌, refl, ap, arith, List, [], ◌∷◌, length, map, Bool, true, false, not, ◌&&◌, zip_with, broadcast_true, broadcast_false}
+use Rattle.sel_ternary.proofs.Common.{broadcast_both, if◌then◌else◌}
+use Rattle.std.proofs.{Common.◌||◌, Math.Bool.or-true, Math.Bool.or-false, Math.Bool.and-true, Math.Bool.and-false}
 use Rattle.sel_ternary.proofs.Chosen.{two_equal}
-use Rattle.std.proofs.Math.Bool.{or-true, or-false, and-true, and-false}
 
 -- A bitmap operation is an if-then-else with a broadcast value if it is one at each bit.
 by_bit_true : (p : Bool → Bool → Bool) (x : Bool) → ((f m : Bool) → p f m ≡ (if m then x else f)) → (ms fs : List Bool) → length fs ≡ length ms → zip_with p fs ms ≡ broadcast_true ms x fs

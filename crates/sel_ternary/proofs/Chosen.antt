@@ -1,16 +1,12 @@
 -- If-then-else of lists, part by part.
-use Rattle.sel_ternary.proofs.Common.{common_steps, ◌≡◌, ℕ, suc, ◌+◌, ◌/◌, ◌^◌, ◌<◌, ◌≤◌, ◌∙◌, sym, refl, ap, arith, List, [], ◌∷◌, ◌++◌, length, get_or, take, drop}
-use Rattle.sel_ternary.proofs.Common.{replicate, map, Bool, if◌then◌else◌, eq-eqb, append_assoc, append-nil, length-replicate, get_or-replicate, take_all, bits}
-use Rattle.sel_ternary.proofs.Common.{is_set, length_bits, get_bits, choose, broadcast_true, broadcast_false, broadcast_both, true, false}
-use Rattle.sel_ternary.proofs.Common.{Value, chosen_rows, first_row}
+use Rattle.sel_ternary.proofs.Common.{common_steps, ◌≡◌, ℕ, suc, ◌+◌, ◌/◌, ◌^◌, ◌<◌, ◌≤◌, ◌∙◌, sym, refl, ap, arith, List, [], ◌∷◌, ◌++◌, length, get_or, take}
+use Rattle.sel_ternary.proofs.Common.{drop, replicate, map, Bool, if◌then◌else◌, eq-eqb, append_assoc, append-nil, length-replicate, get_or-replicate, take_all}
+use Rattle.sel_ternary.proofs.Common.{bits, is_set, length_bits, get_bits, choose, broadcast_true, broadcast_false, broadcast_both, true, false, Value}
+use Rattle.sel_ternary.proofs.Common.{chosen_rows, first_row}
 use Rattle.sel_ternary.specs.Chosen.{SideFits, spread_rows}
-use Rattle.std.proofs.lemmas.List.{length-take, drop-drop, set_split, take-append-le, get_or_default}
-use Rattle.std.proofs.Common.{◌≢◌, bit_and}
-use Rattle.std.specs.Int.{bit_at}
-use Rattle.std.proofs.Math.ListN.{set, drop_of_length-le, get_or-map}
-use Rattle.std.proofs.Math.Seq.{take-add, drop-cons, drop-append-add}
-use Rattle.std.proofs.lemmas.Bool.{ne_eqb}
-use Rattle.std.proofs.lemmas.Nat.Bits.{shr_and_one}
+use Rattle.std.proofs.lemmas.{List.length-take, List.drop-drop, List.set_split, List.take-append-le, List.get_or_default, Bool.ne_eqb, Nat.Bits.shr_and_one}
+use Rattle.std.{proofs.Common.◌≢◌, proofs.Common.bit_and, specs.Int.bit_at}
+use Rattle.std.proofs.Math.{ListN.set, ListN.drop_of_length-le, ListN.get_or-map, Seq.take-add, Seq.drop-cons, Seq.drop-append-add}
 
 -- ---- a broadcast value equals the list that repeats it
 

@@ -1,19 +1,12 @@
 -- If-then-else by vector operations.
-use Rattle.sel_ternary.proofs.Common.{common_steps, ◌≡◌, ℕ, ℤ, zero, suc, ◌+◌, ◌*◌, ◌/◌, ◌^◌, ◌<◌, ◌≤◌, ◌∙◌, sym, refl, ap, arith, List, [], ◌∷◌, ◌++◌, length, map, take}
-use Rattle.sel_ternary.proofs.Common.{drop, Bool, true, false, ◌==◌, if◌then◌else◌, vec_capacity, eq-eqb, append_assoc, append-nil, length-append, take_all}
-use Rattle.sel_ternary.proofs.Common.{Bits, WordReading, reached, bits, is_set, get_bits, length_bits, length_part, choose, all_ones}
+use Rattle.sel_ternary.proofs.Common.{common_steps, ◌≡◌, ℕ, ℤ, zero, suc, ◌+◌, ◌*◌, ◌/◌, ◌^◌, ◌<◌, ◌≤◌, ◌∙◌, sym, refl, ap, arith, List, [], ◌∷◌, ◌++◌, length}
+use Rattle.sel_ternary.proofs.Common.{map, take, drop, Bool, true, false, ◌==◌, if◌then◌else◌, vec_capacity, eq-eqb, append_assoc, append-nil, length-append}
+use Rattle.sel_ternary.proofs.Common.{take_all, Bits, WordReading, reached, bits, is_set, get_bits, length_bits, length_part, choose, all_ones}
 use Rattle.std.proofs.Common.{◌%◌, bit_and, nat_eq, pow_pos}
-use Rattle.std.specs.Prelude.{Vec}
-use Rattle.std.specs.Global.{Global}
-use Rattle.std.specs.Int.{bit_at}
-use Rattle.std.specs.List.{range_with_len}
-use Rattle.std.specs.Simd.Lanes.{sel_l, Each1}
-use Rattle.std.proofs.lemmas.Bool.{ne_eqb}
-use Rattle.std.proofs.lemmas.Nat.Bits.{and_pow, bit_at-lt}
+use Rattle.std.specs.{Prelude.Vec, Int.bit_at, Global.Global, List.range_with_len, Simd.Lanes.sel_l, Simd.Lanes.Each1}
+use Rattle.std.proofs.lemmas.{Bool.ne_eqb, Simd.map-map, Nat.Bits.and_pow, Nat.Bits.bit_at-lt}
 use Rattle.std.proofs.lemmas.List.{get_or-drop, get_or-take, length-take, same_lists}
-use Rattle.std.proofs.lemmas.Simd.{map-map}
-use Rattle.sel_bits.proofs.Packs.{bits_same, bits_split}
-use Rattle.sel_bits.proofs.Shifts.{bit_at_mod, bit_at_shr}
+use Rattle.sel_bits.proofs.{Packs.bits_same, Packs.bits_split, Shifts.bit_at_mod, Shifts.bit_at_shr}
 use Rattle.sel_ternary.proofs.Chosen.{AsLong, chosen_end, chosen_more, chosen_to}
 
 -- ---- the lanes of set bits

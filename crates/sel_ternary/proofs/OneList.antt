@@ -3,15 +3,10 @@ use Rattle.sel_ternary.proofs.Common.{◌≡◌, ℕ, zero, suc, ◌+◌, ◌≤
 use Rattle.sel_ternary.proofs.Common.{append-nil, rows, well_formed, Value, Null, Column, joined_items}
 use Rattle.std.specs.Prelude.{nat_le}
 use Rattle.sel_bits.specs.Limits.{max_rows}
-use Rattle.sel_arrow.specs.Masked.{covers, is_few}
-use Rattle.sel_arrow.specs.Nested.{list_of}
-use Rattle.sel_arrow.specs.Pieces.{rows_between, last_offset, is_rising}
-use Rattle.sel_arrow.specs.Rows.{row_count}
-use Rattle.sel_arrow.specs.Value.{listed, values_of}
+use Rattle.sel_arrow.specs.{Masked.covers, Masked.is_few, Value.listed, Value.values_of}
+use Rattle.sel_arrow.specs.{Nested.list_of, Rows.row_count, Pieces.rows_between, Pieces.last_offset, Pieces.is_rising}
 use Rattle.sel_arrow.proofs.NestedRows.{lists_formed, blocks_formed}
-use Rattle.sel_gather.specs.Ends.{item_ends}
-use Rattle.sel_gather.proofs.ItemRuns.{listed_values}
-use Rattle.sel_gather.proofs.Rebuilt.{IsBlock, lists_fit, blocks_fit}
+use Rattle.sel_gather.{specs.Ends.item_ends, proofs.ItemRuns.listed_values, proofs.Rebuilt.IsBlock, proofs.Rebuilt.lists_fit, proofs.Rebuilt.blocks_fit}
 
 -- The only row.
 abbrev only : List Value → List Value

@@ -1,26 +1,16 @@
 -- If-then-else of struct columns without a validity, field by field.
-use Rattle.sel_ternary.proofs.Common.{common_steps, ◌≡◌, All, ℕ, zero, suc, ◌<◌, ◌≤◌, Bool, true, List, [], ◌∷◌, length, map, replicate, Option, Some, None, refl, ap, sym}
-use Rattle.sel_ternary.proofs.Common.{subst, ◌∙◌, arith, get_or, rows, type_of, well_formed, Shape, of_null, of_struct, shape_list, Value, Null, Column}
-use Rattle.sel_ternary.proofs.Common.{length-rows, field, part_at, ExceedsNone, IsLimitOrMemory, exceeded_taken, pick, refused_more, size_of, chosen_rows}
+use Rattle.sel_ternary.proofs.Common.{common_steps, ◌≡◌, All, ℕ, zero, suc, ◌<◌, ◌≤◌, Bool, true, List, [], ◌∷◌, length, map, replicate, Option, Some, None}
+use Rattle.sel_ternary.proofs.Common.{refl, ap, sym, subst, ◌∙◌, arith, get_or, rows, type_of, well_formed, Shape, of_null, of_struct, shape_list, Value, Null}
+use Rattle.sel_ternary.proofs.Common.{Column, length-rows, field, part_at, ExceedsNone, IsLimitOrMemory, exceeded_taken, pick, refused_more, size_of}
+use Rattle.sel_ternary.proofs.Common.{chosen_rows}
 use Rattle.sel_bits.specs.declared.faults.PolarsError.{PolarsError}
-use Rattle.sel_ternary.specs.ChosenPicks.{chosen_picks}
-use Rattle.sel_arrow.specs.Rows.{buffers_held, rows_of_each, types_of_each}
-use Rattle.sel_arrow.specs.declared.column.Column.TheVariants.{Struct'}
-use Rattle.std.specs.List.{range_with_len}
-use Rattle.std.proofs.lemmas.List.Elements.{All-head, All-tail}
-use Rattle.sel_arrow.specs.Nested.{struct_at}
-use Rattle.sel_arrow.specs.Shape.{Shapes, no_shapes, next_shape}
-use Rattle.sel_arrow.specs.Value.{is_valid, validities}
-use Rattle.sel_gather.specs.Children.{fields_of}
-use Rattle.sel_gather.specs.Picks.{found, PickFits}
-use Rattle.sel_gather.specs.Plans.{IsPicked}
-use Rattle.sel_gather.proofs.Depths.{sizes_of}
-use Rattle.sel_gather.proofs.Layouts.{rows_tuples}
-use Rattle.sel_gather.proofs.Rebuilt.{IsTuple, picked_all}
-use Rattle.sel_gather.proofs.RunLists.{length-pick}
+use Rattle.sel_ternary.specs.{ChosenPicks.chosen_picks, Chosen.SideFits, Structs.is_bare}
+use Rattle.sel_arrow.specs.{Rows.buffers_held, Rows.rows_of_each, Rows.types_of_each, Nested.struct_at, Value.is_valid, Value.validities}
+use Rattle.sel_arrow.specs.{declared.column.Column.TheVariants.Struct', Shape.Shapes, Shape.no_shapes, Shape.next_shape}
+use Rattle.std.{specs.List.range_with_len, proofs.lemmas.List.Elements.All-head, proofs.lemmas.List.Elements.All-tail}
+use Rattle.sel_gather.specs.{Children.fields_of, Plans.IsPicked, Picks.found, Picks.PickFits}
+use Rattle.sel_gather.proofs.{Depths.sizes_of, Layouts.rows_tuples, Rebuilt.IsTuple, Rebuilt.picked_all, RunLists.length-pick}
 use Rattle.sel_gather.proofs.TupleRows.{field_row, field_type, field_formed}
-use Rattle.sel_ternary.specs.Chosen.{SideFits}
-use Rattle.sel_ternary.specs.Structs.{is_bare}
 use Rattle.sel_ternary.proofs.ChosenPicks.{choice_fits, choice_picked, chosen_long, chosen_picked}
 use Rattle.sel_ternary.proofs.SameNeeds.{AllLike, fields_long, same_needs, turned}
 

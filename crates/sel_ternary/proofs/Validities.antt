@@ -1,12 +1,10 @@
 -- The rows of an if-then-else under its validity.
-use Rattle.sel_ternary.proofs.Common.{common_steps, ◌≡◌, ℕ, zero, suc, ◌∙◌, sym, refl, ap, arith, List, [], ◌∷◌, length, map, replicate, Bool, true, false, not, Option, Some}
-use Rattle.sel_ternary.proofs.Common.{None, if◌then◌else◌, length-map, length-replicate, Bits, zip_with, hidden, masked, Covers, Value, Null, choose}
-use Rattle.sel_ternary.proofs.Common.{broadcast_true, broadcast_false, broadcast_both, chosen_validity, few_rows_pass}
-use Rattle.std.proofs.Common.{◌||◌}
-use Rattle.std.specs.Option.{option_map}
+use Rattle.sel_ternary.proofs.Common.{common_steps, ◌≡◌, ℕ, zero, suc, ◌∙◌, sym, refl, ap, arith, List, [], ◌∷◌, length, map, replicate, Bool, true, false, not}
+use Rattle.sel_ternary.proofs.Common.{Option, Some, None, if◌then◌else◌, length-map, length-replicate, Bits, zip_with, hidden, masked, Covers, Value, Null}
+use Rattle.sel_ternary.proofs.Common.{choose, broadcast_true, broadcast_false, broadcast_both, chosen_validity, few_rows_pass}
+use Rattle.std.{proofs.Common.◌||◌, specs.Option.option_map}
 use Rattle.sel_arrow.proofs.Rows.{length-mapped}
-use Rattle.sel_ternary.proofs.Chosen.{length-choose, repeated_then, repeated_otherwise, repeated_both}
-use Rattle.sel_ternary.proofs.BitChoices.{or_true}
+use Rattle.sel_ternary.proofs.{Chosen.length-choose, Chosen.repeated_then, Chosen.repeated_otherwise, Chosen.repeated_both, BitChoices.or_true}
 
 -- The results of bitmap operations if the true or the false values have no validity.
 pub or_chosen : (ms fs : List Bool) → length fs ≡ length ms → zip_with (λ x y. x || y) ms fs ≡ choose ms (replicate (length ms) true) fs

@@ -1,22 +1,13 @@
 -- Broadcast rows by the kernels of their types, and null rows by a validity.
-use Rattle.sel_ternary.proofs.Common.{common_steps, ◌≡◌, ℕ, suc, ◌<◌, ◌∙◌, Bool, true, false, not, ◌&&◌, List, [], ◌∷◌, length, map, get_or, refl, ap, sym, subst, arith}
-use Rattle.sel_ternary.proofs.Common.{replicate, Option, None, if◌then◌else◌, list_all, append-nil, Bits, zip_with, hidden, Covers, Value, Null, Bytes, View}
-use Rattle.sel_ternary.proofs.Common.{pick, choose, first_row}
+use Rattle.sel_ternary.proofs.Common.{common_steps, ◌≡◌, ℕ, suc, ◌<◌, ◌∙◌, Bool, true, false, not, ◌&&◌, List, [], ◌∷◌, length, map, get_or, refl, ap, sym}
+use Rattle.sel_ternary.proofs.Common.{subst, arith, replicate, Option, None, if◌then◌else◌, list_all, append-nil, Bits, zip_with, hidden, Covers, Value, Null}
+use Rattle.sel_ternary.proofs.Common.{Bytes, View, pick, choose, first_row}
 use Rattle.sel_ternary.specs.Chosen.{chosen_rows, spread_rows, SideFits}
-use Rattle.sel_arrow.specs.Texts.{is_text}
-use Rattle.std.proofs.Common.{◌≢◌, ⊎_elim}
-use Rattle.std.specs.Prelude.{count_by}
-use Rattle.sel_arrow.specs.Masked.{valid_at}
-use Rattle.sel_arrow.specs.Value.{is_null}
-use Rattle.sel_arrow.specs.Views.{view_bytes, view_rows}
-use Rattle.sel_arrow.proofs.Lists.{both, and_first, and_second}
-use Rattle.sel_arrow.proofs.ViewRows.{length-view_rows, null_view, valid_view}
-use Rattle.sel_gather.specs.Runs.{expand, unrolled}
-use Rattle.sel_gather.proofs.RunLists.{map_nulls}
-use Rattle.sel_ternary.proofs.SameNeeds.{held_count}
-use Rattle.std.proofs.lemmas.Bool.{cases_Bool}
-use Rattle.sel_ternary.proofs.Chosen.{chosen_spread, length-spread, two_equal}
-use Rattle.sel_ternary.proofs.Placed.{texts}
+use Rattle.sel_arrow.specs.{Texts.is_text, Value.is_null, Masked.valid_at, Views.view_bytes, Views.view_rows}
+use Rattle.std.{proofs.Common.◌≢◌, proofs.Common.⊎_elim, proofs.lemmas.Bool.cases_Bool, specs.Prelude.count_by}
+use Rattle.sel_arrow.proofs.{Lists.both, Lists.and_first, Lists.and_second, ViewRows.length-view_rows, ViewRows.null_view, ViewRows.valid_view}
+use Rattle.sel_gather.{specs.Runs.expand, specs.Runs.unrolled, proofs.RunLists.map_nulls}
+use Rattle.sel_ternary.proofs.{SameNeeds.held_count, Placed.texts, Chosen.chosen_spread, Chosen.length-spread, Chosen.two_equal}
 
 -- ---- the only row of a column
 

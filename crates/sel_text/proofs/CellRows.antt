@@ -1,16 +1,15 @@
 -- One row of a column with children.
-use Rattle.std.proofs.Common.{◌≡◌, ℕ, ◌+◌, ◌-◌, ◌*◌, ◌≤◌, ◌<◌, true, false, All, List, [], length, map, Option, Vec, Box, Global, ap, sym, ◌∙◌, arith, get_or, IsTrue}
-use Rattle.sel_text.proofs.Common.{slice_range, range_with_len, is_utf8, All-weaker, max_rows, Bits, valid_at, list_of, struct_at, blocks, pieces, rows_between, rows, row_count, type_of, well_formed, IsWellFormed, IsField, shapes_of, Null, Column, LargeList, FixedSizeList, Struct, utf8view_rows, is_text, is_placed, view_bytes, view_rows, View, all_at, HasCellRow, part_shapes}
-use Rattle.std.specs.Option.{ForSome}
+use Rattle.std.proofs.Common.{◌≡◌, ℕ, ◌+◌, ◌-◌, ◌*◌, ◌≤◌, ◌<◌, true, false, All, List, [], length, map, Option, Vec, Box, Global, ap, sym, ◌∙◌, arith, get_or}
+use Rattle.std.proofs.Common.{IsTrue}
+use Rattle.sel_text.proofs.Common.{slice_range, range_with_len, is_utf8, All-weaker, max_rows, Bits, valid_at, list_of, struct_at, blocks, pieces, rows_between}
+use Rattle.sel_text.proofs.Common.{rows, row_count, type_of, well_formed, IsWellFormed, IsField, shapes_of, Null, Column, LargeList, FixedSizeList, Struct}
+use Rattle.sel_text.proofs.Common.{utf8view_rows, is_text, is_placed, view_bytes, view_rows, View, all_at, HasCellRow, part_shapes}
+use Rattle.std.{specs.Option.ForSome, proofs.Math.Nat.mul-le-mul_right}
 use Rattle.std.proofs.lemmas.List.FromFn.{get_or-map-range_with_len, length-range_with_len, get_or-range_with_len}
-use Rattle.std.proofs.Math.Nat.{mul-le-mul_right}
-use Rattle.sel_arrow.proofs.ByteRows.{length-pieces, get_or-pieces}
+use Rattle.sel_arrow.proofs.{ByteRows.length-pieces, ByteRows.get_or-pieces, Trees.HasFields, Trees.has_fields, Trees.rows-Struct}
 use Rattle.sel_arrow.proofs.NestedRows.{HasLists, HasBlocks, has_lists, has_blocks, length-rows, length-blocks}
-use Rattle.sel_arrow.proofs.Rows.{null_mapped, valid_mapped}
-use Rattle.sel_arrow.proofs.Trees.{HasFields, has_fields, rows-Struct}
+use Rattle.sel_arrow.proofs.{Rows.null_mapped, Rows.valid_mapped, Types.struct_type, ViewRows.length-view_rows, ViewRows.placed_at, ViewRows.valid_view}
 use Rattle.sel_arrow.specs.declared.utf8view.Utf8ViewArray.{Utf8ViewArray}
-use Rattle.sel_arrow.proofs.ViewRows.{length-view_rows, placed_at, valid_view}
-use Rattle.sel_arrow.proofs.Types.{struct_type}
 
 -- ---- lists
 

@@ -2,9 +2,7 @@
 use Rattle.std.proofs.Common.{◌≡◌, ℕ, ℤ, pos, negsuc, suc, ◌^◌, ◌<◌, true, List, ◌++◌, ap, sym, ◌∙◌, ◌∷◌, drop, arith, ◌-ℤ◌, FitsSigned}
 use Rattle.sel_text.proofs.Common.{nat_tests, common_steps, decimal, signed_decimal, w128, Shape, NoDigit, fits_number}
 use mir.Val.{to_z, of_z}
-use Rattle.sel_text.proofs.Decoded.{no_minus}
-use Rattle.sel_text.proofs.Ends.{numeral_is}
-use Rattle.sel_text.proofs.Told.{small_number, small_below}
+use Rattle.sel_text.proofs.{Decoded.no_minus, Ends.numeral_is, Told.small_number, Told.small_below}
 
 -- A negative number that fits a type has one bit less.
 pub below_small : (s : Shape) (n : ℕ) → fits_number s (negsuc n) ≡ true → suc n < 2 ^ 128

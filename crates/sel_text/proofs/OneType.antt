@@ -1,11 +1,9 @@
 -- Types with the same text are equal.
 use Rattle.std.proofs.Common.{◌≡◌, ℕ, ◌<◌, true, List, [], ◌∷◌, ◌++◌, drop, get_or, refl, ap, sym, ◌∙◌, arith, lit<, append_assoc, ◌^◌, codes, Some, unwrap_or}
-use Rattle.sel_text.proofs.Common.{decimal, Shape, Shapes, no_shapes, next_shape, of_large_list, of_fixed_size_list, of_struct, and_first, and_second, angled, type_text, type_texts, spelled, widths_written, all_widths_written}
-use Rattle.sel_text.specs.Laws.{TextDeterminesType}
-use Rattle.sel_text.proofs.Commas.{after}
-use Rattle.sel_text.proofs.Ends.{numbers_told}
-use Rattle.sel_text.proofs.Fields.{behind_bracket, block_narrow, no_types}
-use Rattle.sel_text.proofs.TypesTold.{plain_told, blocks_told, tuples_told}
+use Rattle.sel_text.proofs.Common.{decimal, Shape, Shapes, no_shapes, next_shape, of_large_list, of_fixed_size_list, of_struct, and_first, and_second, angled}
+use Rattle.sel_text.proofs.Common.{type_text, type_texts, spelled, widths_written, all_widths_written}
+use Rattle.sel_text.{specs.Laws.TextDeterminesType, proofs.TypesTold.plain_told, proofs.TypesTold.blocks_told, proofs.TypesTold.tuples_told}
+use Rattle.sel_text.proofs.{Commas.after, Ends.numbers_told, Fields.behind_bracket, Fields.block_narrow, Fields.no_types}
 
 -- ---- texts that begin with a type
 

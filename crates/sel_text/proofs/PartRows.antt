@@ -1,17 +1,15 @@
 -- The fields of struct rows, and struct rows made of fields.
-use Rattle.std.proofs.Common.{◌≡◌, ℕ, zero, suc, ◌+◌, ◌<◌, true, false, ◌==◌, List, [], ◌∷◌, ◌++◌, map, length, take, get_or, Option, Some, refl, sym, ap, ◌∙◌, arith, append_assoc, not, slice_index_or}
-use Rattle.std.proofs.lemmas.Simd.{map-map}
-use Rattle.sel_text.proofs.Common.{all_at, common_steps, or_left, or_right, list_all, range_with_len, nat_tests, length-map, length-take, map-append, map_more, Bits, Malformed, TooManyRows, FieldLength, ValidityLength, shape_of, struct_fault, masked, too_many, validity_differs, Covers, struct_at, struct_rows, rows, row_count, type_of, Shape, of_struct, shapes_of, Value, Null, Tuple, Values, no_values, next_value, values_of, listed, is_valid, ArrayRef, ArrowDataType, both, and_first, and_second, parts_below, HasParts, fits, fields_fit, any_exceeds_limit, part_in, exceeds_limit, ShowsRows, NullSlots}
-use Rattle.std.proofs.lemmas.List.FromFn.{fill_by_all, map-range_with_len_more}
-use Rattle.sel_arrow.specs.NestedArrays.{struct_column}
-use Rattle.sel_arrow.specs.declared.structure.StructArray.{StructArray}
-use Rattle.sel_arrow.proofs.NestedRows.{length-rows}
-use Rattle.sel_arrow.proofs.Trees.{rows-Struct}
-use Rattle.sel_arrow.proofs.Types.{type_of-Struct}
-use Rattle.sel_text.proofs.ItemRows.{values_back}
-use Rattle.sel_text.proofs.Making.{first_of_three}
-use Rattle.sel_text.proofs.Refusals.{no_difference}
-use Rattle.sel_text.proofs.Shown.{show_next}
+use Rattle.std.proofs.Common.{◌≡◌, ℕ, zero, suc, ◌+◌, ◌<◌, true, false, ◌==◌, List, [], ◌∷◌, ◌++◌, map, length, take, get_or, Option, Some, refl, sym, ap, ◌∙◌}
+use Rattle.std.proofs.Common.{arith, append_assoc, not, slice_index_or}
+use Rattle.std.proofs.lemmas.{Simd.map-map, List.FromFn.fill_by_all, List.FromFn.map-range_with_len_more}
+use Rattle.sel_text.proofs.Common.{all_at, common_steps, or_left, or_right, list_all, range_with_len, nat_tests, length-map, length-take, map-append, map_more}
+use Rattle.sel_text.proofs.Common.{Bits, Malformed, TooManyRows, FieldLength, ValidityLength, shape_of, struct_fault, masked, too_many, validity_differs}
+use Rattle.sel_text.proofs.Common.{Covers, struct_at, struct_rows, rows, row_count, type_of, Shape, of_struct, shapes_of, Value, Null, Tuple, Values, no_values}
+use Rattle.sel_text.proofs.Common.{next_value, values_of, listed, is_valid, ArrayRef, ArrowDataType, both, and_first, and_second, parts_below, HasParts, fits}
+use Rattle.sel_text.proofs.Common.{fields_fit, any_exceeds_limit, part_in, exceeds_limit, ShowsRows, NullSlots}
+use Rattle.sel_arrow.specs.{NestedArrays.struct_column, declared.structure.StructArray.StructArray}
+use Rattle.sel_arrow.proofs.{NestedRows.length-rows, Trees.rows-Struct, Types.type_of-Struct}
+use Rattle.sel_text.proofs.{ItemRows.values_back, Shown.show_next, Making.first_of_three, Refusals.no_difference}
 
 -- ---- the field values fit their types
 

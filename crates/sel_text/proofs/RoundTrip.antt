@@ -1,11 +1,9 @@
 -- What is printed is parsed again.
 use Rattle.std.proofs.Common.{arith, ◌≡◌, ℕ, ◌≤◌, ◌<◌, true, List, [], Option, Some, None, Ok, Err, ap, sym, subst, ◌∙◌, IfErr, IfOk, IsTrue, Result}
-use Rattle.sel_text.proofs.Common.{common_steps, list_all, shape_of, depth, rows, type_of, Shape, Value, Column, ArrowDataType, fits, RowsFit, spelled, IsLimitOrMemoryError, text_of, type_text, widths_written}
-use Rattle.sel_text.specs.declared.text_error.TextError.{TextError}
-use Rattle.sel_text.specs.declared.text_error.TextError.TheVariants.{Limit}
-use Rattle.sel_text.proofs.OneType.{one_type}
-use Rattle.sel_text.proofs.SpelledRows.{rows_spelled, type_spelled}
-use Rattle.sel_text.proofs.Told.{texts_tell}
+use Rattle.sel_text.proofs.Common.{common_steps, list_all, shape_of, depth, rows, type_of, Shape, Value, Column, ArrowDataType, fits, RowsFit, spelled}
+use Rattle.sel_text.proofs.Common.{IsLimitOrMemoryError, text_of, type_text, widths_written}
+use Rattle.sel_text.specs.declared.text_error.TextError.{TextError, TheVariants.Limit}
+use Rattle.sel_text.proofs.{OneType.one_type, Told.texts_tell, SpelledRows.rows_spelled, SpelledRows.type_spelled}
 
 abbrev bytes_of : Option (List ℕ) → List ℕ
 bytes_of None = []

@@ -1,10 +1,9 @@
 -- Rows that are repeated, and the rows that an iterator over them has left.
-use Rattle.std.proofs.Common.{◌≡◌, Bor, ℕ, zero, suc, ◌+◌, ◌-◌, ◌*◌, ◌<◌, ◌≤◌, List, [], ◌∷◌, ◌++◌, length, map, take, drop, get_or, replicate, refl, ap, sym, ◌∙◌, arith, append_assoc, length-append, length-drop}
-use Rattle.sel_text.proofs.Common.{flat_map, slice_range, append-nil, drop_more, length-replicate, replicate-append-replicate, length-map, map-append, take_all, take_more, Value, Null, block_in, item_value, rows_read, all_items, repeated, rows_repeated, Item}
-use Rattle.std.proofs.Math.ListN.{get_or-append}
-use Rattle.std.proofs.Math.Seq.{drop-append-add}
-use Rattle.std.proofs.lemmas.List.{get_or-replicate}
-use Rattle.std.proofs.lemmas.List.Concat.{flat_map-append}
+use Rattle.std.proofs.Common.{◌≡◌, Bor, ℕ, zero, suc, ◌+◌, ◌-◌, ◌*◌, ◌<◌, ◌≤◌, List, [], ◌∷◌, ◌++◌, length, map, take, drop, get_or, replicate, refl, ap, sym}
+use Rattle.std.proofs.Common.{◌∙◌, arith, append_assoc, length-append, length-drop}
+use Rattle.sel_text.proofs.Common.{flat_map, slice_range, append-nil, drop_more, length-replicate, replicate-append-replicate, length-map, map-append, take_all}
+use Rattle.sel_text.proofs.Common.{take_more, Value, Null, block_in, item_value, rows_read, all_items, repeated, rows_repeated, Item}
+use Rattle.std.proofs.{Math.ListN.get_or-append, Math.Seq.drop-append-add, lemmas.List.get_or-replicate, lemmas.List.Concat.flat_map-append}
 use Rattle.sel_text.specs.declared.row_runs.RowRun.{RowRun}
 
 -- ---- the rows of runs

@@ -1,9 +1,8 @@
 -- Rows that are not null, by their type.
 use Rattle.std.proofs.Common.{◌≡◌, ◌≢◌, ℕ, true, List, ◌++◌, [], length, drop, append-nil, refl, ap, sym, subst, ◌∙◌, codes}
-use Rattle.sel_text.proofs.Common.{false≢true, Shape, Shapes, of_large_list, of_fixed_size_list, of_struct, Value, Null, Items, Tuple, Values, listed, values_of, and_first, and_second, all_fit, fields_fit, fits_count, bracketed, item_texts, parenthesized, part_texts, text_of}
-use Rattle.sel_text.specs.Readings.{BeginsWith}
-use Rattle.sel_text.proofs.Printed.{listed_texts}
-use Rattle.sel_text.proofs.Told.{unlike}
+use Rattle.sel_text.proofs.Common.{false≢true, Shape, Shapes, of_large_list, of_fixed_size_list, of_struct, Value, Null, Items, Tuple, Values, listed}
+use Rattle.sel_text.proofs.Common.{values_of, and_first, and_second, all_fit, fields_fit, fits_count, bracketed, item_texts, parenthesized, part_texts, text_of}
+use Rattle.sel_text.{specs.Readings.BeginsWith, proofs.Printed.listed_texts, proofs.Told.unlike}
 
 -- `R` holds for each value of a type whose row text the text begins with, and the rest.
 abbrev pub Reads : (Value → List ℕ → Type 0) → Shape → List ℕ → Type 0

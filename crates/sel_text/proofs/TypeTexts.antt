@@ -1,8 +1,7 @@
 -- The texts of types with children.
 use Rattle.std.proofs.Common.{arith, ◌≡◌, ℕ, List, [], ◌∷◌, ◌++◌, map, Vec, Global, refl, ap, sym, ◌∙◌, codes}
 use Rattle.sel_text.proofs.Common.{common_steps, shape_of, shapes_of, angled, type_text, type_texts}
-use Rattle.sel_arrow.specs.declared.datatype.ArrowDataType.{ArrowDataType, Struct}
-use Rattle.sel_arrow.proofs.Types.{struct_shape}
+use Rattle.sel_arrow.{specs.declared.datatype.ArrowDataType.ArrowDataType, specs.declared.datatype.ArrowDataType.Struct, proofs.Types.struct_shape}
 
 abbrev pub text_of_type : ArrowDataType → List ℕ
 text_of_type dtype = type_text (shape_of dtype)

@@ -1,13 +1,8 @@
 -- Rows that a mask and indices select of several columns, as one gather of each.
 use Rattle.std.proofs.Common.{◌≡◌, true, List, [], ◌∷◌, length, refl, ap, ◌∙◌}
-use Rattle.std.specs.Prelude.{◌==◌, ◌&&◌}
-use Rattle.std.specs.List.{list_all}
-use Rattle.std.proofs.lemmas.Bool.Decides.{Decides-eqb}
-use Rattle.sel_arrow.specs.Value.{Value, Null}
-use Rattle.sel_arrow.proofs.Lists.{and_first, and_second}
-use Rattle.polars_compute.specs.Laws.{SelectedRowsAreTaken}
-use Rattle.polars_compute.specs.Pick.{pick}
-use Rattle.polars_compute.specs.SelectRows.{select_rows_of}
+use Rattle.std.{specs.Prelude.◌==◌, specs.Prelude.◌&&◌, specs.List.list_all, proofs.lemmas.Bool.Decides.Decides-eqb}
+use Rattle.sel_arrow.{specs.Value.Value, specs.Value.Null, proofs.Lists.and_first, proofs.Lists.and_second}
+use Rattle.polars_compute.specs.{Laws.SelectedRowsAreTaken, Pick.pick, SelectRows.select_rows_of}
 use Rattle.tour.specs.Together.{rows_at, source_picks}
 
 pub rows_together : SelectedRowsAreTaken → (columns : List (List Value)) (mask indices : List Value) → list_all (λ rows. length rows == length mask) columns ≡ true →

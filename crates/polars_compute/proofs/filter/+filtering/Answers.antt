@@ -1,8 +1,7 @@
 use Rattle.polars_compute.proofs.Common.{◌∙◌, All, ap, sym, subst, map, length, arith, All-get_or, count_true, rows, type_of, well_formed, IsField, shapes_of}
 use Rattle.polars_compute.proofs.Common.{tuples_type, length-rows, length-tuple_rows, rows-Struct, has_fields, type_of-Struct, size_of, sizes_of, one_size}
 use Rattle.polars_compute.proofs.Common.{length-select}
-use Rattle.polars_compute.proofs.KeptColumns.{kept_of, kept_struct_formed, kept_struct_rows}
-use Rattle.polars_compute.proofs.SelectedRows.{fields_more}
+use Rattle.polars_compute.proofs.{KeptColumns.kept_of, KeptColumns.kept_struct_formed, KeptColumns.kept_struct_rows, SelectedRows.fields_more}
 use Rattle.polars_compute.proofs.filter.+filtering.Goals as goal
 
 pub filter_column-filter_struct-requires : goal.filter_column-filter_struct-requires

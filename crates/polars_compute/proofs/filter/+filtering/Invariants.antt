@@ -1,7 +1,6 @@
 -- Termination: each recursive call is on a child or at a smaller measure.
 use Rattle.polars_compute.proofs.Common.{◌+◌, ◌*◌, map, count_true, type_of, shapes_of, size_of, sizes_of}
-use Rattle.polars_compute.proofs.KeptColumns.{kept_of}
-use Rattle.polars_compute.proofs.SelectedRows.{AreFields}
+use Rattle.polars_compute.proofs.{KeptColumns.kept_of, SelectedRows.AreFields}
 use Rattle.polars_compute.proofs.filter.+filtering.Given as goal
 
 abbrev pub decreases-filter_column : goal.decreases-filter_column

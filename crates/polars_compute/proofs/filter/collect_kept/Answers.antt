@@ -1,5 +1,4 @@
-use Rattle.polars_compute.proofs.Common.{◌∙◌, arith, sym, rows}
-use Rattle.polars_compute.proofs.Selects.{kept_few, kept_fit, kept_long, kept_near}
+use Rattle.polars_compute.proofs.{Common.◌∙◌, Common.arith, Common.sym, Common.rows, Selects.kept_few, Selects.kept_fit, Selects.kept_long, Selects.kept_near}
 use Rattle.polars_compute.proofs.filter.collect_kept.Goals as goal
 
 -- ---- long runs

@@ -1,5 +1,4 @@
-use Rattle.polars_compute.proofs.Common.{length, ap}
-use Rattle.polars_compute.proofs.Selects.{kept_covers}
+use Rattle.polars_compute.proofs.{Common.length, Common.ap, Selects.kept_covers}
 use Rattle.polars_compute.proofs.filter.filter_primitive.Goals as goal
 
 pub invariant_of-result-clause-validity_fits : goal.invariant_of-result-clause-validity_fits

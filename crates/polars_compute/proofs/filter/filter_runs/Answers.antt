@@ -1,8 +1,7 @@
-use Rattle.polars_compute.proofs.Common.{◌∷◌, [], ◌∙◌, subst, map, err_from_is_err_and, rows, type_of, Null, pick, memory_alone}
-use Rattle.polars_compute.proofs.Common.{exceeded_limits, exceeded_taken, place_pick, kept}
+use Rattle.polars_compute.proofs.Common.{◌∷◌, [], ◌∙◌, subst, map, err_from_is_err_and, rows, type_of, Null, pick, memory_alone, exceeded_limits}
+use Rattle.polars_compute.proofs.Common.{exceeded_taken, place_pick, kept}
 use Rattle.sel_gather.proofs.OneSource.{one_source}
-use Rattle.polars_compute.proofs.Selects.{picked_kept}
-use Rattle.polars_compute.proofs.LawProofs.{kept_fits}
+use Rattle.polars_compute.proofs.{Selects.picked_kept, LawProofs.kept_fits}
 use Rattle.polars_compute.proofs.filter.filter_runs.Goals as goal
 
 pub returns-in_err-column-clause-refusal : goal.returns-in_err-column-clause-refusal

@@ -2,9 +2,8 @@ use Rattle.polars_compute.proofs.Common.{◌≡◌, ◌≤◌, ◌∙◌, All, p
 use Rattle.polars_compute.proofs.Common.{primitive_rows, rows, type_of, well_formed, IsField, shapes_of, tuples_type, length-rows, length-number_rows}
 use Rattle.polars_compute.proofs.Common.{has_fields, type_of-Struct, refused_more, size_of, sizes_of, one_size, all_within, exceeded_in_taken, live_index, Null}
 use Rattle.polars_compute.proofs.Common.{[], ◌∷◌}
-use Rattle.polars_compute.proofs.Takes.{validity_within, within_as, length-pick}
+use Rattle.polars_compute.proofs.{Takes.validity_within, Takes.within_as, Takes.length-pick, SelectedRows.fields_more}
 use Rattle.polars_compute.proofs.TakenStructs.{taken_of, length-whole, live_within, past_field, struct_exceeded, struct_fits, struct_taken}
-use Rattle.polars_compute.proofs.SelectedRows.{fields_more}
 use Rattle.polars_compute.proofs.gather.+taking.Goals as goal
 
 -- Only a binary column has a limit that its rows can exceed.

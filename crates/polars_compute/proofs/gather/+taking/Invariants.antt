@@ -1,7 +1,6 @@
 -- Termination: each recursive call is on a field or at a smaller measure.
 use Rattle.polars_compute.proofs.Common.{◌+◌, ◌*◌, length, map, primitive_rows, type_of, shapes_of, size_of, sizes_of}
-use Rattle.polars_compute.proofs.TakenStructs.{taken_of}
-use Rattle.polars_compute.proofs.SelectedRows.{AreFields}
+use Rattle.polars_compute.proofs.{TakenStructs.taken_of, SelectedRows.AreFields}
 use Rattle.polars_compute.proofs.gather.+taking.Given as goal
 
 abbrev pub decreases-take_any : goal.decreases-take_any

@@ -1,5 +1,4 @@
-use Rattle.polars_compute.proofs.Common.{◌∙◌, ℕ, ap, replicate, primitive_rows, Null}
-use Rattle.polars_compute.proofs.Takes.{taken_nulls}
+use Rattle.polars_compute.proofs.{Common.◌∙◌, Common.ℕ, Common.ap, Common.replicate, Common.primitive_rows, Common.Null, Takes.taken_nulls}
 use Rattle.polars_compute.proofs.gather.take_nulls.Goals as goal
 
 pub returns : goal.returns

@@ -1,5 +1,4 @@
-use Rattle.polars_compute.proofs.Common.{arith}
-use Rattle.polars_compute.proofs.Flattening.{width_room}
+use Rattle.polars_compute.proofs.{Common.arith, Flattening.width_room}
 use Rattle.polars_compute.proofs.horizontal_flatten.lanes_of_parts.Goals as goal
 
 pub lane_of-requires : goal.lane_of-requires

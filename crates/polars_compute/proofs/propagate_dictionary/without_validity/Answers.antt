@@ -1,6 +1,5 @@
-use Rattle.polars_compute.proofs.Common.{sym, subst, IsTrue, view_value}
+use Rattle.polars_compute.proofs.{Common.sym, Common.subst, Common.IsTrue, Common.view_value, Dictionaries.bare_rows}
 use Rattle.sel_arrow.specs.Texts.{all_text}
-use Rattle.polars_compute.proofs.Dictionaries.{bare_rows}
 use Rattle.polars_compute.proofs.propagate_dictionary.without_validity.Goals as goal
 
 pub invariant_of-result : goal.invariant_of-result

@@ -1,5 +1,4 @@
-use Rattle.std.proofs.Common.{Some, subst, sym, w64, ℤ}
-use Rattle.std.proofs.lemmas.Int.{to_z-of_z}
+use Rattle.std.proofs.{Common.Some, Common.subst, Common.sym, Common.w64, Common.ℤ, lemmas.Int.to_z-of_z}
 use Rattle.sel_ffi.specs.Held.{Held}
 use Rattle.sel_calls.specs.Elements.{GetsListElements}
 use Rattle.sel_c.proofs.lists.sel_list_get.Goals as goal

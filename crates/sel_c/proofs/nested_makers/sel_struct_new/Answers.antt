@@ -1,8 +1,6 @@
 use Rattle.std.proofs.Common.{◌<◌, ℕ, List, subst, sym}
-use Rattle.sel_arrow.specs.Depth.{deepest}
-use Rattle.sel_arrow.specs.Shape.{Shape, shapes_of}
-use Rattle.sel_ffi.specs.Inputs.{struct_rules}
-use Rattle.sel_ffi.specs.Status.{ReportsExactly}
+use Rattle.sel_arrow.specs.{Depth.deepest, Shape.Shape, Shape.shapes_of}
+use Rattle.sel_ffi.specs.{Inputs.struct_rules, Status.ReportsExactly}
 use Rattle.sel_calls.proofs.Counts.{counts_of_rows}
 use Rattle.sel_c.proofs.nested_makers.sel_struct_new.Goals as goal
 

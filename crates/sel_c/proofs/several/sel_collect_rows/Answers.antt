@@ -1,6 +1,5 @@
 use Rattle.std.proofs.Common.{ap, inr, map, ◌∙◌}
-use Rattle.sel_arrow.specs.Rows.{rows, type_of, buffers_held}
-use Rattle.sel_arrow.specs.declared.array_ref.ArrayRef.{ArrayRef}
+use Rattle.sel_arrow.specs.{Rows.rows, Rows.type_of, Rows.buffers_held, declared.array_ref.ArrayRef.ArrayRef}
 use Rattle.sel_calls.proofs.SameNeeds.{pick_held}
 use Rattle.sel_c.proofs.several.sel_collect_rows.Goals as goal
 

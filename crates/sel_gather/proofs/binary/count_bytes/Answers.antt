@@ -1,6 +1,5 @@
 use Rattle.sel_gather.proofs.Common.{◌∙◌, ap, arith, map, take, take_all, unrolled, binary_rows, Null, IsLive, bytes_needed, pick, PickFits}
-use Rattle.sel_gather.proofs.Walks.{picked_run, run_all, run_behind, run_within}
-use Rattle.sel_gather.proofs.{Gathers.left_all, JoinedRows.needed-append}
+use Rattle.sel_gather.proofs.{Walks.picked_run, Walks.run_all, Walks.run_behind, Walks.run_within, Gathers.left_all, JoinedRows.needed-append}
 use Rattle.sel_gather.proofs.binary.count_bytes.Goals as goal
 
 pub count_run-total-requires : goal.count_run-total-requires

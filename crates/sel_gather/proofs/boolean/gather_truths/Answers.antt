@@ -1,7 +1,6 @@
-use Rattle.sel_gather.proofs.Common.{Some, ◌≡◌, ◌∙◌, length, map, ap, sym, subst, arith, false, length-map, Bits, Covers, hidden}
-use Rattle.sel_gather.proofs.Common.{bool_rows, Truth, bit_found, bits_found}
-use Rattle.sel_gather.proofs.Hiding.{values_fit, bits_fit, rows_picked, truths_fit, truths_found}
-use Rattle.sel_gather.proofs.Grown.{finished}
+use Rattle.sel_gather.proofs.Common.{Some, ◌≡◌, ◌∙◌, length, map, ap, sym, subst, arith, false, length-map, Bits, Covers, hidden, bool_rows, Truth, bit_found}
+use Rattle.sel_gather.proofs.Common.{bits_found}
+use Rattle.sel_gather.proofs.{Hiding.values_fit, Hiding.bits_fit, Hiding.rows_picked, Hiding.truths_fit, Hiding.truths_found, Grown.finished}
 use Rattle.sel_gather.proofs.boolean.gather_truths.Goals as goal
 
 pub truths_of-requires : goal.truths_of-requires

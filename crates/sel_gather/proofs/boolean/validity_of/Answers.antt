@@ -1,5 +1,4 @@
-use Rattle.sel_gather.proofs.Common.{map}
-use Rattle.sel_gather.proofs.Gathers.{all_none, all_there}
+use Rattle.sel_gather.proofs.{Common.map, Gathers.all_none, Gathers.all_there}
 use Rattle.sel_gather.proofs.boolean.validity_of.Goals as goal
 
 pub returns-then-not-has_validity-clause-bits : goal.returns-then-not-has_validity-clause-bits

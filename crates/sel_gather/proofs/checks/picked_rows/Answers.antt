@@ -1,5 +1,4 @@
-use Rattle.sel_gather.proofs.Common.{rules}
-use Rattle.sel_gather.proofs.Fits.{counted_more}
+use Rattle.sel_gather.proofs.{Common.rules, Fits.counted_more}
 use Rattle.sel_gather.proofs.checks.picked_rows.Goals as goal
 
 pub loop-run-preserved : goal.loop-run-preserved

@@ -1,6 +1,5 @@
 -- The row references so far pass the test.
-use Rattle.sel_gather.proofs.Common.{map, rows, PickFits}
-use Rattle.sel_gather.proofs.PlanTests.{IsTested}
+use Rattle.sel_gather.proofs.{Common.map, Common.rows, Common.PickFits, PlanTests.IsTested}
 use Rattle.sel_gather.proofs.checks.plan_in_bounds.Given as goal
 
 abbrev pub invariant-loop-left : goal.invariant-loop-left

@@ -1,5 +1,4 @@
-use Rattle.sel_gather.proofs.Common.{map, rows}
-use Rattle.sel_gather.proofs.Fits.{source_rows, run_fits_if, run_lost}
+use Rattle.sel_gather.proofs.{Common.map, Common.rows, Fits.source_rows, Fits.run_fits_if, Fits.run_lost}
 use Rattle.sel_gather.proofs.checks.run_fits.Goals as goal
 
 pub returns-in-None-get : goal.returns-in-None-get

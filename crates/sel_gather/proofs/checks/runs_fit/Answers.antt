@@ -1,5 +1,4 @@
-use Rattle.sel_gather.proofs.Common.{map, rows, PickFits}
-use Rattle.sel_gather.proofs.Fits.{all_more, run_refused, runs_done}
+use Rattle.sel_gather.proofs.{Common.map, Common.rows, Common.PickFits, Fits.all_more, Fits.run_refused, Fits.runs_done}
 use Rattle.sel_gather.proofs.checks.runs_fit.Goals as goal
 
 pub returns-then-not-run_fits : goal.returns-then-not-run_fits

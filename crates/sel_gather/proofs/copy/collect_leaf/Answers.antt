@@ -1,5 +1,4 @@
-use Rattle.sel_gather.proofs.Common.{expand}
-use Rattle.sel_gather.proofs.PlanRuns.{near_may}
+use Rattle.sel_gather.proofs.{Common.expand, PlanRuns.near_may}
 use Rattle.sel_gather.proofs.copy.collect_leaf.Goals as goal
 
 pub invariant_of-plan : goal.invariant_of-plan

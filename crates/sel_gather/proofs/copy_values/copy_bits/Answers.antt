@@ -1,6 +1,5 @@
 use Rattle.sel_gather.proofs.Common.{◌∙◌, ◌++◌, arith, ap, sym, map, take, option_copied, map-append, take_all, HasBit, bit_found, bits_found, unrolled}
-use Rattle.sel_gather.proofs.Walks.{run_behind, run_within, run_all, taken_run}
-use Rattle.sel_gather.proofs.Gathers.{left_all}
+use Rattle.sel_gather.proofs.{Walks.run_behind, Walks.run_within, Walks.run_all, Walks.taken_run, Gathers.left_all}
 use Rattle.sel_gather.proofs.copy_values.copy_bits.Goals as goal
 
 pub push_bits-requires-clause-fits : goal.push_bits-requires-clause-fits

@@ -1,5 +1,4 @@
-use Rattle.sel_gather.proofs.Common.{◌+◌, ◌-◌, drop, arith}
-use Rattle.sel_gather.proofs.Windows.{cut_behind}
+use Rattle.sel_gather.proofs.{Common.◌+◌, Common.◌-◌, Common.drop, Common.arith, Windows.cut_behind}
 use Rattle.sel_gather.proofs.copy_values.copy_part.Goals as goal
 
 pub returns-then-from-start-ge-SHORT_RUN-clause-values : goal.returns-then-from-start-ge-SHORT_RUN-clause-values

@@ -1,6 +1,5 @@
 use Rattle.sel_gather.proofs.Common.{◌∙◌, ◌++◌, arith, ap, sym, length, map, take, length-take-le, map-append, take_all, found, pick, PickFits, unrolled}
-use Rattle.sel_gather.proofs.Walks.{run_behind, run_within, run_all, taken_run}
-use Rattle.sel_gather.proofs.{Gathers.left_all, RunLists.length-pick}
+use Rattle.sel_gather.proofs.{Walks.run_behind, Walks.run_within, Walks.run_all, Walks.taken_run, Gathers.left_all, RunLists.length-pick}
 use Rattle.sel_gather.proofs.copy_values.copy_plan.Goals as goal
 
 pub copy_run-requires-clause-fits : goal.copy_run-requires-clause-fits

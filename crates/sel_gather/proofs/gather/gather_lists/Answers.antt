@@ -1,5 +1,4 @@
-use Rattle.sel_gather.proofs.Common.{type_of}
-use Rattle.sel_gather.proofs.Walks.{lists_child, lists_listing}
+use Rattle.sel_gather.proofs.{Common.type_of, Walks.lists_child, Walks.lists_listing}
 use Rattle.sel_gather.proofs.gather.gather_lists.Goals as goal
 
 pub walk_lists-requires-clause-lists : goal.walk_lists-requires-clause-lists

@@ -1,5 +1,4 @@
-use Rattle.sel_gather.proofs.Common.{map, sym, ◌∙◌, arith, PickFits}
-use Rattle.sel_gather.proofs.Gathers.{next_all, rest_is, values_next}
+use Rattle.sel_gather.proofs.{Common.map, Common.sym, Common.◌∙◌, Common.arith, Common.PickFits, Gathers.next_all, Gathers.rest_is, Gathers.values_next}
 use Rattle.sel_gather.proofs.gather_values.gather_values.Goals as goal
 
 pub value_of_pick-requires : goal.value_of_pick-requires

@@ -1,6 +1,5 @@
 -- The row references so far pass the test.
-use Rattle.sel_gather.proofs.Common.{map, option_copied, HasBit}
-use Rattle.sel_gather.proofs.PlanTests.{IsTested}
+use Rattle.sel_gather.proofs.{Common.map, Common.option_copied, Common.HasBit, PlanTests.IsTested}
 use Rattle.sel_gather.proofs.gather_values.plan_has_bits.Given as goal
 
 abbrev pub invariant-loop-left : goal.invariant-loop-left

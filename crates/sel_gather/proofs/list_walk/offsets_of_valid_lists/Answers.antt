@@ -1,5 +1,4 @@
-use Rattle.sel_gather.proofs.Common.{arith}
-use Rattle.sel_gather.proofs.ItemRuns.{source_there}
+use Rattle.sel_gather.proofs.{Common.arith, ItemRuns.source_there}
 use Rattle.sel_gather.proofs.ValidLists.{valid_few, valid_inside, valid_parts, valid_rising}
 use Rattle.sel_gather.proofs.list_walk.offsets_of_valid_lists.Goals as goal
 

@@ -1,6 +1,5 @@
 use Rattle.sel_gather.proofs.Common.{◌≡◌, ◌≤◌, ◌∙◌, ◌+◌, ◌-◌, ◌<◌, arith, ℕ, ap, pos, w64, get_or, to_z_pos}
-use Rattle.sel_gather.specs.ItemPicks.{moved_end}
-use Rattle.sel_gather.proofs.ValidLists.{pushed_end}
+use Rattle.sel_gather.{specs.ItemPicks.moved_end, proofs.ValidLists.pushed_end}
 use Rattle.sel_gather.proofs.list_walk.push_valid_lists.Goals as goal
 
 pub loop-i-preserved : goal.loop-i-preserved

@@ -1,5 +1,4 @@
-use Rattle.sel_gather.proofs.Common.{arith}
-use Rattle.sel_gather.proofs.ListParts.{of_list, of_block}
+use Rattle.sel_gather.proofs.{Common.arith, ListParts.of_list, ListParts.of_block}
 use Rattle.sel_gather.proofs.lists.part_of_row.Goals as goal
 
 -- ---- lists with offsets

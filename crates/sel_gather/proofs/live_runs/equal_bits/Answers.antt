@@ -1,6 +1,5 @@
-use Rattle.sel_gather.proofs.Common.{arith, sym}
+use Rattle.sel_gather.proofs.{Common.arith, Common.sym, LiveBits.bytes_equal, LiveBits.first_equal}
 use Rattle.std.proofs.lemmas.List.{take_rest}
-use Rattle.sel_gather.proofs.LiveBits.{bytes_equal, first_equal}
 use Rattle.sel_gather.proofs.live_runs.equal_bits.Goals as goal
 
 pub loop-count-init : goal.loop-count-init

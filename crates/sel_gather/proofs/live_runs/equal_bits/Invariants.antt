@@ -1,6 +1,5 @@
 -- The bits so far are equal.
-use Rattle.sel_gather.proofs.Common.{◌≤◌, ◌<◌, ◌-◌}
-use Rattle.sel_gather.specs.KeptPicks.{AreEqualBits}
+use Rattle.sel_gather.{proofs.Common.◌≤◌, proofs.Common.◌<◌, proofs.Common.◌-◌, specs.KeptPicks.AreEqualBits}
 use Rattle.sel_gather.proofs.live_runs.equal_bits.Given as goal
 
 abbrev pub invariant-loop-count : goal.invariant-loop-count

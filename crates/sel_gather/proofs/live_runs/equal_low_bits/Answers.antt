@@ -1,5 +1,4 @@
-use Rattle.sel_gather.proofs.Common.{◌==◌, ◌∙◌, ap, sym, arith}
-use Rattle.sel_gather.proofs.LiveBits.{low_ones, low_zeros}
+use Rattle.sel_gather.proofs.{Common.◌==◌, Common.◌∙◌, Common.ap, Common.sym, Common.arith, LiveBits.low_ones, LiveBits.low_zeros}
 use Rattle.sel_gather.proofs.live_runs.equal_low_bits.Goals.{then-bit, else-bit}
 use Rattle.sel_gather.proofs.live_runs.equal_low_bits.Goals as goal
 

@@ -1,5 +1,4 @@
-use Rattle.sel_gather.proofs.Common.{◌∙◌, sym}
-use Rattle.sel_gather.proofs.KeptBlocks.{nulls_first, rows_first, run_split}
+use Rattle.sel_gather.proofs.{Common.◌∙◌, Common.sym, KeptBlocks.nulls_first, KeptBlocks.rows_first, KeptBlocks.run_split}
 use Rattle.sel_gather.proofs.live_runs.split_kept.Goals as goal
 
 pub returns-then-get_bit-clause-picks : goal.returns-then-get_bit-clause-picks

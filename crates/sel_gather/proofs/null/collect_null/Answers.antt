@@ -1,5 +1,4 @@
-use Rattle.sel_gather.proofs.Common.{expand}
-use Rattle.sel_gather.proofs.NullItems.{null_picks}
+use Rattle.sel_gather.proofs.{Common.expand, NullItems.null_picks}
 use Rattle.sel_gather.proofs.null.collect_null.Goals as goal
 
 pub returns-clause-rows : goal.returns-clause-rows

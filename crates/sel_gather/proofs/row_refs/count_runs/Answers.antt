@@ -1,6 +1,5 @@
 use Rattle.sel_gather.proofs.Common.{◌≤◌, ◌+◌, ◌∙◌, arith, ap, length, length-append, unrolled}
-use Rattle.sel_gather.proofs.row_refs.count_runs.Goals.{then-not-continues, else-not-continues}
-use Rattle.sel_gather.proofs.RunLists.{length-unrolled}
+use Rattle.sel_gather.proofs.{row_refs.count_runs.Goals.then-not-continues, row_refs.count_runs.Goals.else-not-continues, RunLists.length-unrolled}
 use Rattle.sel_gather.proofs.row_refs.count_runs.Goals as goal
 
 pub overflow_sub-left : goal.overflow_sub-left

@@ -1,8 +1,6 @@
 use Rattle.sel_gather.proofs.Common.{◌∙◌, ◌<◌, ◌+◌, arith, sym, w64, to_z_pos, PickFits, Run, Some}
-use Rattle.sel_gather.proofs.Gathers.{next_all, rest_is}
+use Rattle.sel_gather.proofs.{Gathers.next_all, Gathers.rest_is, ItemRuns.rows_of, ItemSpans.started_more}
 use Rattle.sel_gather.proofs.ItemPicks.{counted_below, counted_more, ended_more}
-use Rattle.sel_gather.proofs.ItemRuns.{rows_of}
-use Rattle.sel_gather.proofs.ItemSpans.{started_more}
 use Rattle.sel_gather.proofs.spans.list_spans.Goals as goal
 
 pub span_of_list-start-requires-clause-fits : goal.span_of_list-start-requires-clause-fits

@@ -1,7 +1,6 @@
 -- The starts and the ends of the lists so far.
 use Rattle.sel_gather.proofs.Common.{◌≡◌, ◌∷◌, ◌+◌, ◌≤◌, vec_len, vec_capacity, length, map, take, drop, pos, Null, joined_items, item_ends, pick}
-use Rattle.sel_gather.specs.Spans.{AreStarts}
-use Rattle.sel_gather.proofs.ItemRuns.{rows_of}
+use Rattle.sel_gather.{specs.Spans.AreStarts, proofs.ItemRuns.rows_of}
 use Rattle.sel_gather.proofs.spans.list_spans.Given as goal
 
 abbrev pub invariant-loop-k : goal.invariant-loop-k

@@ -1,5 +1,4 @@
-use Rattle.sel_gather.proofs.Common.{rules}
-use Rattle.sel_gather.proofs.FieldsOf.{field_found, field_missing}
+use Rattle.sel_gather.proofs.{Common.rules, FieldsOf.field_found, FieldsOf.field_missing}
 use Rattle.sel_gather.proofs.structs.field_of.Goals as goal
 
 pub returns-then-j-len : goal.returns-then-j-len

@@ -1,5 +1,4 @@
-use Rattle.sel_gather.proofs.Common.{arith, refl}
-use Rattle.sel_gather.proofs.Raising.{count_room}
+use Rattle.sel_gather.proofs.{Common.arith, Common.refl, Raising.count_room}
 use Rattle.sel_gather.proofs.view.check_buffers.Goals as goal
 
 pub returns-then-count-gt-MOST_BUFFERS-clause-refusal : goal.returns-then-count-gt-MOST_BUFFERS-clause-refusal

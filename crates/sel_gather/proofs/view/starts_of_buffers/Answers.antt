@@ -1,5 +1,4 @@
-use Rattle.sel_gather.proofs.Common.{arith}
-use Rattle.sel_gather.proofs.Raising.{count_more, count_room, starts_more}
+use Rattle.sel_gather.proofs.{Common.arith, Raising.count_more, Raising.count_room, Raising.starts_more}
 use Rattle.sel_gather.proofs.view.starts_of_buffers.Goals as goal
 
 pub overflow_add-before : goal.overflow_add-before

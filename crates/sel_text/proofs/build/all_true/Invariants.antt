@@ -1,6 +1,5 @@
 -- Loop invariant: the bits so far are true.
-use Rattle.std.proofs.Common.{◌≡◌, true, take}
-use Rattle.std.specs.List.{list_all}
+use Rattle.std.{proofs.Common.◌≡◌, proofs.Common.true, proofs.Common.take, specs.List.list_all}
 use Rattle.sel_text.proofs.build.all_true.Given as goal
 
 abbrev pub invariant-loop-bit : goal.invariant-loop-bit

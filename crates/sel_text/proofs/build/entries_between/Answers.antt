@@ -1,9 +1,7 @@
 use Rattle.std.proofs.Common.{◌≡◌, ◌<◌, take, length, ◌∙◌, ap, sym, subst, arith}
 use Rattle.sel_text.proofs.Common.{length-map, offsets_below, item_value, rows_read, entries_in, IsMemoryFault, all_items}
-use Rattle.sel_text.proofs.ItemRows.{one_more, all_read}
-use Rattle.sel_text.proofs.Making.{maker_wanting}
+use Rattle.sel_text.proofs.{ItemRows.one_more, ItemRows.all_read, Making.maker_wanting, RowRuns.count_rows, RowRuns.next_of}
 use Rattle.sel_text.proofs.OffsetsBelow.{end_kept, holds_more, no_offsets_fault, offsets_read}
-use Rattle.sel_text.proofs.RowRuns.{count_rows, next_of}
 use Rattle.sel_text.proofs.build.entries_between.Goals as goal
 
 pub loop-preserved : goal.loop-preserved

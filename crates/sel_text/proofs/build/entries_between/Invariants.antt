@@ -1,7 +1,6 @@
 -- Loop invariant: the entries and the offsets so far, and the rows that are left.
 use Rattle.std.proofs.Common.{◌≡◌, take, drop}
-use Rattle.sel_text.proofs.Common.{Null, item_value, rows_read, entries_in, all_items, left}
-use Rattle.sel_text.proofs.OffsetsBelow.{Holds}
+use Rattle.sel_text.proofs.{Common.Null, Common.item_value, Common.rows_read, Common.entries_in, Common.all_items, Common.left, OffsetsBelow.Holds}
 use Rattle.sel_text.proofs.build.entries_between.Given as goal
 
 abbrev pub invariant-loop : goal.invariant-loop

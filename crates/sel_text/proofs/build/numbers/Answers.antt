@@ -1,9 +1,7 @@
 use Rattle.std.proofs.Common.{ap, sym, subst, ◌∙◌, length, map, arith, take_all, pos}
 use Rattle.sel_text.proofs.Common.{masked, Number, rows_read, ShowsRows, all_items}
-use Rattle.sel_text.proofs.Refusals.{flat_told, makes_told}
-use Rattle.sel_text.proofs.Shown.{item_fits, rows_count, shown_count, shown_more}
-use Rattle.sel_text.proofs.Within.{numbers_within, rows_few}
-use Rattle.sel_text.proofs.RowRuns.{count_rows, next_of}
+use Rattle.sel_text.proofs.{Refusals.flat_told, Refusals.makes_told, Shown.item_fits, Shown.rows_count, Shown.shown_count, Shown.shown_more}
+use Rattle.sel_text.proofs.{Within.numbers_within, Within.rows_few, RowRuns.count_rows, RowRuns.next_of}
 use Rattle.sel_text.proofs.build.numbers.Goals as goal
 
 pub loop-preserved : goal.loop-preserved

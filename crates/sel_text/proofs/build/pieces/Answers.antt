@@ -1,10 +1,8 @@
 use Rattle.std.proofs.Common.{◌≡◌, ◌<◌, [], ◌∷◌, ◌++◌, ap, sym, subst, ◌∙◌, length, map, take, arith}
 use Rattle.sel_text.proofs.Common.{take_all, take_more, IsFault, binary_fault, masked, of_large_binary, Bytes, rows_read, exceeds_limit, all_items}
 use Rattle.sel_text.proofs.OffsetsBelow.{Holds, count_between, end_kept, ends_inside, holds_more, no_offsets_fault, offsets_read, parts_between}
-use Rattle.sel_text.proofs.Refusals.{binary_told, makes_told, memory_told}
+use Rattle.sel_text.proofs.{Refusals.binary_told, Refusals.makes_told, Refusals.memory_told, Within.rows_few, RowRuns.count_rows, RowRuns.next_of}
 use Rattle.sel_text.proofs.Shown.{bytes_shown, of_binary, rows_count, stored_in}
-use Rattle.sel_text.proofs.Within.{rows_few}
-use Rattle.sel_text.proofs.RowRuns.{count_rows, next_of}
 use Rattle.sel_text.proofs.build.pieces.Goals as goal
 
 pub loop-preserved : goal.loop-preserved

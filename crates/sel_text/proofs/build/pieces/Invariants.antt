@@ -1,8 +1,6 @@
 -- Loop invariant: the bytes and the offsets of the rows so far, and the rows that are left.
 use Rattle.std.proofs.Common.{◌≡◌, take, drop}
-use Rattle.sel_text.proofs.OffsetsBelow.{Holds}
-use Rattle.sel_text.proofs.Shown.{stored_in}
-use Rattle.sel_text.specs.RowRuns.{all_items, left}
+use Rattle.sel_text.{proofs.OffsetsBelow.Holds, proofs.Shown.stored_in, specs.RowRuns.all_items, specs.RowRuns.left}
 use Rattle.sel_text.proofs.build.pieces.Given as goal
 
 abbrev pub invariant-loop : goal.invariant-loop

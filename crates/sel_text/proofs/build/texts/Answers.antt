@@ -1,7 +1,6 @@
 use Rattle.std.proofs.Common.{◌≡◌, true, length, ap, refl, ◌∙◌}
 use Rattle.sel_text.proofs.Common.{or_from, binview_rows, of_utf8_view, all_text, rows_repeated, rows, view_rows, all_placed_bytes, exceeds_max}
-use Rattle.sel_text.proofs.Refusals.{makes_told, never_broken, no_text_fault, texts_fit}
-use Rattle.sel_text.proofs.Within.{rows_few}
+use Rattle.sel_text.proofs.{Refusals.makes_told, Refusals.never_broken, Refusals.no_text_fault, Refusals.texts_fit, Within.rows_few}
 use Rattle.sel_text.proofs.build.texts.Goals as goal
 
 pub returns-in_err-try_new : goal.returns-in_err-try_new

@@ -1,9 +1,6 @@
 use Rattle.std.proofs.Common.{ap, sym, ◌∙◌, length, map, Bor, arith, take_all}
 use Rattle.sel_text.proofs.Common.{length-map, push_more, Bits, masked, of_boolean, Truth, item_value, bool_stored, Item, rows_read, all_items}
-use Rattle.sel_text.proofs.Shown.{rows_count, truths_shown}
-use Rattle.sel_text.proofs.Refusals.{flat_told, makes_told}
-use Rattle.sel_text.proofs.Within.{rows_few}
-use Rattle.sel_text.proofs.RowRuns.{count_rows, next_of}
+use Rattle.sel_text.proofs.{Shown.rows_count, Shown.truths_shown, Refusals.flat_told, Refusals.makes_told, Within.rows_few, RowRuns.count_rows, RowRuns.next_of}
 use Rattle.sel_text.proofs.build.truths.Goals as goal
 
 pub loop-preserved : goal.loop-preserved

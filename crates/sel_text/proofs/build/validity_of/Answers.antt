@@ -1,8 +1,6 @@
-use Rattle.std.proofs.Common.{ap, sym, ◌∙◌, arith}
-use Rattle.std.specs.Borrow.{Bor}
+use Rattle.std.{proofs.Common.ap, proofs.Common.sym, proofs.Common.◌∙◌, proofs.Common.arith, specs.Borrow.Bor}
 use Rattle.sel_text.proofs.Common.{list_all, is_valid, item_value, Item, push_more, take_all, Bits, all_items}
-use Rattle.sel_text.proofs.Shown.{items_hidden, items_shown, valid_items}
-use Rattle.sel_text.proofs.RowRuns.{count_rows, next_of}
+use Rattle.sel_text.proofs.{Shown.items_hidden, Shown.items_shown, Shown.valid_items, RowRuns.count_rows, RowRuns.next_of}
 use Rattle.sel_text.proofs.build.validity_of.Goals as goal
 
 pub loop-preserved : goal.loop-preserved

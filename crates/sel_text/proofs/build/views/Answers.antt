@@ -1,10 +1,9 @@
 use Rattle.std.proofs.Common.{◌≡◌, ◌+◌, [], ◌∷◌, ap, sym, subst, refl, ◌∙◌, length, map, arith, IsTrue, take_all}
 use Rattle.sel_text.proofs.Common.{IsFault, binview_fault, masked, Bytes, all_placed, view_rows, rows_read, exceeds_max, exceeds_limit, bytes_behind, all_items}
 use Rattle.sel_text.proofs.BuiltViews.{Views, bytes_within, past_bytes, views_count, views_more}
-use Rattle.sel_text.proofs.Making.{told_more, told_wanting}
+use Rattle.sel_text.proofs.{Making.told_more, Making.told_wanting, RowRuns.count_rows, RowRuns.next_of}
 use Rattle.sel_text.proofs.Refusals.{binview_told, bytes_past, if_made, if_told}
 use Rattle.sel_text.proofs.Shown.{bytes_shown, of_views, stored_bytes, stored_count, stored_more}
-use Rattle.sel_text.proofs.RowRuns.{count_rows, next_of}
 use Rattle.sel_text.proofs.build.views.Goals as goal
 
 pub returns-in_err-view_behind-clause-limit : goal.returns-in_err-view_behind-clause-limit

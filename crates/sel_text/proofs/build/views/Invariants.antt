@@ -1,8 +1,6 @@
 -- Loop invariant: the views and the data buffer of the rows so far, and the rows that are left.
 use Rattle.std.proofs.Common.{◌≡◌, take, drop, length, ◌≤◌}
-use Rattle.sel_text.proofs.Common.{max_rows, all_items, left}
-use Rattle.sel_text.proofs.BuiltViews.{Views}
-use Rattle.sel_text.proofs.Shown.{stored_bytes}
+use Rattle.sel_text.proofs.{Common.max_rows, Common.all_items, Common.left, BuiltViews.Views, Shown.stored_bytes}
 use Rattle.sel_text.proofs.build.views.Given as goal
 
 abbrev pub invariant-loop : goal.invariant-loop

@@ -1,7 +1,6 @@
 use Rattle.std.proofs.Common.{arith, refl, sym, ap, ◌∙◌, true≢false}
-use Rattle.sel_text.proofs.Common.{cell_value}
+use Rattle.sel_text.proofs.{Common.cell_value, Equalities.entry_at, Equalities.same_tuples, Equalities.tuples_same}
 use Rattle.sel_arrow.proofs.Types.{same_lengths, same_at, same_all}
-use Rattle.sel_text.proofs.Equalities.{entry_at, same_tuples, tuples_same}
 use Rattle.sel_text.proofs.equal.+comparing.Goals as goal
 
 pub equal_parts-returns-then-fields-others : goal.equal_parts-returns-then-fields-others

@@ -1,6 +1,5 @@
 use Rattle.std.proofs.Common.{ap}
-use Rattle.sel_text.specs.Cells.{cell_value}
-use Rattle.sel_text.proofs.Equalities.{bytes_told}
+use Rattle.sel_text.{specs.Cells.cell_value, proofs.Equalities.bytes_told}
 use Rattle.sel_text.proofs.equal.equal_bytes.Goals as goal
 
 pub returns-in-View : goal.returns-in-View

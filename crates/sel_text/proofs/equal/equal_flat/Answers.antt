@@ -1,6 +1,5 @@
 use Rattle.std.proofs.Common.{◌∙◌, ap, sym}
-use Rattle.sel_text.proofs.Common.{Bytes, cell_value}
-use Rattle.sel_text.proofs.Equalities.{bytes_shown}
+use Rattle.sel_text.proofs.{Common.Bytes, Common.cell_value, Equalities.bytes_shown}
 use Rattle.sel_text.proofs.equal.equal_flat.Goals as goal
 
 pub returns-in-View : goal.returns-in-View

@@ -1,6 +1,5 @@
 use Rattle.std.proofs.Common.{All, rules, subst, sym, take_all}
-use Rattle.sel_text.proofs.Common.{the_lemmas, All-more, IsWellFormed, RowsFit}
-use Rattle.sel_text.proofs.FittingRows.{fields_formed}
+use Rattle.sel_text.proofs.{Common.the_lemmas, Common.All-more, Common.IsWellFormed, Common.RowsFit, FittingRows.fields_formed}
 use Rattle.sel_text.proofs.fit.+fitting.Goals as goal
 
 pub law_rows_fit-law_fields_fit-requires : goal.law_rows_fit-law_fields_fit-requires

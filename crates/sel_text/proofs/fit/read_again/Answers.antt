@@ -1,6 +1,5 @@
 use Rattle.sel_arrow.specs.Rows.{type_of}
-use Rattle.sel_text.proofs.ColumnTypes.{column_written}
-use Rattle.sel_text.proofs.RoundTrip.{type_back, type_told}
+use Rattle.sel_text.proofs.{ColumnTypes.column_written, RoundTrip.type_back, RoundTrip.type_told}
 use Rattle.sel_text.proofs.fit.read_again.Goals as goal
 
 pub returns-in-Ok-print_dtype : goal.returns-in-Ok-print_dtype

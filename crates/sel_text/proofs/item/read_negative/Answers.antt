@@ -1,7 +1,5 @@
 use Rattle.std.proofs.Common.{arith, ap, sym, ◌∙◌, true≢false}
-use Rattle.sel_text.proofs.Common.{Number, fits_number}
-use Rattle.sel_text.proofs.Ends.{digits_told}
-use Rattle.sel_text.proofs.Numbers.{below_small, below_signed, below_kept}
+use Rattle.sel_text.proofs.{Common.Number, Common.fits_number, Ends.digits_told, Numbers.below_small, Numbers.below_signed, Numbers.below_kept}
 use Rattle.sel_text.proofs.item.read_negative.Goals as goal
 
 pub returns-in_default : goal.returns-in_default

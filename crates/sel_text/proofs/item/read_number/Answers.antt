@@ -1,5 +1,4 @@
-use Rattle.sel_text.proofs.Common.{◌≡◌, MatchResult, Number, item_value, IsMemoryFault}
-use Rattle.sel_text.proofs.Numbers.{minus_told}
+use Rattle.sel_text.proofs.{Common.◌≡◌, Common.MatchResult, Common.Number, Common.item_value, Common.IsMemoryFault, Numbers.minus_told}
 use Rattle.sel_text.proofs.item.read_number.Goals as goal
 
 pub returns-in-Some : goal.returns-in-Some

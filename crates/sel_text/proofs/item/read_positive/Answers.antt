@@ -1,7 +1,5 @@
 use Rattle.std.proofs.Common.{◌≡◌, pos, arith, ap, sym, ◌∙◌, true≢false}
-use Rattle.sel_text.proofs.Common.{Number, fits_number}
-use Rattle.sel_text.proofs.Ends.{digits_told}
-use Rattle.sel_text.proofs.Told.{small_number}
+use Rattle.sel_text.proofs.{Common.Number, Common.fits_number, Ends.digits_told, Told.small_number}
 use Rattle.sel_text.proofs.item.read_positive.Goals as goal
 
 pub returns-in_default : goal.returns-in_default

@@ -1,6 +1,5 @@
 -- Loop invariant: the bytes so far are digits.
-use Rattle.std.proofs.Common.{ℕ, ◌<◌, get_or}
-use Rattle.std.specs.Int.{IsInRange}
+use Rattle.std.{proofs.Common.ℕ, proofs.Common.◌<◌, proofs.Common.get_or, specs.Int.IsInRange}
 use Rattle.sel_text.proofs.numerals.count_digits.Given as goal
 
 abbrev pub invariant-loop-i : goal.invariant-loop-i

@@ -1,6 +1,5 @@
 -- Loop invariant: the number of the digits so far.
-use Rattle.std.proofs.Common.{◌≡◌, take}
-use Rattle.std.specs.Str.Parse.{digits_value}
+use Rattle.std.{proofs.Common.◌≡◌, proofs.Common.take, specs.Str.Parse.digits_value}
 use Rattle.sel_text.proofs.numerals.number_of.Given as goal
 
 abbrev pub invariant-loop-digit : goal.invariant-loop-digit

@@ -1,9 +1,6 @@
 use Rattle.std.proofs.Common.{Ok, [], ap, sym, ◌∙◌, length, map, true≢false, subst, ◌==◌}
 use Rattle.sel_text.proofs.Common.{list_all, shape_of, values_of, fits, item_value, exceeds_limit, MakesColumn, ReportsLimit, text_of}
-use Rattle.sel_text.proofs.Equalities.{list_back}
-use Rattle.sel_text.proofs.Making.{told_wanting}
-use Rattle.sel_text.proofs.Rows.{rows_text}
-use Rattle.sel_text.proofs.Told.{all_fits}
+use Rattle.sel_text.proofs.{Equalities.list_back, Making.told_wanting, Rows.rows_text, Told.all_fits}
 use Rattle.sel_text.proofs.parse.read_rows.Goals as goal
 
 pub returns-in-Err-clause-made : goal.returns-in-Err-clause-made

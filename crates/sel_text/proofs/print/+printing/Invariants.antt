@@ -1,7 +1,6 @@
 -- Loop invariants: the parts that are appended to the text so far.
 use Rattle.std.proofs.Common.{◌≡◌, map, take, string_bytes}
-use Rattle.sel_text.proofs.Common.{slice_range, rows, type_of, value_text, field_text}
-use Rattle.sel_text.proofs.Printed.{opened}
+use Rattle.sel_text.proofs.{Common.slice_range, Common.rows, Common.type_of, Common.value_text, Common.field_text, Printed.opened}
 use Rattle.sel_text.proofs.print.+printing.Given as goal
 
 abbrev pub invariant-push_items-loop-i : goal.invariant-push_items-loop-i

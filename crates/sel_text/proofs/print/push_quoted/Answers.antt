@@ -1,7 +1,5 @@
 use Rattle.std.proofs.Common.{◌∙◌, ◌++◌, sym, ap, lit<, string_bytes, map-id}
-use Rattle.std.proofs.lemmas.Iterator.{YieldsList-from_chars}
-use Rattle.std.proofs.lemmas.Iterator.Consumers.{YieldsList-end}
-use Rattle.std.proofs.lemmas.Str.{IsUtf8-from_is_utf8}
+use Rattle.std.proofs.lemmas.{Iterator.YieldsList-from_chars, Iterator.Consumers.YieldsList-end, Str.IsUtf8-from_is_utf8}
 use Rattle.sel_text.proofs.Escapes.{letters_more, letters_end}
 use Rattle.sel_text.proofs.print.push_quoted.Goals as goal
 

@@ -1,7 +1,6 @@
 -- Loop invariant: the characters so far are appended to the text.
-use Rattle.std.proofs.Common.{◌≡◌, ◌∷◌, ◌++◌, string_bytes}
+use Rattle.std.proofs.{Common.◌≡◌, Common.◌∷◌, Common.◌++◌, Common.string_bytes, Math.Utf8.encodes}
 use Rattle.sel_text.proofs.Common.{flat_map, escaped}
-use Rattle.std.proofs.Math.Utf8.{encodes}
 use Rattle.sel_text.proofs.print.push_quoted.Given as goal
 
 abbrev pub invariant-loop-letter : goal.invariant-loop-letter

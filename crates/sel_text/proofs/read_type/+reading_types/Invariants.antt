@@ -2,9 +2,7 @@
 -- followed by a comma.
 use Rattle.std.proofs.Common.{◌≡◌, ◌+◌, ◌*◌, ◌<◌, ◌≤◌, true, ℕ, List, ◌∷◌, ◌++◌, length, map}
 use Rattle.sel_text.proofs.Common.{shape_of, Shape, Shapes, next_shape, shapes_of, angled, type_texts, deepest, all_widths_written}
-use Rattle.sel_text.proofs.Fields.{IsLeft}
-use Rattle.sel_text.proofs.Commas.{commas}
-use Rattle.sel_text.proofs.TypeTexts.{text_of_type}
+use Rattle.sel_text.proofs.{Fields.IsLeft, Commas.commas, TypeTexts.text_of_type}
 use Rattle.sel_text.proofs.read_type.+reading_types.Given as goal
 
 abbrev pub decreases-read_type : goal.decreases-read_type

@@ -1,7 +1,5 @@
 use Rattle.std.proofs.Common.{◌≡◌, ◌<◌, ◌^◌, ap, sym, ◌∙◌, ◌++◌, arith}
-use Rattle.sel_text.proofs.Common.{decimal, digits_value}
-use Rattle.sel_text.proofs.Decimals.{printed_back}
-use Rattle.sel_text.proofs.Ends.{digits_told, numbers_told}
+use Rattle.sel_text.proofs.{Common.decimal, Common.digits_value, Decimals.printed_back, Ends.digits_told, Ends.numbers_told}
 use Rattle.sel_text.proofs.read_type.read_size.Goals as goal
 
 pub returns-in-Ok : goal.returns-in-Ok

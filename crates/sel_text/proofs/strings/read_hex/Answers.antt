@@ -1,5 +1,4 @@
-use Rattle.sel_text.proofs.Common.{nat_lt, hex_byte}
-use Rattle.sel_text.proofs.Quotes.{none_left, has_next, one_read, hex_unquoted, below_256}
+use Rattle.sel_text.proofs.{Common.nat_lt, Common.hex_byte, Quotes.none_left, Quotes.has_next, Quotes.one_read, Quotes.hex_unquoted, Quotes.below_256}
 use Rattle.sel_text.proofs.strings.read_hex.Goals as goal
 
 pub returns-in-Some : goal.returns-in-Some

@@ -1,7 +1,6 @@
 -- Loop invariant: the text that remains after the bytes so far.
 use Rattle.std.proofs.Common.{◌≡◌, ℕ, List, ◌∷◌, ◌++◌, length, IsTrue, nat_lt}
-use Rattle.sel_text.proofs.Common.{flat_map, list_all, hex_byte}
-use Rattle.sel_text.proofs.Quotes.{IsLeft}
+use Rattle.sel_text.proofs.{Common.flat_map, Common.list_all, Common.hex_byte, Quotes.IsLeft}
 use Rattle.sel_text.proofs.strings.read_hex.Given as goal
 
 abbrev pub invariant-loop-end : goal.invariant-loop-end

@@ -1,7 +1,6 @@
 use Rattle.std.proofs.Common.{true, sym, subst}
 use Rattle.sel_text.specs.Texts.{escaped}
-use Rattle.sel_text.proofs.Decoded.{unquoted}
-use Rattle.sel_text.proofs.Quotes.{IsLeft, all_left, none_left, has_next, one_read, no_test}
+use Rattle.sel_text.proofs.{Decoded.unquoted, Quotes.IsLeft, Quotes.all_left, Quotes.none_left, Quotes.has_next, Quotes.one_read, Quotes.no_test}
 use Rattle.sel_text.proofs.strings.read_quoted.Goals as goal
 
 pub loop-end-init : goal.loop-end-init

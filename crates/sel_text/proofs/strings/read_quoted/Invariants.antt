@@ -1,7 +1,6 @@
 -- Loop invariant: the text that remains after the bytes so far.
 use Rattle.std.proofs.Common.{◌≡◌, ℕ, true, List, ◌∷◌, ◌++◌, length}
-use Rattle.sel_text.proofs.Common.{flat_map, escaped}
-use Rattle.sel_text.proofs.Quotes.{IsLeft}
+use Rattle.sel_text.proofs.{Common.flat_map, Common.escaped, Quotes.IsLeft}
 use Rattle.sel_text.proofs.strings.read_quoted.Given as goal
 
 abbrev pub invariant-loop-end : goal.invariant-loop-end

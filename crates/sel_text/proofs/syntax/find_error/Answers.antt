@@ -1,6 +1,5 @@
 use Rattle.std.proofs.Common.{◌≡◌, ap, arith, length, refl, reverse, slice_index_or, sym, ◌∙◌}
-use Rattle.sel_text.specs.Notation.{after_byte, innermost, is_end}
-use Rattle.sel_text.proofs.Completions.{ends_early, fails_at}
+use Rattle.sel_text.{specs.Notation.after_byte, specs.Notation.innermost, specs.Notation.is_end, proofs.Completions.ends_early, proofs.Completions.fails_at}
 use Rattle.sel_text.proofs.syntax.find_error.Goals as goal
 
 pub returns-in_default : goal.returns-in_default

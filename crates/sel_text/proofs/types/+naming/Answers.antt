@@ -1,7 +1,6 @@
 use Rattle.std.proofs.Common.{◌∙◌, ◌++◌, ◌≡◌, ap, lit<, arith, take, map, length, length-take, append_assoc, string_bytes, codes}
 use Rattle.sel_text.proofs.Common.{angled, map_more, length-map, on_ok_weaker}
-use Rattle.sel_text.proofs.Printed.{opened_first, opened_more}
-use Rattle.sel_text.proofs.TypeTexts.{text_of_type, struct_text}
+use Rattle.sel_text.proofs.{Printed.opened_first, Printed.opened_more, TypeTexts.text_of_type, TypeTexts.struct_text}
 use Rattle.sel_text.proofs.types.+naming.Goals as goal
 use Rattle.sel_text.proofs.types.+naming.Goals.{push_dtypes-then-k-gt0+in_ok-push-2, push_dtypes-else-k-gt0}
 

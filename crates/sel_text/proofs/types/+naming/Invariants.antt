@@ -1,7 +1,6 @@
 -- Loop invariant: the parts that are appended to the text so far.
 use Rattle.std.proofs.Common.{◌≡◌, map, take, string_bytes}
-use Rattle.sel_text.proofs.Common.{shape_of, type_text}
-use Rattle.sel_text.proofs.Printed.{opened}
+use Rattle.sel_text.proofs.{Common.shape_of, Common.type_text, Printed.opened}
 use Rattle.sel_text.proofs.types.+naming.Given as goal
 
 abbrev pub invariant-push_dtypes-loop-k : goal.invariant-push_dtypes-loop-k

@@ -1,11 +1,6 @@
-use Rattle.std.specs.Prelude.{length, count_by}
-use Rattle.std.specs.Prelude.{◌==◌}
-use Rattle.std.specs.List.{list_all}
-use Rattle.sel_arrow.specs.Columns.{boolean_rows, primitive_rows}
-use Rattle.sel_arrow.proofs.Lists.{and_first}
-use Rattle.polars_compute.specs.Pick.{all_within}
-use Rattle.polars_compute.specs.Select.{is_true}
-use Rattle.polars_compute.specs.SelectRows.{rows_of_arrays}
+use Rattle.std.specs.{Prelude.length, Prelude.count_by, Prelude.◌==◌, List.list_all}
+use Rattle.sel_arrow.{specs.Columns.boolean_rows, specs.Columns.primitive_rows, proofs.Lists.and_first}
+use Rattle.polars_compute.specs.{Pick.all_within, Select.is_true, SelectRows.rows_of_arrays}
 use Rattle.tour.proofs.SourceRows.{rows_together}
 use Rattle.tour.proofs.together.select_together.Goals as goal
 

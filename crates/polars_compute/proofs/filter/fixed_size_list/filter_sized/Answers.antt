@@ -1,7 +1,6 @@
-use Rattle.polars_compute.proofs.Common.{◌≡◌, ℕ, List, Bool, ◌∙◌, ◌*◌, ◌/◌, ◌<◌, length, refl, ap, sym, arith, length-map, mul-le, first_chunks, count_true, blocks, rows}
-use Rattle.polars_compute.proofs.Common.{row_count, Value, Number, length-rows, select}
-use Rattle.std.specs.Mem.{type_size}
-use Rattle.std.proofs.Math.Nat.{mul-div_cancel}
+use Rattle.polars_compute.proofs.Common.{◌≡◌, ℕ, List, Bool, ◌∙◌, ◌*◌, ◌/◌, ◌<◌, length, refl, ap, sym, arith, length-map, mul-le, first_chunks, count_true}
+use Rattle.polars_compute.proofs.Common.{blocks, rows, row_count, Value, Number, length-rows, select}
+use Rattle.std.{specs.Mem.type_size, proofs.Math.Nat.mul-div_cancel}
 use Rattle.polars_compute.proofs.KeptColumns.{few_kept_values, joined, kept_blocks, length-kept}
 use Rattle.polars_compute.proofs.filter.fixed_size_list.filter_sized.Goals as goal
 

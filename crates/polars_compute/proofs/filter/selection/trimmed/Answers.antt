@@ -1,6 +1,5 @@
-use Rattle.polars_compute.proofs.Common.{ap, Bits, leading_zeros, ◌≡◌}
+use Rattle.polars_compute.proofs.{Common.ap, Common.Bits, Common.leading_zeros, Common.◌≡◌, filter.selection.trimmed.Goals.After-take_trailing_zeros}
 use Rattle.polars_compute.proofs.Selects.{trim, trimmed_kept, trimmed_part, trimmed_within}
-use Rattle.polars_compute.proofs.filter.selection.trimmed.Goals.{After-take_trailing_zeros}
 use Rattle.polars_compute.proofs.filter.selection.trimmed.Goals as goal
 
 trimmed : (c : After-take_trailing_zeros) → (c.take_leading_zeros-leading.result ≡ leading_zeros c.args.mask.now.bits) × (c.take_trailing_zeros.new.self.bits ≡ trim c.args.mask.now.bits)

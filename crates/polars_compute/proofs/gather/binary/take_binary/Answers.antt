@@ -1,13 +1,8 @@
 use Rattle.polars_compute.proofs.Common.{◌≡◌, ◌≤ℤ◌, pos, ap, sym, subst, ◌∙◌, IfOk, primitive_rows, rows_between, bytes_needed, ExceedsBytes, IsLimitOrMemory}
 use Rattle.polars_compute.proofs.Common.{take_rows, [], length-pieces, pieces}
 use Rattle.std.specs.Result.{IfErr}
-use Rattle.sel_arrow.specs.Columns.{binary_rows}
-use Rattle.sel_arrow.specs.Value.{Bytes}
-use Rattle.sel_arrow.proofs.ByteRows.{length-byte_rows}
-use Rattle.polars_compute.specs.Spans.{plain_rows}
-use Rattle.polars_compute.proofs.Takes.{within_as}
-use Rattle.polars_compute.proofs.TakenSpans.{live_taken}
-use Rattle.polars_compute.proofs.TakenStructs.{live_within}
+use Rattle.sel_arrow.{specs.Columns.binary_rows, specs.Value.Bytes, proofs.ByteRows.length-byte_rows}
+use Rattle.polars_compute.{specs.Spans.plain_rows, proofs.Takes.within_as, proofs.TakenSpans.live_taken, proofs.TakenStructs.live_within}
 use Rattle.polars_compute.proofs.gather.binary.take_binary.Goals as goal
 
 pub collect_spans-requires : goal.collect_spans-requires

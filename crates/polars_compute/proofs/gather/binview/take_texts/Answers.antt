@@ -1,6 +1,5 @@
-use Rattle.polars_compute.proofs.Common.{refl, utf8view_rows, primitive_rows, Null}
+use Rattle.polars_compute.proofs.{Common.refl, Common.utf8view_rows, Common.primitive_rows, Common.Null, Takes.passed_taken}
 use Rattle.sel_arrow.specs.Texts.{is_text}
-use Rattle.polars_compute.proofs.Takes.{passed_taken}
 use Rattle.polars_compute.proofs.gather.binview.take_texts.Goals as goal
 
 pub invariant_of-result : goal.invariant_of-result

@@ -1,7 +1,6 @@
 -- Loop invariant: the bits so far, followed by those of the remaining indices, are all bits; each
 -- remaining position is in bounds.
-use Rattle.polars_compute.proofs.Common.{◌≡◌, ◌++◌, length, map, true, all_below}
-use Rattle.polars_compute.proofs.Takes.{bits_at}
+use Rattle.polars_compute.proofs.{Common.◌≡◌, Common.◌++◌, Common.length, Common.map, Common.true, Common.all_below, Takes.bits_at}
 use Rattle.polars_compute.proofs.gather.bitmap.take_bits_at.Given as goal
 
 abbrev pub invariant-loop-bytes : goal.invariant-loop-bytes

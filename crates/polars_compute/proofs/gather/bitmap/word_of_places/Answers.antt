@@ -1,7 +1,6 @@
 use Rattle.polars_compute.proofs.Common.{◌≡◌, ◌+◌, ◌*◌, ◌%◌, ◌^◌, ◌∙◌, map, take, length-map, get_or, get_or-map, all_at, nat_lt, ap, sym, arith, false}
 use Rattle.polars_compute.proofs.Common.{ltb-true, from_bool, bits_from, word_of}
-use Rattle.polars_compute.proofs.Takes.{bits_at, word_at_few, word_at_next}
-use Rattle.polars_compute.proofs.gather.bitmap.word_of_places.Given.{Over}
+use Rattle.polars_compute.proofs.{Takes.bits_at, Takes.word_at_few, Takes.word_at_next, gather.bitmap.word_of_places.Given.Over}
 use Rattle.polars_compute.proofs.gather.bitmap.word_of_places.Goals as goal
 
 pub bit_in-requires-clause-inside : goal.bit_in-requires-clause-inside

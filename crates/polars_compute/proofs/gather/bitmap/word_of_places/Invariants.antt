@@ -1,6 +1,5 @@
 -- Loop invariant: the word has the bits so far.
-use Rattle.polars_compute.proofs.Common.{◌≡◌, map, take, bits_from, word_of}
-use Rattle.polars_compute.proofs.Takes.{bits_at}
+use Rattle.polars_compute.proofs.{Common.◌≡◌, Common.map, Common.take, Common.bits_from, Common.word_of, Takes.bits_at}
 use Rattle.polars_compute.proofs.gather.bitmap.word_of_places.Given as goal
 
 abbrev pub invariant-loop-k : goal.invariant-loop-k

@@ -1,5 +1,4 @@
-use Rattle.polars_compute.proofs.Common.{primitive_rows}
-use Rattle.polars_compute.proofs.BlockTakes.{begun}
+use Rattle.polars_compute.proofs.{Common.primitive_rows, BlockTakes.begun}
 use Rattle.polars_compute.proofs.gather.fixed_size_list.take_blocks.Goals as goal
 
 pub returns-in_err-take_block-clause-beginning : goal.returns-in_err-take_block-clause-beginning

@@ -4,8 +4,7 @@ use Rattle.std.proofs.lemmas.Slice.Zip.{AllZip-long}
 use Rattle.sel_bits.specs.Signs.{magnitude}
 use Rattle.polars_compute.specs.Spans.{BeginsAt, plain_rows}
 use Rattle.polars_compute.proofs.TakenSpans.{end_at, from_first, joined_more, length-ends, needed_more, start_at}
-use Rattle.polars_compute.proofs.gather.generic_binary.collect_joined.Given.{Over}
-use Rattle.polars_compute.proofs.gather.generic_binary.collect_joined.Goals.{In_ok-ends}
+use Rattle.polars_compute.proofs.gather.generic_binary.collect_joined.{Given.Over, Goals.In_ok-ends}
 use Rattle.polars_compute.proofs.gather.generic_binary.collect_joined.Goals as goal
 
 abbrev taken : (g : Over) → In_ok-ends g → List Value

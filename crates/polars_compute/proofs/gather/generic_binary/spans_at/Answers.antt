@@ -2,8 +2,7 @@ use Rattle.polars_compute.proofs.Common.{◌∙◌, ◌<◌, ◌≤ℤ◌, ◌<�
 use Rattle.polars_compute.proofs.Common.{ends_from, bytes_needed, take_rows, bit_or_true, Null, Value, byte_count, get_or, rules, ◌≡◌}
 use Rattle.polars_compute.specs.Spans.{AreStarts, BeginsAt, plain_rows}
 use Rattle.polars_compute.proofs.TakenSpans.{count, ended_more, needed_below, needed_more, placed, spanned, started_more}
-use Rattle.polars_compute.proofs.gather.generic_binary.spans_at.Given.{Over}
-use Rattle.polars_compute.proofs.gather.generic_binary.spans_at.Goals.{After-span_if-start}
+use Rattle.polars_compute.proofs.gather.generic_binary.spans_at.{Given.Over, Goals.After-span_if-start}
 use Rattle.polars_compute.proofs.gather.generic_binary.spans_at.Goals as goal
 
 pub span_if-start-requires-clause-rising : goal.span_if-start-requires-clause-rising

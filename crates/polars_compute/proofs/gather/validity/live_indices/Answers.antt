@@ -1,6 +1,5 @@
 use Rattle.polars_compute.proofs.Common.{◌∙◌, ℕ, List, pos, length, ap, sym, primitive_rows, number_rows, length-number_rows}
-use Rattle.polars_compute.proofs.Takes.{covers_for}
-use Rattle.polars_compute.proofs.TakenStructs.{live_rows}
+use Rattle.polars_compute.proofs.{Takes.covers_for, TakenStructs.live_rows}
 use Rattle.polars_compute.proofs.gather.validity.live_indices.Goals as goal
 
 pub invariant_of-result-clause-validity_fits : goal.invariant_of-result-clause-validity_fits

@@ -1,5 +1,4 @@
-use Rattle.polars_compute.proofs.Common.{arith, refl, sym, subst, HasLeft}
-use Rattle.polars_compute.proofs.Flattening.{first_part, rows_some}
+use Rattle.polars_compute.proofs.{Common.arith, Common.refl, Common.sym, Common.subst, Common.HasLeft, Flattening.first_part, Flattening.rows_some}
 use Rattle.polars_compute.proofs.lanes.Woven.of_rows.Goals as goal
 
 pub bounds-lanes-0 : goal.bounds-lanes-0

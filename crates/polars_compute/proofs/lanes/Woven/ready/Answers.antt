@@ -1,5 +1,4 @@
-use Rattle.polars_compute.proofs.Common.{arith, refl, sym, subst, HasLeft}
-use Rattle.polars_compute.proofs.Flattening.{lane_inside}
+use Rattle.polars_compute.proofs.{Common.arith, Common.refl, Common.sym, Common.subst, Common.HasLeft, Flattening.lane_inside}
 use Rattle.polars_compute.proofs.lanes.Woven.ready.Goals as goal
 
 pub overflow_mul-self : goal.overflow_mul-self

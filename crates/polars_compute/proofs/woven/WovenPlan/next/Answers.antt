@@ -1,5 +1,4 @@
-use Rattle.polars_compute.proofs.Common.{sym, ◌∙◌}
-use Rattle.polars_compute.proofs.Flattening.{pick_after, pick_first}
+use Rattle.polars_compute.proofs.{Common.sym, Common.◌∙◌, Flattening.pick_after, Flattening.pick_first}
 use Rattle.polars_compute.proofs.woven.WovenPlan.next.Goals as goal
 
 pub invariant_of-self : goal.invariant_of-self

@@ -1,5 +1,4 @@
-use Rattle.sel_gather.proofs.Common.{◌≡◌, arith}
-use Rattle.sel_gather.proofs.ItemPicks.{items_picked_all, items_shown}
+use Rattle.sel_gather.proofs.{Common.◌≡◌, Common.arith, ItemPicks.items_picked_all, ItemPicks.items_shown}
 use Rattle.sel_gather.proofs.item_runs.ItemRunsRuns.has_nulls.Goals as goal
 
 pub returns-else-has_nulls : goal.returns-else-has_nulls

@@ -1,5 +1,4 @@
-use Rattle.sel_gather.proofs.Common.{All-head, All-tail, IsRow}
-use Rattle.sel_gather.proofs.{ItemPicks.lists_left, ItemPicks.next_list, ItemPicks.row_fits, ItemRuns.rows_of}
+use Rattle.sel_gather.proofs.{Common.All-head, Common.All-tail, Common.IsRow, ItemRuns.rows_of, ItemPicks.lists_left, ItemPicks.next_list, ItemPicks.row_fits}
 use Rattle.sel_gather.proofs.item_runs.ItemRunsRuns.next_run.Goals as goal
 
 pub next-requires : goal.next-requires

@@ -1,5 +1,4 @@
-use Rattle.sel_gather.proofs.Common.{◌+◌, ◌∙◌, arith, length-drop}
-use Rattle.sel_gather.proofs.RunLists.{length-extended, run_extended}
+use Rattle.sel_gather.proofs.{Common.◌+◌, Common.◌∙◌, Common.arith, Common.length-drop, RunLists.length-extended, RunLists.run_extended}
 use Rattle.sel_gather.proofs.row_refs.Walk.extended.Goals as goal
 
 pub joined-requires : goal.joined-requires

@@ -1,5 +1,4 @@
-use Rattle.sel_gather.proofs.Common.{◌≡◌, ◌↔◌, All, false, is_none, rules, Run}
-use Rattle.sel_gather.proofs.RunLists.{named_picked}
+use Rattle.sel_gather.proofs.{Common.◌≡◌, Common.◌↔◌, Common.All, Common.false, Common.is_none, Common.rules, Common.Run, RunLists.named_picked}
 use Rattle.sel_gather.proofs.run_refs.ListedRunsRuns.has_nulls.Goals as goal
 
 pub returns : goal.returns

@@ -1,5 +1,4 @@
-use Rattle.sel_gather.proofs.Common.{All-append, IsPicked, unrolled}
-use Rattle.sel_gather.proofs.RunLists.{run_picked}
+use Rattle.sel_gather.proofs.{Common.All-append, Common.IsPicked, Common.unrolled, RunLists.run_picked}
 use Rattle.sel_gather.proofs.run_refs.RunRefsPlan.has_nulls.Goals as goal
 
 pub returns-in-Some : goal.returns-in-Some

@@ -1,5 +1,4 @@
-use Rattle.sel_gather.proofs.Common.{All-tail, IsNear, unrolled}
-use Rattle.sel_gather.proofs.RunLists.{All-left}
+use Rattle.sel_gather.proofs.{Common.All-tail, Common.IsNear, Common.unrolled, RunLists.All-left}
 use Rattle.sel_gather.proofs.run_refs.RunRefsPlan.next.Goals as goal
 
 pub split_first-next-requires-clause-near : goal.split_first-next-requires-clause-near

@@ -1,5 +1,4 @@
-use Rattle.sel_gather.proofs.Common.{arith, length-append, IsNear, unrolled}
-use Rattle.sel_gather.proofs.RunLists.{All-right, length-unrolled}
+use Rattle.sel_gather.proofs.{Common.arith, Common.length-append, Common.IsNear, Common.unrolled, RunLists.All-right, RunLists.length-unrolled}
 use Rattle.sel_gather.proofs.run_refs.RunRefsPlan.next_run.Goals as goal
 
 pub overflow_sub-self : goal.overflow_sub-self

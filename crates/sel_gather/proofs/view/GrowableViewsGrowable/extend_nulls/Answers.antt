@@ -1,6 +1,5 @@
-use Rattle.sel_gather.proofs.Common.{refl, is_placed, view_value}
+use Rattle.sel_gather.proofs.{Common.refl, Common.is_placed, Common.view_value, Grown.grown_nulls, Raising.nulls_lengths, Raising.nulls_placed}
 use Rattle.sel_arrow.specs.declared.view.View.{View}
-use Rattle.sel_gather.proofs.{Grown.grown_nulls, Raising.nulls_lengths, Raising.nulls_placed}
 use Rattle.sel_gather.proofs.view.GrowableViewsGrowable.extend_nulls.Goals as goal
 
 abbrev no_bytes : View

@@ -1,17 +1,11 @@
 use Rattle.sel_ternary.proofs.Common.{◌≡◌, ◌∙◌, ◌<◌, ◌+◌, ◌++◌, ◌∷◌, [], All, ap, sym, subst, map, length, get_or, take, replicate, arith, rules, true, None}
 use Rattle.sel_ternary.proofs.Common.{length-map, take_all, err_from_is_err_and, rows, type_of, well_formed, of_null, of_struct, shape_list, Null, length-rows}
 use Rattle.sel_ternary.proofs.Common.{field, part_at, IsLimitOrMemory, ExceedsNone, exceeded_taken, refused_more, size_of, chosen_rows}
-use Rattle.std.proofs.lemmas.List.{take_more, map-append}
-use Rattle.std.proofs.lemmas.List.Elements.{All-push}
-use Rattle.sel_arrow.specs.Rows.{row_count, IsField}
-use Rattle.sel_arrow.specs.Shape.{shapes_of}
-use Rattle.sel_arrow.proofs.Trees.{rows-Struct, fields_make}
-use Rattle.sel_arrow.proofs.Types.{type_of-Struct}
-use Rattle.sel_gather.specs.Steps.{parts_of}
-use Rattle.sel_gather.proofs.Below.{listed_shapes, past_at, parts_more}
-use Rattle.sel_gather.proofs.Rebuilt.{IsTuple, tuples_rebuilt}
-use Rattle.sel_gather.proofs.TupleRows.{field_type}
-use Rattle.sel_gather.proofs.Within.{fields_pass, one_more_passes}
+use Rattle.std.proofs.lemmas.List.{take_more, map-append, Elements.All-push}
+use Rattle.sel_arrow.specs.{Rows.row_count, Rows.IsField, Shape.shapes_of}
+use Rattle.sel_arrow.proofs.{Trees.rows-Struct, Trees.fields_make, Types.type_of-Struct}
+use Rattle.sel_gather.{specs.Steps.parts_of, proofs.Rebuilt.IsTuple, proofs.Rebuilt.tuples_rebuilt, proofs.TupleRows.field_type}
+use Rattle.sel_gather.proofs.{Below.listed_shapes, Below.past_at, Below.parts_more, Within.fields_pass, Within.one_more_passes}
 use Rattle.sel_ternary.proofs.StructChoices.{bare_count, same_shapes, field_size, chosen_count, chosen_valid, chosen_tuples, first_formed, second_formed}
 use Rattle.sel_ternary.proofs.StructChoices.{copy_of, copies_alike, copy_true_side, copy_false_side, copies_chosen, copies_pass, copies_refused}
 use Rattle.sel_ternary.proofs.if_then_else.any.+choosing.Goals as goal

@@ -1,6 +1,5 @@
 use Rattle.sel_ternary.proofs.Common.{rules, sym, ◌∙◌, [], ◌∷◌, ap, replicate, err_from_is_err_and, rows, Null}
-use Rattle.sel_ternary.proofs.WordKernels.{null_run}
-use Rattle.sel_ternary.proofs.Chosen.{two_equal}
+use Rattle.sel_ternary.proofs.{WordKernels.null_run, Chosen.two_equal}
 use Rattle.sel_ternary.proofs.if_then_else.any.null_choice.Goals as goal
 
 pub returns-in_err-column : goal.returns-in_err-column

@@ -1,5 +1,4 @@
-use Rattle.sel_ternary.proofs.Common.{rules, err_from_is_err_and, rows}
-use Rattle.sel_ternary.proofs.ChosenPicks.{choice_picked}
+use Rattle.sel_ternary.proofs.{Common.rules, Common.err_from_is_err_and, Common.rows, ChosenPicks.choice_picked}
 use Rattle.sel_ternary.proofs.if_then_else.any.picked_choice.Goals as goal
 
 pub returns : goal.returns

@@ -1,7 +1,5 @@
 use Rattle.sel_ternary.proofs.Common.{◌≡◌, ◌∙◌, length, take, drop, sym, ap, arith, [], WordReading, reached, bits, length_part, choose}
-use Rattle.sel_ternary.proofs.Blocks.{word_bits, word_end, word_within}
-use Rattle.sel_ternary.proofs.Chosen.{AsLong}
-use Rattle.sel_ternary.proofs.Lanes.{chosen_grows, filled_next}
+use Rattle.sel_ternary.proofs.{Blocks.word_bits, Blocks.word_end, Blocks.word_within, Chosen.AsLong, Lanes.chosen_grows, Lanes.filled_next}
 use Rattle.sel_ternary.proofs.if_then_else.by_lanes.choose_sides.Goals as goal
 
 pub push_word-requires-clause-room : goal.push_word-requires-clause-room

@@ -1,5 +1,4 @@
-use Rattle.sel_ternary.proofs.Common.{◌-◌, length, vec_capacity}
-use Rattle.sel_ternary.proofs.Lanes.{IsAppended}
+use Rattle.sel_ternary.proofs.{Common.◌-◌, Common.length, Common.vec_capacity, Lanes.IsAppended}
 use Rattle.sel_ternary.proofs.if_then_else.by_lanes.choose_sides.Given as goal
 
 abbrev pub invariant-loop-word : goal.invariant-loop-word

@@ -1,6 +1,5 @@
 use Rattle.sel_ternary.proofs.Common.{◌≡◌, ◌+◌, ◌-◌, ◌*◌, ◌/◌, ◌^◌, ◌≤◌, ◌∙◌, length, take, drop, ap, subst, arith, vec_capacity, bits, length_part, choose}
-use Rattle.sel_ternary.proofs.Chosen.{word_long, chosen_to}
-use Rattle.sel_ternary.proofs.Lanes.{IsFilled, bits_part, bits_part_16, filled_all, filled_next}
+use Rattle.sel_ternary.proofs.{Chosen.word_long, Chosen.chosen_to, Lanes.IsFilled, Lanes.bits_part, Lanes.bits_part_16, Lanes.filled_all, Lanes.filled_next}
 use Rattle.sel_ternary.proofs.if_then_else.by_lanes.push_word.Goals as goal
 
 pub loop-k-preserved : goal.loop-k-preserved

@@ -1,6 +1,4 @@
-use Rattle.sel_ternary.proofs.Common.{◌*◌, length, vec_capacity, bits}
-use Rattle.sel_ternary.proofs.Lanes.{IsFilled}
-use Rattle.sel_ternary.proofs.Chosen.{chosen_to}
+use Rattle.sel_ternary.proofs.{Common.◌*◌, Common.length, Common.vec_capacity, Common.bits, Lanes.IsFilled, Chosen.chosen_to}
 use Rattle.sel_ternary.proofs.if_then_else.by_lanes.push_word.Given as goal
 
 abbrev pub invariant-loop-k : goal.invariant-loop-k

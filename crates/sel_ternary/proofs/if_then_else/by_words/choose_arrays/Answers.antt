@@ -1,6 +1,5 @@
 use Rattle.sel_ternary.proofs.Common.{◌∙◌, not, map, length, ap, sym, length-map, Bits, hidden}
-use Rattle.sel_ternary.proofs.Chosen.{length-spread}
-use Rattle.sel_ternary.proofs.WordKernels.{null_then, null_otherwise, one_row}
+use Rattle.sel_ternary.proofs.{Chosen.length-spread, WordKernels.null_then, WordKernels.null_otherwise, WordKernels.one_row}
 use Rattle.sel_ternary.proofs.if_then_else.by_words.choose_arrays.Goals as goal
 
 pub nulled-requires : goal.nulled-requires

@@ -1,6 +1,5 @@
 use Rattle.sel_ternary.proofs.Common.{◌≡◌, length, refl, sym, arith, if◌then◌else◌, is_set}
-use Rattle.sel_ternary.proofs.Chosen.{bit_takes_first, bit_takes_second, row_block, word_long}
-use Rattle.sel_ternary.proofs.Lanes.{filled_all, filled_next}
+use Rattle.sel_ternary.proofs.{Chosen.bit_takes_first, Chosen.bit_takes_second, Chosen.row_block, Chosen.word_long, Lanes.filled_all, Lanes.filled_next}
 use Rattle.sel_ternary.proofs.if_then_else.lanes.push_bits.Goals as goal
 use Rattle.sel_ternary.proofs.if_then_else.lanes.push_bits.Goals.{then-mask-i-eq1, else-mask-i-eq1}
 

@@ -1,5 +1,4 @@
-use Rattle.sel_ternary.proofs.Common.{take, vec_capacity}
-use Rattle.sel_ternary.proofs.Lanes.{IsFilled}
+use Rattle.sel_ternary.proofs.{Common.take, Common.vec_capacity, Lanes.IsFilled}
 use Rattle.sel_ternary.proofs.if_then_else.lanes.push_lanes.Given as goal
 
 abbrev pub invariant-loop-i : goal.invariant-loop-i

@@ -1,5 +1,4 @@
-use Rattle.sel_ternary.proofs.Common.{refl, Bool, ℤ, cond, w16, cast_signed}
-use Rattle.sel_ternary.proofs.Lanes.{lanes_marked}
+use Rattle.sel_ternary.proofs.{Common.refl, Common.Bool, Common.ℤ, Common.cond, Common.w16, Common.cast_signed, Lanes.lanes_marked}
 use Rattle.sel_ternary.proofs.if_then_else.lanes.set_lanes_16.Goals as goal
 
 abbrev lane : Bool → ℤ

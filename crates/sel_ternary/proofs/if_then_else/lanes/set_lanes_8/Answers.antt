@@ -1,6 +1,5 @@
 use Rattle.sel_ternary.proofs.Common.{◌∙◌, ◌/◌, ◌++◌, sym, ap, map, refl, Bool, ℤ, cond, w8, cast_signed, bits, all_ones}
-use Rattle.std.proofs.Common.{◌%◌}
-use Rattle.std.proofs.lemmas.List.{map-append}
+use Rattle.std.proofs.{Common.◌%◌, lemmas.List.map-append}
 use Rattle.sel_ternary.proofs.Lanes.{lanes_marked, two_bytes}
 use Rattle.sel_ternary.proofs.if_then_else.lanes.set_lanes_8.Goals as goal
 

@@ -1,5 +1,4 @@
-use Rattle.sel_ternary.proofs.Common.{sym, ◌∙◌, choose, column}
-use Rattle.sel_ternary.proofs.ListChoices.{answered_choice, refused_choice}
+use Rattle.sel_ternary.proofs.{Common.sym, Common.◌∙◌, Common.choose, Common.column, ListChoices.answered_choice, ListChoices.refused_choice}
 use Rattle.sel_ternary.proofs.if_then_else.lists.choose_lists.Goals as goal
 
 pub returns-clause-within : goal.returns-clause-within

@@ -1,7 +1,6 @@
 use Rattle.sel_ternary.proofs.Common.{arith, ap, length, sym, ◌∙◌, rows, few_rows_pass, broadcast_both, scalar, first_row}
 use Rattle.sel_arrow.specs.Nested.{list_of}
-use Rattle.sel_ternary.proofs.ListChoices.{answered_choice, refused_choice}
-use Rattle.sel_ternary.proofs.Validities.{length-choose_of_two}
+use Rattle.sel_ternary.proofs.{ListChoices.answered_choice, ListChoices.refused_choice, Validities.length-choose_of_two}
 use Rattle.sel_ternary.proofs.if_then_else.lists.choose_ones.Goals as goal
 
 pub returns-clause-within : goal.returns-clause-within

@@ -1,7 +1,6 @@
 use Rattle.sel_ternary.proofs.Common.{◌≡◌, ◌+◌, ◌-◌, length, take, drop, arith}
 use Rattle.std.proofs.lemmas.List.{length-take, length-drop}
-use Rattle.sel_ternary.proofs.Blocks.{begun_next, begun_within}
-use Rattle.sel_ternary.proofs.Chosen.{AsLong}
+use Rattle.sel_ternary.proofs.{Blocks.begun_next, Blocks.begun_within, Chosen.AsLong}
 use Rattle.sel_ternary.proofs.if_then_else.loops.choose_blocks.Goals as goal
 
 pub loop-word-preserved : goal.loop-word-preserved

@@ -1,5 +1,4 @@
-use Rattle.sel_ternary.proofs.Common.{◌-◌, length}
-use Rattle.sel_ternary.proofs.Blocks.{IsBegun}
+use Rattle.sel_ternary.proofs.{Common.◌-◌, Common.length, Blocks.IsBegun}
 use Rattle.sel_ternary.proofs.if_then_else.loops.choose_blocks.Given as goal
 
 abbrev pub invariant-loop-word : goal.invariant-loop-word

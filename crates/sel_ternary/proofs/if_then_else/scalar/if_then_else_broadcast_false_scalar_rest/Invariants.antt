@@ -1,5 +1,4 @@
-use Rattle.sel_ternary.proofs.Common.{length, replicate, bits}
-use Rattle.sel_ternary.proofs.Chosen.{IsChosen}
+use Rattle.sel_ternary.proofs.{Common.length, Common.replicate, Common.bits, Chosen.IsChosen}
 use Rattle.sel_ternary.proofs.if_then_else.scalar.if_then_else_broadcast_false_scalar_rest.Given as goal
 
 abbrev pub invariant-loop-i : goal.invariant-loop-i

@@ -1,6 +1,5 @@
 use Rattle.sel_ternary.proofs.Common.{◌≡◌, ◌∙◌, length, map, get_or, refl, arith, if◌then◌else◌, length-map, View, is_set, raised}
-use Rattle.sel_ternary.proofs.Chosen.{bit_takes_first, bit_takes_second, all_rows, chosen_mapped}
-use Rattle.sel_ternary.proofs.Placed.{far_rises, inline_stays}
+use Rattle.sel_ternary.proofs.{Chosen.bit_takes_first, Chosen.bit_takes_second, Chosen.all_rows, Chosen.chosen_mapped, Placed.far_rises, Placed.inline_stays}
 use Rattle.sel_ternary.proofs.if_then_else.view.if_then_else_view_rest.Goals as goal
 use Rattle.sel_ternary.proofs.if_then_else.view.if_then_else_view_rest.Goals.{then-mask-i-eq1, else-mask-i-eq1+then-other-le-INLINE_BYTES}
 use Rattle.sel_ternary.proofs.if_then_else.view.if_then_else_view_rest.Goals.{else-mask-i-eq1+else-other-le-INLINE_BYTES}

@@ -1,5 +1,4 @@
-use Rattle.sel_ternary.proofs.Common.{length, map, bits, raised}
-use Rattle.sel_ternary.proofs.Chosen.{IsChosen}
+use Rattle.sel_ternary.proofs.{Common.length, Common.map, Common.bits, Common.raised, Chosen.IsChosen}
 use Rattle.sel_ternary.proofs.if_then_else.view.if_then_else_view_rest.Given as goal
 
 abbrev pub invariant-loop-i : goal.invariant-loop-i

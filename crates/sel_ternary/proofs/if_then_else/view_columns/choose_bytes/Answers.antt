@@ -1,6 +1,5 @@
 use Rattle.sel_ternary.proofs.Common.{◌≡◌, ◌∙◌, ◌++◌, length, ap, arith, length-append, broadcast_both, scalar_buffers}
-use Rattle.sel_ternary.proofs.JoinedViews.{two_placed}
-use Rattle.sel_ternary.proofs.Validities.{length-choose_of_two, no_validity}
+use Rattle.sel_ternary.proofs.{JoinedViews.two_placed, Validities.length-choose_of_two, Validities.no_validity}
 use Rattle.sel_ternary.proofs.if_then_else.view_columns.choose_bytes.Goals as goal
 
 pub invariant_of-result : goal.invariant_of-result

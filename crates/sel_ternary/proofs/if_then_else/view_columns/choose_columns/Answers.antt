@@ -1,10 +1,6 @@
-use Rattle.sel_ternary.proofs.Common.{◌≡◌, ◌∙◌, ◌+◌, ◌≤◌, ◌++◌, length, map, ap, arith, length-append, length-map, view_value}
-use Rattle.sel_ternary.proofs.Common.{View, choose, raised}
+use Rattle.sel_ternary.proofs.Common.{◌≡◌, ◌∙◌, ◌+◌, ◌≤◌, ◌++◌, length, map, ap, arith, length-append, length-map, view_value, View, choose, raised}
 use Rattle.sel_bits.specs.Limits.{max_buffers}
-use Rattle.sel_ternary.specs.ViewSides.{all_rise}
-use Rattle.sel_ternary.proofs.Chosen.{length-choose}
-use Rattle.sel_ternary.proofs.JoinedViews.{both_placed}
-use Rattle.sel_ternary.proofs.Placed.{views_rise}
+use Rattle.sel_ternary.{specs.ViewSides.all_rise, proofs.Chosen.length-choose, proofs.Placed.views_rise, proofs.JoinedViews.both_placed}
 use Rattle.sel_ternary.proofs.Validities.{choice_covers, side_covers, side_long}
 use Rattle.sel_ternary.proofs.if_then_else.view_columns.choose_columns.Goals as goal
 

@@ -1,6 +1,5 @@
-use Rattle.sel_ternary.proofs.Common.{arith, length, ap, View}
+use Rattle.sel_ternary.proofs.{Common.arith, Common.length, Common.ap, Common.View, WordKernels.first_viewed}
 use Rattle.sel_arrow.proofs.ViewRows.{length-view_rows}
-use Rattle.sel_ternary.proofs.WordKernels.{first_viewed}
 use Rattle.sel_ternary.proofs.if_then_else.word_kernels.first_view.Goals as goal
 
 pub bounds-as_slice-0 : goal.bounds-as_slice-0

@@ -1,5 +1,4 @@
-use Rattle.polars_compute.proofs.Common.{w64, to_z-of_z}
-use Rattle.polars_compute.proofs.Elements.{lists_fit, lists_got}
+use Rattle.polars_compute.proofs.{Common.w64, Common.to_z-of_z, Elements.lists_fit, Elements.lists_got}
 use Rattle.polars_compute.proofs.gather.sublist.list.sublist_get.Goals as goal
 
 pub collect_one_plan-requires-clause-fits : goal.collect_one_plan-requires-clause-fits

@@ -1,8 +1,7 @@
 use Rattle.sel_ternary.proofs.Common.{ℕ, ◌+◌, List, length, arith, subst, Bytes, ExceedsNone, few_rows_pass, passes_neither, broadcast_both, scalar_buffers}
 use Rattle.sel_ternary.proofs.Common.{ExceedsViews, IfOk-weaker}
 use Rattle.sel_gather.specs.Need.{ExceedsRows}
-use Rattle.std.specs.Prelude.{IfOk, max}
-use Rattle.std.specs.Vec.{vec_items}
+use Rattle.std.specs.{Prelude.IfOk, Prelude.max, Vec.vec_items}
 use Rattle.sel_ternary.proofs.Validities.{length-choose_of_two}
 use Rattle.sel_ternary.proofs.if_then_else.binview.BinaryViewArrayIfThenElseKernel.if_then_else_broadcast_both.Goals as goal
 

@@ -1,5 +1,4 @@
-use Rattle.sel_ternary.proofs.Common.{refl, w32, cast_signed, cast_unsigned, top}
-use Rattle.sel_ternary.proofs.Lanes.{signed_lanes}
+use Rattle.sel_ternary.proofs.{Common.refl, Common.w32, Common.cast_signed, Common.cast_unsigned, Common.top, Lanes.signed_lanes}
 use Rattle.sel_ternary.proofs.if_then_else.lanes.I32ChooseLanes.push_16.Goals as goal
 
 pub returns-clause-items : goal.returns-clause-items

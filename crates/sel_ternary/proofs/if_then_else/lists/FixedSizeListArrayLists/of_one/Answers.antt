@@ -1,5 +1,4 @@
-use Rattle.sel_ternary.proofs.Common.{ap, sym, ◌∙◌, rows, well_formed}
-use Rattle.sel_ternary.proofs.OneList.{one_block_formed}
+use Rattle.sel_ternary.proofs.{Common.ap, Common.sym, Common.◌∙◌, Common.rows, Common.well_formed, OneList.one_block_formed}
 use Rattle.sel_ternary.proofs.if_then_else.lists.FixedSizeListArrayLists.of_one.Goals as goal
 
 pub invariant_of-lists : goal.invariant_of-lists

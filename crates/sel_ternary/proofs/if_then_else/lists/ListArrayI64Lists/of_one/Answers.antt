@@ -1,6 +1,5 @@
 use Rattle.sel_ternary.proofs.Common.{◌≡◌, [], ◌∷◌, ap, arith, length, pos, sym, w64, ◌∙◌, rows, well_formed}
-use Rattle.std.proofs.Common.{to_z}
-use Rattle.std.proofs.lemmas.Int.{to_z_pos}
+use Rattle.std.proofs.{Common.to_z, lemmas.Int.to_z_pos}
 use Rattle.sel_gather.proofs.JoinedRows.{map_same, same_numbers}
 use Rattle.sel_ternary.proofs.OneList.{one_list_formed}
 use Rattle.sel_ternary.proofs.if_then_else.lists.ListArrayI64Lists.of_one.Goals as goal

@@ -1,5 +1,4 @@
-use Rattle.polars_compute.proofs.Common.{arith}
-use Rattle.polars_compute.proofs.Elements.{few_lists}
+use Rattle.polars_compute.proofs.{Common.arith, Elements.few_lists}
 use Rattle.polars_compute.proofs.gather.sublist.list.ListPlacesPlaces.len.Goals as goal
 
 pub returns-clause-few : goal.returns-clause-few
