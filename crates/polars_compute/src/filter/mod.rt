@@ -303,8 +303,8 @@ fn filter_runs(
 
 /// Returns the rows of `column` whose bit is set, as `filter_runs` does.
 ///
-/// If most runs are short, no run is listed, and lists are copied one by one. Long runs are few, so
-/// they are listed, and the items of all lists of a run are copied at once.
+/// If most runs are short, no run is listed, and lists are read one by one, by the bits of the mask.
+/// Long runs are few, so they are listed, and the items of all lists of a run are copied at once.
 fn collect_kept(alloc: Global, column: &Column, mask: &Bitmap, count: usize) -> PolarsResult<Column>
     requires formed { IsWellFormed column.now }
     requires long { length (rows column.now) ≡ length mask.now.bits }
@@ -314,20 +314,29 @@ fn collect_kept(alloc: Global, column: &Column, mask: &Bitmap, count: usize) -> 
         (pick Null (rows column.now ∷ []) (map place_pick (kept mask.now.bits))) }
 {
     let sources = [column];
-    if count_runs(mask) < count / LONG_RUN {
+    let in_runs = count_runs(mask) < count / LONG_RUN;
+    if !in_runs && is_list(column) {
         let plan = RunRefs {
             first: NO_ROWS,
-            rest: MaskRuns { mask, at: 0 },
+            rest: MaskRows { mask, at: 0 },
             left: count,
         };
-        return collect_plan(alloc, &sources, &plan, true);
+        return collect_rising(alloc, &sources, &plan);
     }
     let plan = RunRefs {
         first: NO_ROWS,
-        rest: MaskRows { mask, at: 0 },
+        rest: MaskRuns { mask, at: 0 },
         left: count,
     };
-    collect_rising(alloc, &sources, &plan)
+    collect_plan(alloc, &sources, &plan, in_runs)
+}
+
+/// Returns whether `column` has lists with offsets. No contract depends on the result.
+fn is_list(column: &Column) -> bool {
+    match column {
+        Column::LargeList { .. } => true,
+        _ => false,
+    }
 }
 
 /// Returns one null for each set bit of `_mask`.

@@ -1,22 +1,22 @@
 use Rattle.polars_compute.proofs.{Common.◌∙◌, Common.arith, Common.sym, Common.rows, Selects.kept_few, Selects.kept_fit, Selects.kept_long, Selects.kept_near}
 use Rattle.polars_compute.proofs.filter.collect_kept.Goals as goal
 
--- ---- long runs
+-- ---- the bits of the mask
 
-pub invariant_of-plan-then-count_runs-count : goal.invariant_of-plan-then-count_runs-count
-invariant_of-plan-then-count_runs-count c =
+pub invariant_of-plan-then-is_list : goal.invariant_of-plan-then-is_list
+invariant_of-plan-then-is_list c =
     let mask = c.args.mask.now.bits in
     record { count = kept_long mask ∙ sym c.requires.count; few = omega (arith, c.requires.count, kept_few mask, c.requires.few); near = kept_near mask c.requires.few }
 
-pub collect_plan-requires-clause-fits : goal.collect_plan-requires-clause-fits
-collect_plan-requires-clause-fits c = kept_fit (rows c.args.column.now) c.args.mask.now.bits c.requires.long
+pub collect_rising-requires-clause-fits : goal.collect_rising-requires-clause-fits
+collect_rising-requires-clause-fits c = kept_fit (rows c.args.column.now) c.args.mask.now.bits c.requires.long
 
--- ---- short runs
+-- ---- its runs
 
 pub invariant_of-plan-3 : goal.invariant_of-plan-3
 invariant_of-plan-3 c =
     let mask = c.args.mask.now.bits in
     record { count = kept_long mask ∙ sym c.requires.count; few = omega (arith, c.requires.count, kept_few mask, c.requires.few); near = kept_near mask c.requires.few }
 
-pub collect_rising-requires-clause-fits : goal.collect_rising-requires-clause-fits
-collect_rising-requires-clause-fits c = kept_fit (rows c.args.column.now) c.args.mask.now.bits c.requires.long
+pub collect_plan-requires-clause-fits : goal.collect_plan-requires-clause-fits
+collect_plan-requires-clause-fits c = kept_fit (rows c.args.column.now) c.args.mask.now.bits c.requires.long
