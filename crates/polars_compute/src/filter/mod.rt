@@ -43,7 +43,7 @@ use selection::first_kept;
 use std::alloc::Global;
 
 /// The number of rows from which on a run is long.
-const LONG_RUN: usize = 8;
+const LONG_RUN: usize = 3;
 
 /// Returns the rows of `array` where `mask` is true and valid, in order.
 ///
