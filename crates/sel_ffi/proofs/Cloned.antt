@@ -1,10 +1,8 @@
 -- Invariants of cloning the columns of handles one by one; each handle keeps its column.
 use Rattle.std.proofs.Common.{◌≡◌, ℕ, ◌+◌, ◌<◌, ◌≤◌, List, [], ◌∷◌, ◌++◌, length, take, get_or, map, set, All, None, refl, ap, sym, ◌∙◌, subst, arith, take_all}
-use lib.ListN.{get_or-map}
 use Rattle.std.proofs.Math.Seq.{map-set_same}
-use Rattle.sel_ffi.proofs.Common.{length-map, All-more, HasColumn, Handle}
-use Rattle.sel_ffi.proofs.Depths.{mapped_more}
-use Rattle.sel_ffi.specs.Held.{Held}
+use lib.ListN.{get_or-map}
+use Rattle.sel_ffi.{proofs.Common.length-map, proofs.Common.All-more, proofs.Common.HasColumn, proofs.Common.Handle, proofs.Depths.mapped_more, specs.Held.Held}
 
 -- The handle at i has the same column.
 told_at : (hs xs : List Handle) (i : ℕ) (d : Handle) → map (λ h. h.tree) hs ≡ map (λ h. h.tree) xs → (get_or hs i d).tree ≡ (get_or xs i d).tree

@@ -5,22 +5,16 @@
 use mathlib.Core.List.{[], ◌∷◌}
 use mir.Raw.{raw}
 use base.Shift.{Keyless}
-use denote.Builtin.{RawPtr}
-use denote.Memory.{lone}
-use denote.RattleType.{RattleType}
-use denote.RawPtr.{Ptr}
+use denote.{RawPtr.Ptr, Memory.lone, Builtin.RawPtr, RattleType.RattleType, Struct.Struct.exits_of, Struct.Owning.Owning, Struct.Owning.row}
+use denote.Struct.Owning.{shape, fields, to}
 use denote.Param.Send.{IsSend, IsSync, AllSend, owning_send, struct_send, part_keyless, sendable}
-use denote.Struct.Struct.{exits_of}
-use denote.Struct.Owning.{Owning, row, shape, fields, to}
-use Rattle.std.proofs.Crossing as heap
-use Rattle.std.proofs.alloc.Global.TheSendSync as allocator
 use Rattle.std.specs.declared.alloc.Global.{Global}
-use Rattle.sel_ffi.proofs.Common.{Option, None, Some, held_owns, ref_owns}
+use Rattle.sel_ffi.proofs.{Common.Option, Common.None, Common.Some, Common.held_owns, Common.ref_owns, HandleSteps.Owner, HandleSteps.Row, HandleSteps.form}
+use Rattle.sel_ffi.{proofs.RefSteps.ref_struct, specs.contracts.shared_column.SharedColumn.the_row}
 use Rattle.std_alloc.proofs.SendSync.{quiet, lies, seen}
 use Rattle.sel_arrow.proofs.Crossing.{array_send, array_sync}
-use Rattle.sel_ffi.specs.contracts.shared_column.SharedColumn.{the_row}
-use Rattle.sel_ffi.proofs.HandleSteps.{Owner, Row, form}
-use Rattle.sel_ffi.proofs.RefSteps.{ref_struct}
+use Rattle.std.proofs.Crossing as heap
+use Rattle.std.proofs.alloc.Global.TheSendSync as allocator
 
 pub shared_send : IsSend the_row
 shared_send = search (sendable, heap.Arc-send, array_send, array_sync) depth 20

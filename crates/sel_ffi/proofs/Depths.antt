@@ -1,14 +1,11 @@
 -- The nesting depth of several types, and lists that loops extend.
-use Rattle.std.proofs.Common.{◌≡◌, ◌≤◌, ◌↔◌, IsTrue, true, false, take_all, ℕ, zero, suc, ◌+◌, ◌<◌, List, [], ◌∷◌, ◌++◌, length, take, get_or, map, refl, ap, sym, ◌∙◌, arith, All, subst}
-use Rattle.sel_ffi.proofs.Common.{take_more, map-append, All-more, All-push, depth, deepest, Shape, shapes_of}
+use Rattle.std.proofs.Common.{◌≡◌, ◌≤◌, ◌↔◌, IsTrue, true, false, take_all, ℕ, zero, suc, ◌+◌, ◌<◌, List, [], ◌∷◌, ◌++◌, length, take, get_or, map, refl, sym, arith, All, subst}
+use Rattle.sel_ffi.proofs.Common.{common_steps, All-more, All-push, depth, deepest, Shape, shapes_of}
 
 -- If no type has more than n levels, neither has the deepest.
 all_within : {A : Type 0} (f : A → Shape) (xs : List A) (n : ℕ) → All (λ x. depth (f x) ≤ n) xs → deepest (shapes_of (map f xs)) ≤ n
 all_within f [] n all = omega arith
-all_within f (x ∷ xs) n all =
-    let first : depth (f x) ≤ n = all zero x (omega arith) in
-    let others = all_within f xs n (λ i d low. all (suc i) d (omega (arith, low))) in
-    omega (arith, first, others)
+all_within f (x ∷ xs) n all = omega (arith, all zero x (omega arith), all_within f xs n (λ i d low. all (suc i) d (omega (arith, low))))
 
 -- If the deepest type has at most n levels, so has each.
 one_within : {A : Type 0} (f : A → Shape) (xs : List A) (n i : ℕ) (d : A) → i < length xs → deepest (shapes_of (map f xs)) ≤ n → depth (f (get_or xs i d)) ≤ n
@@ -26,8 +23,7 @@ module _ {A : Type 0} (f : A → Shape) (xs : List A) (n i : ℕ) where
 
 -- Appending the result for element i extends the results for the first i to the first i + 1.
 pub mapped_more : {A B C : Type 0} (f : A → B) (g : C → B) (xs : List A) (i : ℕ) (ts new : List C) (t : C) (h d : A) → i < length xs → new ≡ ts ++ t ∷ [] → h ≡ get_or xs i d → map g ts ≡ map f (take i xs) → g t ≡ f h → map g new ≡ map f (take (i + 1) xs)
-mapped_more f g xs i ts new t h d low pushed at same is =
-    ap (map g) pushed ∙ map-append g ts (t ∷ []) ∙ (λ k. same k ++ (is ∙ ap f at) k ∷ []) ∙ sym (map-append f (take i xs) (get_or xs i d ∷ [])) ∙ ap (map f) (sym (take_more xs i d low))
+mapped_more f g xs i ts new t h d low pushed at same is = grind (arith, common_steps)
 
 -- What holds of the first i and of element i holds of the first i + 1.
 pub all_more : {A : Type 0} (P : A → Type 0) (xs : List A) (i : ℕ) (h d : A) → i < length xs → h ≡ get_or xs i d → P h → All P (take i xs) → All P (take (i + 1) xs)

@@ -1,20 +1,18 @@
 -- A handle: a struct of a pointer and an allocator, which owns a box, or nothing at the null pointer. Assumes `Logic`.
 --     Owner, owner             such a struct, for values of the type R, and one by its parts
 --     form, Row                what it owns beside its fields, and its type
---     ptr_good, loose_good     its machine values, and those of a `Loose`, are of their types
+--     ptr_good                 its machine values, which those of a `Loose` are too, are of its type
 --     handle_out, handle_in    a handle by value is [what it owns; the allocator], and back
 --     either_held              the two cases of what it owns: null, and a box
 use Rattle.std.proofs.Common.{◌≡◌, ℕ, List, [], ◌∷◌, ◌++◌, refl, subst, lit<}
-use Rattle.sel_ffi.proofs.Walks.{Al, and_tt, bare, block_ptr, box_owns, dnil, drop, exits_of, fact_use, feq_i, feq_l, fjoin, fpack, fpick}
-use Rattle.sel_ffi.proofs.Walks.{fsplit, fst∗, ghosts, given, Goal, Good, guard_i, handle_tells, has_ty, hidden, impl, in_a_block, Item}
-use Rattle.sel_ffi.proofs.Walks.{layout, learn, lies_at, Logic, lone, move, never, nothing, null_ptr, of_list, Owning, Ptr, ptr_val}
-use Rattle.sel_ffi.proofs.Walks.{RattleType, RawPtr, RawPtr-field, row, sem, Seq, shape, snd∗, Step, step, Struct, Sym, T, tcons, Testable}
-use Rattle.sel_ffi.proofs.Walks.{tnil, Ty, ty_ptr, ty_struct, under, Ura, use1, Val, Valss, via, vptr, vstruct, wholly, within, WT, ‵, ◌$◌}
-use Rattle.std.specs.contracts.alloc.Global as heap
 use Rattle.std.{specs.declared.alloc.Global.Global, proofs.GlobalToken.dealloc_token-Testable}
+use Rattle.sel_ffi.proofs.Walks.{Al, and_tt, bare, block_ptr, box_owns, dnil, drop, exits_of, fact_use, feq_i, feq_l, fjoin, fpack, fpick, fsplit, fst∗, ghosts}
+use Rattle.sel_ffi.proofs.Walks.{given, Goal, Good, guard_i, handle_tells, has_ty, hidden, impl, in_a_block, Item, layout, learn, lies_at, Logic, lone, move}
+use Rattle.sel_ffi.proofs.Walks.{never, nothing, null_ptr, of_list, Owning, Ptr, ptr_val, RattleType, RawPtr, RawPtr-field, row, sem, Seq, shape, snd∗, Step}
+use Rattle.sel_ffi.proofs.Walks.{step, Struct, Sym, T, tcons, Testable, tnil, Ty, ty_ptr, ty_struct, under, Ura, use1, Val, Valss, via, vstruct, wholly}
+use Rattle.sel_ffi.proofs.{Walks.within, Walks.WT, Walks.‵, Walks.◌$◌, Common.Option, Common.None, Common.Some, Common.held_owns, LooseSteps.both}
+use Rattle.std.specs.contracts.alloc.Global as heap
 use Rattle.std.proofs.alloc.Global.TheLaws as heap_laws
-use Rattle.sel_ffi.proofs.{Common.Option, Common.None, Common.Some, Common.held_owns, LooseSteps.both}
-use Rattle.sel_ffi.specs.contracts.loose.Loose as loose
 
 -- The pointer, the allocator and the value.
 abbrev pub Parts : RattleType → Type 0
@@ -41,9 +39,6 @@ handle_ty name = ty_struct name (tcons ty_ptr (tcons (layout Z) tnil))
 pub ptr_good : (name : Sym) (p : Ptr) (h : Val) → Good (layout Z) h → T (has_ty (handle_ty name) (both (ptr_val p) h)) × WT (both (ptr_val p) h)
 ptr_good name (block_ptr b o) h fits = (and_tt (has_ty (layout Z) h) fits.0, (tt, (fits.1, tt)))
 ptr_good name null_ptr h fits = (and_tt (has_ty (layout Z) h) fits.0, (record { fits = lit< tt }, (fits.1, tt)))
-
-pub loose_good : (R : RattleType) (b o : ℕ) (h : Val) → Good (layout Z) h → T (has_ty (layout (loose.the_row R Z ghosts)) (both (vptr b o) h)) × WT (both (vptr b o) h)
-loose_good R b o h fits = (and_tt (has_ty (layout Z) h) fits.0, (tt, (fits.1, tt)))
 
 module _ {R : RattleType} (O : Owner R) where
   abbrev owned : Parts R → base.Fml.Fml

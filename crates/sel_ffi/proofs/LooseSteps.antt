@@ -3,10 +3,9 @@
 --     both                     the machine value of a pointer beside an allocator
 --     loose_out, loose_in      a `Loose` by value is [what the box owned; the allocator], and back
 use Rattle.std.proofs.Common.{◌≡◌, ℕ, List, [], ◌∷◌, ◌++◌, refl, subst}
-use Rattle.sel_ffi.proofs.Walks.{Al, bare, block_ptr, box_owns, dnil, drop, feq_i, feq_l, fjoin, fpack, fpick, fsplit, fst∗, Goal, Good}
-use Rattle.sel_ffi.proofs.Walks.{handle_tells, impl, in_a_block, Item, Laws, layout, Logic, lone, move, never, nothing, null_ptr, of_list}
-use Rattle.sel_ffi.proofs.Walks.{Ptr, ptr_val, RattleType, RawPtr, sem, Seq, shape, Step, step, tnil, Ura, Val, Valss, vcons, vnil, vptr}
-use Rattle.sel_ffi.proofs.Walks.{vstruct, within, ‵, ◌$◌}
+use Rattle.sel_ffi.proofs.Walks.{Al, bare, block_ptr, box_owns, dnil, drop, feq_i, feq_l, fjoin, fpack, fpick, fsplit, fst∗, Goal, Good, handle_tells, impl}
+use Rattle.sel_ffi.proofs.Walks.{in_a_block, Item, Laws, layout, Logic, lone, move, never, nothing, null_ptr, of_list, Ptr, ptr_val, RattleType, RawPtr, sem}
+use Rattle.sel_ffi.proofs.Walks.{Seq, shape, Step, step, tnil, Ura, Val, Valss, vcons, vnil, vptr, vstruct, within, ‵, ◌$◌}
 use Rattle.core.specs.declared.alloc.Allocator.{Ghosts}
 use Rattle.sel_ffi.specs.contracts.loose.Loose as loose
 

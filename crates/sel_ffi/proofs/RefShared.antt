@@ -3,21 +3,19 @@
 --     reads      its code
 --     shared     it meets its contract. Assumes `Logic`
 use Rattle.std.proofs.Common.{◌≡◌, List, [], ◌∷◌, refl, sym, ap, ◌∙◌, lit<}
-use Rattle.sel_ffi.proofs.Walks.{ !, addr, addr_of, after, after_seq, agg, aggregate, alloc_all, and_then, any_q, assign, at_ret, at_return}
-use Rattle.sel_ffi.proofs.Walks.{await, bin, block, block_ptr, blocks, Body, branches, by, Callee, cell_at, Clauses, Closed, closing, cond}
-use Rattle.sel_ffi.proofs.Walks.{copy, deref, emp, Ended, enter, env, erased, exec, fact, fact_i, fbor, feq_i, field, first, fjoin, fld}
-use Rattle.sel_ffi.proofs.Walks.{flft, Fn, free_all, fsplit, ftrue, get, Goes-dropped, Good, hidden_shr, imm, int, Is, join, keep, later}
-use Rattle.sel_ffi.proofs.Walks.{Laws, layout, leaves, Lft, Lifetime, lit, live, load, local, Logic, look_at, look_in, looks, MatchOption}
-use Rattle.sel_ffi.proofs.Walks.{Meets, Model, move, named, no_more, none_of, nothing, of_opd, op2, Owning, owns, pass_all, peeks, place}
-use Rattle.sel_ffi.proofs.Walks.{plain, proved, Ptr, ptr_eq, qed, RattleType, raw, return, returns, rewrite, row, Running, rv_opd, sem, seq}
-use Rattle.sel_ffi.proofs.Walks.{sets, sets_last, shows, shr_ref_to, shuts, Some-of, split, SProp, stay_dropped, Stays, stop, sub, Sym}
-use Rattle.sel_ffi.proofs.Walks.{tables, tcons, tests_null, through, tnil, ttcons, ttnil, Ty, ty_bool, ty_enum, ty_ptr, ty_ref, ty_struct}
-use Rattle.sel_ffi.proofs.Walks.{type_at, types_at, Ura, use0, use1, use2, Val, value_local, vcons, vnil, vptr, w64, w8, walk_of, whole, Wp}
-use Rattle.sel_ffi.proofs.Walks.{yes, ‵, ◌$◌, ◌∵◌, ◌⊛◌}
+use Rattle.sel_ffi.proofs.Walks.{ !, addr, addr_of, after, after_seq, agg, aggregate, alloc_all, and_then, any_q, assign, at_ret, at_return, await, bin, block}
+use Rattle.sel_ffi.proofs.Walks.{block_ptr, blocks, Body, branches, by, Callee, cell_at, Clauses, Closed, closing, cond, copy, deref, emp, Ended, enter, env}
+use Rattle.sel_ffi.proofs.Walks.{erased, exec, fact, fact_i, fbor, feq_i, field, first, fjoin, fld, flft, Fn, free_all, fsplit, ftrue, get, Goes-dropped, Good}
+use Rattle.sel_ffi.proofs.Walks.{hidden_shr, imm, int, Is, join, keep, later, Laws, layout, leaves, Lft, Lifetime, lit, live, load, local, Logic, look_at}
+use Rattle.sel_ffi.proofs.Walks.{look_in, looks, MatchOption, Meets, Model, move, named, no_more, none_of, nothing, of_opd, op2, Owning, owns, pass_all, peeks}
+use Rattle.sel_ffi.proofs.Walks.{place, plain, proved, Ptr, ptr_eq, qed, RattleType, raw, return, returns, rewrite, row, Running, rv_opd, sem, seq, sets}
+use Rattle.sel_ffi.proofs.Walks.{sets_last, shows, shr_ref_to, shuts, Some-of, split, SProp, stay_dropped, Stays, stop, sub, Sym, tables, tcons, tests_null}
+use Rattle.sel_ffi.proofs.Walks.{through, tnil, ttcons, ttnil, Ty, ty_bool, ty_enum, ty_ptr, ty_ref, ty_struct, type_at, types_at, Ura, use0, use1, use2, Val}
+use Rattle.sel_ffi.proofs.Walks.{value_local, vcons, vnil, vptr, w64, w8, walk_of, whole, Wp, yes, ‵, ◌$◌, ◌∵◌, ◌⊛◌}
 use Rattle.sel_ffi.proofs.Common.{Option, None, Some, ref_owns}
-use Rattle.std.specs.contracts.option.Option as option
-use denote.Ref.{ShrRef, shr_vals, shr_Tells}
 use Rattle.sel_ffi.proofs.RefSteps.{Data, ref_struct, word, told, opened, parted, either_ref}
+use denote.Ref.{ShrRef, shr_vals, shr_Tells}
+use Rattle.std.specs.contracts.option.Option as option
 
 -- The body of the other branch: the address as a `&`, in `Some`.
 abbrev found : Body

@@ -7,20 +7,18 @@
 --     parted              a `&` to the struct as a `&` to its pointer field and a borrow of what it owns
 --     either_ref          the two cases of that borrow: null, and a `&` to the value
 use Rattle.std.proofs.Common.{◌≡◌, ℕ, List, [], ◌∷◌, ◌++◌, refl, ap, ◌∙◌}
-use Rattle.sel_ffi.proofs.Walks.{ !, assume, await, block_ptr, by, done, drop, emp, ent, exits_of, fact, fact_i, fbor, fdead, feq, feq_i}
-use Rattle.sel_ffi.proofs.Walks.{feq_l, fex, fjoin, flft, Fml, fpack, fpick, fsep, fsplit, fsplit3, ftrue, fupd, fwand, Goal, heard, hidden}
-use Rattle.sel_ffi.proofs.Walks.{hidden_shr, id⊢, InBlock, Is, Item, keep, later, Laws, Lft, Logic, meet_⊑_left, move, nothing, now}
-use Rattle.sel_ffi.proofs.Walks.{null_ptr, of_list, Owning, part_at, pick, Ptr, ptr_val, qed, RattleType, raw, RawPtr, RawPtr-field, row}
-use Rattle.sel_ffi.proofs.Walks.{sem, sep, Seq, Share, shared_of, Soaks, some as exists, split, Struct, suffices, Sym, Testable, under}
-use Rattle.sel_ffi.proofs.Walks.{upd_i, updating, Ura, use0, use1, use2, Val, vcons, vnil, vstruct, wholly, ‵, ◌$◌, ◌∵◌, ◌⊛◌}
-use base.Fml.{fseps}
-use base.Share
-use types.Tokens.{bor_open, obor_close, obor_alter, bor_fracture}
-use denote.{Copied.Copied, Copied.Struct-Copied, Moves.moves_from, Opens.Cuts, Opens.Cuts-Halves, Opens.Cuts-both, Opens.Cuts-map}
-use denote.{Opens.Opens, Opens.unhide, Opens.hide, Shares.bor-Cut, Sharing.ShrLaws, SharingLaws.contraction, Struct.Laws.RawPtr-copy}
-use denote.{Struct.Lending.lent_at, Struct.Lending.lent_at_shr_laws, Struct.Lending.in_block_says, Struct.OwningLaws.part_in}
-use denote.{Struct.OwningLaws.part_out}
+use Rattle.sel_ffi.proofs.Walks.{ !, assume, await, block_ptr, by, done, drop, emp, ent, exits_of, fact, fact_i, fbor, fdead, feq, feq_i, feq_l, fex, fjoin}
+use Rattle.sel_ffi.proofs.Walks.{flft, Fml, fpack, fpick, fsep, fsplit, fsplit3, ftrue, fupd, fwand, Goal, heard, hidden, hidden_shr, id⊢, InBlock, Is, Item}
+use Rattle.sel_ffi.proofs.Walks.{keep, later, Laws, Lft, Logic, meet_⊑_left, move, nothing, now, null_ptr, of_list, Owning, part_at, pick, Ptr, ptr_val, qed}
+use Rattle.sel_ffi.proofs.Walks.{RattleType, raw, RawPtr, RawPtr-field, row, sem, sep, Seq, Share, shared_of, Soaks, some as exists, split, Struct, suffices}
+use Rattle.sel_ffi.proofs.Walks.{Sym, Testable, under, upd_i, updating, Ura, use0, use1, use2, Val, vcons, vnil, vstruct, wholly, ‵, ◌$◌, ◌∵◌, ◌⊛◌}
 use Rattle.sel_ffi.proofs.Common.{Option, None, Some, lasts, ref_owns}
+use base.Fml.{fseps}
+use types.Tokens.{bor_open, obor_close, obor_alter, bor_fracture}
+use denote.{Shares.bor-Cut, Sharing.ShrLaws, Moves.moves_from, SharingLaws.contraction, Struct.Laws.RawPtr-copy, Copied.Copied, Copied.Struct-Copied}
+use denote.Struct.{OwningLaws.part_in, OwningLaws.part_out, Lending.lent_at, Lending.lent_at_shr_laws, Lending.in_block_says}
+use denote.Opens.{Cuts, Cuts-Halves, Cuts-both, Cuts-map, Opens, unhide, hide}
+use base.Share
 
 abbrev pub word : Ptr → Val
 word p = vstruct (vcons (ptr_val p) vnil)

@@ -1,11 +1,9 @@
 -- The values with a validity give the rows.
 use Rattle.std.proofs.Common.{◌≡◌, ℤ, Bool, true, List, [], ◌∷◌, length, map, Option, Some, None, refl, ap, sym}
 use Rattle.sel_bits.specs.Bits.{Bits}
-use Rattle.sel_arrow.specs.Masked.{hidden, masked, Covers, number_rows, bool_rows}
-use Rattle.sel_arrow.specs.Value.{Value, Null, Number, Truth, is_valid, validities}
-use Rattle.sel_ffi.proofs.Common.{of_int8}
-use Rattle.sel_arrow.proofs.Rows.{tells-mapped, length-number_rows, length-truth_rows}
-use Rattle.sel_ffi.specs.Outputs.{Shows, numbers, bools}
+use Rattle.sel_arrow.specs.{Value.Value, Value.Number, Value.Truth, Value.is_valid, Value.validities, Masked.hidden, Masked.masked, Masked.Covers}
+use Rattle.sel_arrow.{specs.Masked.number_rows, specs.Masked.bool_rows, proofs.Rows.tells-mapped, proofs.Rows.length-number_rows, proofs.Rows.length-truth_rows}
+use Rattle.sel_ffi.{proofs.Common.of_int8, specs.Outputs.Shows, specs.Outputs.numbers, specs.Outputs.bools}
 
 module _ {A : Type 0} (f : A → Value) (valid : (x : A) → is_valid (f x) ≡ true) where
   unhidden : (xs : List A) → hidden (validities (map f xs)) (map f xs) ≡ map f xs

@@ -1,6 +1,7 @@
 -- The names that proofs by walks cite, re-exported from one place.
 --     turns, turning    the contract of a function that turns one value into another. Assumes `Logic`
-use Rattle.std.proofs.Common.{[], ◌∷◌}
+--     turned            such a function meets it, if its body turns what the one owns into what the other owns
+use Rattle.std.proofs.Common.{◌≡◌, List, [], ◌∷◌, ◌++◌}
 pub use Rattle.core.proofs.alloc.Calls.{Al, Goes-blank, handle_tells, token}
 pub use Rattle.core.proofs.alloc.Shapes.{after}
 pub use Rattle.core.proofs.cell.Inside.{Good}
@@ -68,3 +69,19 @@ turning {M} {𝓤} 𝓛 A B says_of κs a = record {
   requires = λ g. sem 𝓛 ftrue;
   ensures = λ g r e. fact 𝓤 (says_of a.0 r);
 }
+
+-- The contract says nothing about the value that is moved.
+module _ {M : Type 1} {𝓤 : Ura M} (𝓛 : Logic 𝓤) (𝓜 : Model 𝓤 𝓛.H) (𝓡 : Running 𝓤 𝓛.H 𝓜) (A B : RattleType) (says_of : A.Denot → B.Denot → Type 0) where
+  open 𝓛 use {H}
+
+  pub turned : ((d : A.Denot) → Last (A.exit yes) d) → ((d : A.Denot) (f : Last (A.exit yes) d) → left (A.exit yes) d f ≡ ftrue)
+      → (fn : Fn) {k : Callee} → Closed 𝓤 H (tables 𝓤 H 𝓜 𝓡 𝓡.env).C (tables 𝓤 H 𝓜 𝓡 𝓡.env).Λ k fn
+      → ((a : A.Denot) (vs : List Val) (Post : Val → SProp 𝓤) → ((r : B.Denot) (w : Val) → says_of a r → ent 𝓤 (sem 𝓛 (B.own_val r (w ∷ []))) (Post w))
+      → ent 𝓤 (sem 𝓛 (A.own_val a vs)) (WpFn 𝓤 H (tables 𝓤 H 𝓜 𝓡 𝓡.env).C (tables 𝓤 H 𝓜 𝓡 𝓡.env).Λ fn (vs ++ []) Post))
+      → Meets 𝓛 (turns A B).signature ((tables 𝓤 H 𝓜 𝓡 𝓡.env).C k) (closing 𝓛 (turns A B) (turning 𝓛 A B says_of))
+  turned last silent fn {k} closed body =
+      let T = turns A B in let c = turning 𝓛 A B says_of in let hs : Stays T.signature.params T.kept = (stay_dropped (plain (λ _. A)) yes, tt) in
+      proved_at 𝓛 T hs c 𝓜 𝓡 (Goes-dropped 𝓛 0 (plain (λ _. A)) yes (λ κs. silent), tt) k fn closed (λ z are.
+      qed 𝓛 ((‵ ftrue ⊛ ‵ (owns (types_at T.signature.params z.0.0) z.0.3 z.0.4)) ∷ ‵ ftrue ∷ []) ∵ split ! $ drop ! $ fsplit ! $ keep ! (0 ∷ []) $
+      by ! (body z.0.3.0 z.0.4.0 ((walk_of 𝓛 T hs c).post z) (λ r w told. qed 𝓛 (‵ (B.own_val r (w ∷ [])) ∷ []) ∵
+      suffices ! _ (ends_at 𝓛 T hs c z w r (last z.0.3.0, tt) (tt, tt)) $ says ! told $ nothing ! $ nothing ! $ fjoin ! $ join ! $ nothing ! $ join ! $ done !)))

@@ -1,7 +1,6 @@
 use Rattle.std.proofs.Common.{◌<◌, ◌≤◌, arith}
-use Rattle.sel_ffi.proofs.Common.{depth, type_of, Column}
+use Rattle.sel_ffi.proofs.{Common.depth, Common.type_of, Common.Column, Depths.all_more, Depths.each, Depths.not_all}
 use Rattle.sel_arrow.proofs.Types.{struct_type}
-use Rattle.sel_ffi.proofs.Depths.{all_more, each, not_all}
 use Rattle.sel_ffi.proofs.depth.+is_within.Goals as goal
 
 pub is_within-returns-then-levels-gt0-3 : goal.is_within-returns-then-levels-gt0-3

@@ -1,6 +1,5 @@
 use Rattle.std.proofs.Common.{◌≤◌}
-use Rattle.sel_ffi.proofs.Common.{depth, type_of, ArrayRef}
-use Rattle.sel_ffi.proofs.Depths.{all_more, each, not_all}
+use Rattle.sel_ffi.proofs.{Common.depth, Common.type_of, Common.ArrayRef, Depths.all_more, Depths.each, Depths.not_all}
 use Rattle.sel_ffi.proofs.depth.arrays_are_within.Goals as goal
 
 pub returns-then-not-is_within : goal.returns-then-not-is_within

@@ -1,15 +1,13 @@
 -- `start_of` reads the first word of a slice.
 use Rattle.std.proofs.Common.{List, [], ◌∷◌, ◌++◌, length, refl}
-use Rattle.sel_ffi.proofs.Walks.{ !, a_type, addr, alloc_all, Args, block_ptr, Clauses, done, drop, Ended, ends_at, enter, entered, feq_i}
-use Rattle.sel_ffi.proofs.Walks.{feq_l, fjoin, fld, flt_l, Fn, free_all, from, fsplit, Goes-dropped, hop, inst_fn, keep, layouts, look_at}
-use Rattle.sel_ffi.proofs.Walks.{look_in_at, move, nothing, owns, param, pass_all, plain, prop, qed, raw, regoal, returns, says, sets}
-use Rattle.sel_ffi.proofs.Walks.{SliceRefOf, split, SProp, stay_dropped, Stays, stop, sub, suffices, Tables, tables, triple_of, types_at}
-use Rattle.sel_ffi.proofs.Walks.{Val, vptr, walk_Meets, walk_of, whole, WpFn, WpFn-mono, yes, ‵, ◌$◌, ◌∵◌, ◌⊛◌}
+use Rattle.sel_ffi.proofs.Walks.{ !, a_type, addr, alloc_all, Args, block_ptr, Clauses, done, drop, Ended, ends_at, enter, entered, feq_i, feq_l, fjoin, fld}
+use Rattle.sel_ffi.proofs.Walks.{flt_l, Fn, free_all, from, fsplit, Goes-dropped, hop, inst_fn, keep, layouts, look_at, look_in_at, move, nothing, owns, param}
+use Rattle.sel_ffi.proofs.Walks.{pass_all, plain, prop, qed, raw, regoal, returns, says, sets, SliceRefOf, split, SProp, stay_dropped, Stays, stop, sub}
+use Rattle.sel_ffi.proofs.Walks.{suffices, Tables, tables, triple_of, types_at, Val, vptr, walk_Meets, walk_of, whole, WpFn, WpFn-mono, yes, ‵, ◌$◌, ◌∵◌, ◌⊛◌}
 use contract.Running.{tables_of}
 use denote.{Slice.slice_val, Triple.Entry.alive}
+use Rattle.sel_lent.{specs.contracts.showing.start_of.Key.name as #self, proofs.showing.start_of.Statement.statement}
 use Rattle.sel_lent.specs.contracts.showing.start_of as F
-use Rattle.sel_lent.specs.contracts.showing.start_of.Key.{name as #self}
-use Rattle.sel_lent.proofs.showing.start_of.Statement.{statement}
 use Rattle.sel_lent.proofs.showing.start_of.Code as code
 
 pub start_of_spec : {M : Type 1} → statement M

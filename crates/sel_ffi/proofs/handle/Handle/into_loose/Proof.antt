@@ -1,8 +1,5 @@
 -- `into_loose` distinguishes the null pointer, which owns nothing, from a box.
-use Rattle.sel_ffi.proofs.HandleShared.{into_loose}
-use Rattle.sel_ffi.proofs.Handles.{columns}
-use Rattle.sel_ffi.proofs.handle.Handle.into_loose.Statement.{statement}
-use Rattle.sel_ffi.proofs.handle.Handle.into_loose.Code.{unfolded}
+use Rattle.sel_ffi.proofs.{HandleShared.into_loose, Handles.columns, handle.Handle.into_loose.Statement.statement, handle.Handle.into_loose.Code.unfolded}
 
 pub into_loose_spec : {M : Type 1} → statement M
 into_loose_spec 𝓤 𝓛 𝓜 𝓡 wired = into_loose 𝓛 𝓜 𝓡 columns _ (unfolded 𝓤 𝓛.H 𝓜 𝓡 wired)

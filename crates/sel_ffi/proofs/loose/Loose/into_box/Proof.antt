@@ -1,21 +1,19 @@
 -- `into_box` passes the pointer and the allocator to a call.
 use Rattle.std.proofs.Common.{List, [], ◌∷◌, ◌++◌, refl, sym, ap, subst, ◌≡◌, true, ◌&&◌}
-use Rattle.sel_ffi.proofs.Walks.{ !, a_type, after, Al, alloc_all, and_then, and_tt, Args, at_ret, await, block_ptr, blocks, bounded, box_in}
-use Rattle.sel_ffi.proofs.Walks.{box_out, calls_at_last, Clauses, Contract, dcons, dnil, done, drop, emp, Ended, ends_at, ent, enter}
-use Rattle.sel_ffi.proofs.Walks.{entered, env, exec, fact, fact_i, feq_i, first, fjoin, fld, flft, fm_of, Fn, free_all, fsplit, ftrue, get}
-use Rattle.sel_ffi.proofs.Walks.{get_in, Goes-blank, has_ty, heard, id⊢, inst_fn, join, lands_last, Lasts, lasts, later, layout, look_at}
-use Rattle.sel_ffi.proofs.Walks.{move, no, no_more, nothing, of_opd, only, owns, param, param_laws, pass_all, pick, plain, qed, RattleType}
-use Rattle.sel_ffi.proofs.Walks.{raw, returns, rewrite, says, sets, some, split, split3, stay_dropped, Stays, stop, sub, suffices, T}
-use Rattle.sel_ffi.proofs.Walks.{Tables, tables, triple_of, use0, use1, Val, vptr, walk_Meets, walk_of, whole, WpFn, WpFn-mono, WT, ‵, ◌$◌}
-use Rattle.sel_ffi.proofs.Walks.{◌∵◌, ◌⊑◌, ◌⊛◌}
+use Rattle.sel_ffi.proofs.Walks.{ !, a_type, after, Al, alloc_all, and_then, and_tt, Args, at_ret, await, block_ptr, blocks, bounded, box_in, box_out}
+use Rattle.sel_ffi.proofs.Walks.{calls_at_last, Clauses, Contract, dcons, dnil, done, drop, emp, Ended, ends_at, ent, enter, entered, env, exec, fact, fact_i}
+use Rattle.sel_ffi.proofs.Walks.{feq_i, first, fjoin, fld, flft, fm_of, Fn, free_all, fsplit, ftrue, get, get_in, Goes-blank, has_ty, heard, id⊢, inst_fn, join}
+use Rattle.sel_ffi.proofs.Walks.{lands_last, Lasts, lasts, later, layout, look_at, move, no, no_more, nothing, of_opd, only, owns, param, param_laws, pass_all}
+use Rattle.sel_ffi.proofs.Walks.{pick, plain, qed, RattleType, raw, returns, rewrite, says, sets, some, split, split3, stay_dropped, Stays, stop, sub, suffices}
+use Rattle.sel_ffi.proofs.Walks.{T, Tables, tables, triple_of, use0, use1, Val, vptr, walk_Meets, walk_of, whole, WpFn, WpFn-mono, WT, ‵, ◌$◌, ◌∵◌, ◌⊑◌, ◌⊛◌}
+use Rattle.sel_ffi.proofs.{LooseSteps.both, LooseSteps.loose_out, loose.Loose.into_box.Statement.statement}
+use Rattle.sel_ffi.specs.contracts.loose.Loose.into_box.Key.{name as #self}
 use contract.Running.{tables_of}
 use Rattle.std_alloc.specs.contracts.boxed.Box.from_raw as made
 use Rattle.std_alloc.proofs.boxed.Box.from_raw.Met as made_met
 use Rattle.std_alloc.proofs.BoxSteps.Form as box
-use Rattle.sel_ffi.proofs.{LooseSteps.both, LooseSteps.loose_out, loose.Loose.into_box.Statement.statement}
 use Rattle.sel_ffi.specs.contracts.loose.Loose as loose
 use Rattle.sel_ffi.specs.contracts.loose.Loose.into_box as F
-use Rattle.sel_ffi.specs.contracts.loose.Loose.into_box.Key.{name as #self}
 use Rattle.sel_ffi.proofs.loose.Loose.into_box.Code as code
 
 pub into_box_spec : {M : Type 1} → statement M

@@ -1,21 +1,20 @@
 -- `of` splits the box by a call, and pairs the pointer with the allocator.
 use Rattle.std.proofs.Common.{List, [], ◌∷◌, ◌++◌, refl, sym, ap, ◌∙◌, subst, ◌≡◌, true, ◌&&◌}
-use Rattle.sel_ffi.proofs.Walks.{ !, a_type, agg, Al, alloc_all, and_then, and_tt, Args, await, bare, block_ptr, bounded, box_in, box_out}
-use Rattle.sel_ffi.proofs.Walks.{box_owns, calls_at, Clauses, Contract, dcons, dnil, done, drop, emp, Ended, ends_at, ent, enter, entered}
-use Rattle.sel_ffi.proofs.Walks.{fact, fact_i, feq_l, fjoin, fld, flft, fm_of, Fn, fpick, free_all, fsplit, fst∗, ftrue, get, get_in}
-use Rattle.sel_ffi.proofs.Walks.{Goes-blank, handle_tells, has_ty, heard, id⊢, in_a_block, inst_fn, join, lands_as, Lasts, lasts, later}
-use Rattle.sel_ffi.proofs.Walks.{layout, look_at, move, never, no, no_more, nothing, null_ptr, of_list, of_opd, only, owns, param}
-use Rattle.sel_ffi.proofs.Walks.{param_laws, pass_all, pick, plain, Ptr, ptr_val, qed, RattleType, raw, RawPtr, returns, rewrite, says, sem}
-use Rattle.sel_ffi.proofs.Walks.{sets, some, split, split3, stay_dropped, Stays, stop, sub, suffices, T, Tables, tables, token, triple_of}
-use Rattle.sel_ffi.proofs.Walks.{use0, use1, Val, vptr, vstruct, walk_Meets, walk_of, whole, WpFn, WpFn-mono, WT, ‵, ◌$◌, ◌∵◌, ◌⊑◌, ◌⊛◌}
+use Rattle.sel_ffi.proofs.Walks.{ !, a_type, agg, Al, alloc_all, and_then, and_tt, Args, await, bare, block_ptr, bounded, box_in, box_out, box_owns, calls_at}
+use Rattle.sel_ffi.proofs.Walks.{Clauses, Contract, dcons, dnil, done, drop, emp, Ended, ends_at, ent, enter, entered, fact, fact_i, feq_l, fjoin, fld, flft}
+use Rattle.sel_ffi.proofs.Walks.{fm_of, Fn, fpick, free_all, fsplit, fst∗, ftrue, get, get_in, Goes-blank, handle_tells, has_ty, heard, id⊢, in_a_block}
+use Rattle.sel_ffi.proofs.Walks.{inst_fn, join, lands_as, Lasts, lasts, later, layout, look_at, move, never, no, no_more, nothing, null_ptr, of_list, of_opd}
+use Rattle.sel_ffi.proofs.Walks.{only, owns, param, param_laws, pass_all, pick, plain, Ptr, ptr_val, qed, RattleType, raw, RawPtr, returns, rewrite, says, sem}
+use Rattle.sel_ffi.proofs.Walks.{sets, some, split, split3, stay_dropped, Stays, stop, sub, suffices, T, Tables, tables, token, triple_of, use0, use1, Val}
+use Rattle.sel_ffi.proofs.Walks.{vptr, vstruct, walk_Meets, walk_of, whole, WpFn, WpFn-mono, WT, ‵, ◌$◌, ◌∵◌, ◌⊑◌, ◌⊛◌}
+use Rattle.sel_ffi.proofs.{LooseSteps.both, LooseSteps.loose_in, loose.Loose.of.Statement.statement}
+use Rattle.sel_ffi.specs.contracts.loose.Loose.of.Key.{name as #self}
 use contract.Running.{tables_of}
 use denote.Struct.Tuple.{Tuple}
 use Rattle.std_alloc.specs.contracts.boxed.Box.into_raw_with_allocator as apart
 use Rattle.std_alloc.proofs.boxed.Box.into_raw_with_allocator.Met as apart_met
 use Rattle.std_alloc.proofs.BoxSteps.Form as box
-use Rattle.sel_ffi.proofs.{LooseSteps.both, LooseSteps.loose_in, loose.Loose.of.Statement.statement}
 use Rattle.sel_ffi.specs.contracts.loose.Loose.of as F
-use Rattle.sel_ffi.specs.contracts.loose.Loose.of.Key.{name as #self}
 use Rattle.sel_ffi.proofs.loose.Loose.of.Code as code
 
 pub of_spec : {M : Type 1} → statement M
