@@ -1,21 +1,17 @@
 -- If-then-else of rows.
-use Rattle.std.proofs.Common.{◌≡◌, ℕ, zero, suc, ◌<◌, Bool, true, false, List, length, Option, Some, None, arith, refl, ap, sym, ◌∙◌, Decides, ◌==◌, ◌&&◌, count_by}
+use Rattle.std.proofs.Common.{◌≡◌, ℕ, ◌<◌, Bool, true, false, List, length, Option, Some, None, arith, refl, ap, sym, ◌∙◌, Decides, ◌==◌, ◌&&◌, count_by}
 use Rattle.sel_lines.proofs.Common.{common_steps, Decides-and, Decides-eqb, Bits, bool_rows, Value, Truth, is_null}
+use Rattle.sel_lines.specs.Choose.{choose_result}
 use Rattle.sel_arrow.proofs.Rows.{length-truth_rows}
 use Rattle.sel_ternary.specs.Choose.{choose}
-use Rattle.polars_compute.specs.Select.{effective_mask}
-use Rattle.std.proofs.lemmas.Bool.{cond-true}
-use Rattle.polars_compute.proofs.Selects.{in_force-all}
-use Rattle.polars_compute.proofs.Dictionaries.{bare_rows}
-use Rattle.sel_lines.specs.Choose.{choose_result}
+use Rattle.polars_compute.{specs.Select.effective_mask, proofs.Selects.in_force-all, proofs.Dictionaries.bare_rows}
 
 test : (mask ts fs : List Value) → Decides ((count_by is_null mask == 0) && ((length ts == length mask) && (length fs == length mask)))
     ((count_by is_null mask ≡ 0) × ((length ts ≡ length mask) × (length fs ≡ length mask)))
 test mask ts fs = Decides-and _ _ (Decides-eqb (count_by is_null mask) 0) (Decides-and _ _ (Decides-eqb (length ts) (length mask)) (Decides-eqb (length fs) (length mask)))
 
 pub no_nulls : (n : ℕ) (b : Bool) → b ≡ false → (0 < n → b ≡ true) → n ≡ 0
-no_nulls zero b is some = refl
-no_nulls (suc n) b is some = absurd (let t = some (omega arith) in cc)
+no_nulls n b is some = grind (arith, common_steps)
 
 -- The effective mask of a mask without nulls is its values.
 plain_mask : (bits : List Bool) (validity : Option Bits) → count_by is_null (bool_rows bits validity) ≡ 0 →

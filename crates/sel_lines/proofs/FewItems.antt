@@ -1,19 +1,11 @@
 -- A word has no more rows, and no more items and bytes in them, than a column can have.
-use Rattle.std.proofs.Common.{◌≡◌, ◌≤◌, ℕ, suc, pos, ◌+◌, ◌*◌, Bool, true, false, cond, List, [], ◌∷◌, length, length-append, map, replicate, Option, Some, None, arith, refl, ap, sym, codes, bytes_eq, ◌==◌, nat_le, leb-true, option_map}
-use Rattle.sel_lines.proofs.Common.{common_steps, slice_split, length-replicate, list_of, Value, Null, Number, Bytes, Items, items_in, joined_items, byte_count, bytes_needed, blocks_of, block_of, is_block, parsed_width, standing_for, all_some, column_of, row_of, AreFew, list_of_word, lists_of, number_of, size_of, string_value}
-use Rattle.std.proofs.lemmas.Option.{cond_some, option_and_then_some}
+use Rattle.std.proofs.Common.{rules, ◌≡◌, ◌≤◌, ℕ, suc, pos, ◌+◌, ◌*◌, Bool, cond, List, [], ◌∷◌, length, length-append, map, replicate, Option, Some, arith, refl, ap, sym, codes, bytes_eq, ◌==◌, option_map}
+use Rattle.sel_lines.proofs.Common.{common_steps, slice_split, length-replicate, list_of, Value, Null, Number, Items, items_in, joined_items, byte_count, bytes_needed, blocks_of, block_of, parsed_width, standing_for, all_some, column_of, row_of, AreFew, list_of_word, lists_of, number_of, string_value}
 use Rattle.sel_gather.proofs.ItemRuns.{listed_values}
-use Rattle.sel_lines.proofs.Pieces.{weight, split_weight, few_parts}
-use Rattle.sel_lines.proofs.RowLemmas.{mapped_some}
+use Rattle.sel_lines.proofs.{Pieces.weight, Pieces.split_weight, Pieces.few_parts, RowLemmas.mapped_some}
 
 either : {A P : Type 0} (b : Bool) (x y z : A) → cond b x y ≡ z → (x ≡ z → P) → (y ≡ z → P) → P
-either true x y z is one other = one is
-either false x y z is one other = other is
-
-first_of : {X P : Type 0} (o : Option X) (xs : List (Option X)) (ys : List X) → all_some (o ∷ xs) ≡ Some ys →
-    ((y : X) (zs : List X) → o ≡ Some y → all_some xs ≡ Some zs → y ∷ zs ≡ ys → P) → P
-first_of None xs ys is then = absurd cc
-first_of (Some y) xs ys is then = mapped_some (λ zs. y ∷ zs) (all_some xs) ys is (λ zs rest made. then y zs refl rest made)
+either b x y z is one other = grind (arith, common_steps)
 
 -- `total` measures rows, and grows by at most 17 for each byte and separator of a row's word.
 abbrev GrowsSlowly : (List ℕ → Option Value) → (List Value → ℕ) → Type 0
@@ -25,11 +17,7 @@ all_held : (value_of : List ℕ → Option Value) (total : List Value → ℕ) �
     (parts : List (List ℕ)) (read : List Value) → all_some (map value_of parts) ≡ Some read →
     (length read ≡ length parts) × (total read ≤ 17 * weight parts)
 all_held value_of total zero slow [] read is = let none : [] ≡ read = cc in rw (← none) (refl, omega (arith, zero))
-all_held value_of total zero slow (part ∷ parts) read is =
-    first_of (value_of part) (map value_of parts) read is (λ row rows here rest made.
-    let more = all_held value_of total zero slow parts rows rest in
-    let one = slow part row rows here in
-    rw (← made) (ap suc more.0, omega (arith, more.1, one)))
+all_held value_of total zero slow (part ∷ parts) read is = search (rules, (all_held value_of total zero slow parts))
 
 -- The rows of the words between separators.
 few_rows : (value_of : List ℕ → Option Value) (total : List Value → ℕ) (none : Bool) (p : ℕ → Bool) (word : List ℕ) (read : List Value) →
@@ -46,12 +34,8 @@ few_rows value_of total none p word read zero slow is =
 
 -- ---- strings
 
-string_bytes : (word : List ℕ) (row : Value) → string_value word ≡ Some row → byte_count row ≤ length word
-string_bytes [] row is = absurd cc
-string_bytes (c ∷ text) row is = rw (← (cond_some (c == 61) (Bytes text) row is).1) (omega arith)
-
 row_bytes : (word : List ℕ) (row : Value) → row_of string_value word ≡ Some row → byte_count row ≤ length word
-row_bytes word row is = grind (arith, common_steps, either, string_bytes)
+row_bytes word row is = grind (arith, common_steps)
 
 pub few_texts : (word : List ℕ) (rows : List Value) → Some rows ≡ column_of string_value word →
     (length rows ≤ suc (length word)) × (bytes_needed rows ≤ 17 * suc (length word))

@@ -1,20 +1,12 @@
 -- The horizontal flatten of integer columns.
-use Rattle.std.proofs.Common.{◌≡◌, ℕ, ◌<◌, ◌≤◌, Bor, List, [], ◌∷◌, length, map, Option, Some, None, arith, refl, ap, sym, subst, ◌∙◌, Decides, IsTrue, ◌&&◌, nat_lt, option_map, codes}
-use Rattle.sel_lines.proofs.Common.{common_steps, All, Decides-and, Decides-ltb, length-map, All-nil, All-head, All-weaker, max_rows, OutOfMemory, SizeLimit, ComputeError, rows, type_of, primitive_rows, of_int64, Value, ArrayRef, IsLimitOrMemory, ExceedsRows, all_some, column_text, flatten_part, side_by_side, flat_text, flatten_answer, flatten_words, read_part, size_of}
-use mathlib.Core.Logic.{⊎_elim}
-use Rattle.std.proofs.lemmas.Bool.{cond-true, cond-false}
-use Rattle.std.proofs.lemmas.Simd.{map-map}
-use Rattle.sel_bits.specs.declared.faults.Limit.{Limit}
-use Rattle.sel_bits.specs.declared.faults.Limit.TheVariants.{Rows}
-use Rattle.sel_bits.specs.declared.faults.PolarsError.{PolarsError}
+use Rattle.std.proofs.Common.{rules, ◌≡◌, ℕ, ◌<◌, ◌≤◌, Bor, List, [], ◌∷◌, length, map, Option, Some, None, arith, refl, Decides, IsTrue, ◌&&◌, nat_lt, option_map, codes}
+use Rattle.sel_lines.proofs.Common.{common_steps, All, Decides-and, Decides-ltb, length-map, All-nil, All-head, All-weaker, max_rows, OutOfMemory, SizeLimit, ComputeError, rows, type_of, primitive_rows, of_int64, Value, ArrayRef, IsLimitOrMemory, all_some, column_text, flatten_part, side_by_side, flat_text, flatten_answer, flatten_words, read_part, size_of}
+use Rattle.std.proofs.lemmas.{Bool.cond-true, Bool.cond-false, Simd.map-map}
+use Rattle.sel_bits.specs.declared.faults.{Limit.Limit, PolarsError.PolarsError}
 use Rattle.sel_arrow.specs.declared.column.Column.{Column}
 use Rattle.sel_gather.specs.Sources.{first_type}
 use Rattle.polars_compute.specs.Flatten.{flatten, parts_fit, exceeded_flattened}
-use Rattle.sel_lines.specs.Words.{if_both}
-use Rattle.sel_lines.specs.declared.flatten.Part.{Part}
-use Rattle.sel_lines.proofs.Answered.{none_unless}
-use Rattle.sel_lines.proofs.MadeColumns.{few}
-use Rattle.sel_lines.proofs.RowLemmas.{map_now}
+use Rattle.sel_lines.{specs.Words.if_both, specs.declared.flatten.Part.Part, proofs.MadeColumns.few, proofs.RowLemmas.map_now}
 
 -- ---- whether the columns fit
 
@@ -25,7 +17,7 @@ pub fitting : (h : ℕ) (xss : List (List Value)) (ws : List ℕ) → 0 < length
 fitting h xss ws some fit = cond-true _ _ _ ((fit_test h xss ws).1 (some, fit))
 
 pub not_fitting : (h : ℕ) (xss : List (List Value)) (ws : List ℕ) → (0 < length xss → IsTrue (parts_fit h xss ws) → ⊥) → None ≡ side_by_side h xss ws
-not_fitting h xss ws never = none_unless _ _ (λ t. let both = (fit_test h xss ws).0 t in never both.0 both.1)
+not_fitting h xss ws never = search (rules, fit_test)
 
 -- ---- columns of one type
 
@@ -39,12 +31,8 @@ numbers_alike (a ∷ arrays) numbers = grind (arith, common_steps, All-weaker, A
 
 -- ---- more rows than a column can have
 
-many_rows : (n : ℕ) (limit : Limit) → ExceedsRows n limit → max_rows < n
-many_rows n Rows past = past
-many_rows n limit past = absurd past
-
 many_numbers : (h : ℕ) (columns : List Column) (vs : List Value) (limit : Limit) → exceeded_flattened h of_int64 columns vs limit → max_rows < length vs
-many_numbers h columns vs limit past = ⊎_elim (λ many. many_rows (length vs) limit many) (λ never. absurd never) past.1
+many_numbers h columns vs limit past = grind (arith, common_steps)
 
 -- Rows that a column can have.
 pub column_flat_text : (vs : List Value) → length vs ≤ max_rows → flat_text vs ≡ column_text vs

@@ -1,13 +1,9 @@
 -- The result of `from_str_radix` for a word of lower-case hexadecimal digits.
-use Rattle.std.proofs.Common.{◌≡◌, ◌≢◌, ℕ, ◌^◌, ◌<◌, true, false, List, [], ◌∷◌, length, get_or, Some, None, Result, Ok, Err, arith, ap, sym, ◌∙◌, lit<, subst, ◌&&◌, nat_lt, nat_le}
-use Rattle.std.specs.Char.{digit_value}
-use Rattle.sel_lines.proofs.Common.{common_steps, list_all, nat_tests, Decides-ltb}
-use Rattle.std.specs.Result.{result_ok}
-use Rattle.std.specs.Str.Parse.{digits_value, ParsesUnsigned, AllDigits, IsNumeral}
-use Rattle.std.proofs.Math.Nat.{pow-le-pow_right}
+use Rattle.std.proofs.Common.{rules, ◌≡◌, ◌≢◌, ℕ, ◌^◌, ◌<◌, true, false, List, [], ◌∷◌, length, get_or, Some, None, Result, arith, sym, ◌∙◌, lit<, ◌&&◌, nat_lt, nat_le}
+use Rattle.std.proofs.{Math.Nat.pow-le-pow_right, lemmas.Int.Digits.digits_value-lt, lemmas.Str.Parse.without_leading_plus_none}
 use Rattle.std.proofs.lemmas.Bool.{and_parts, cond-false, cond-true, leb-true}
-use Rattle.std.proofs.lemmas.Int.Digits.{digits_value-lt}
-use Rattle.std.proofs.lemmas.Str.Parse.{without_leading_plus_none}
+use Rattle.std.specs.{Char.digit_value, Result.result_ok, Str.Parse.digits_value, Str.Parse.ParsesUnsigned, Str.Parse.AllDigits, Str.Parse.IsNumeral}
+use Rattle.sel_lines.proofs.Common.{list_all, nat_tests, Decides-ltb}
 use Rattle.sel_lines.specs.Pext.{is_hex_digit, is_hex_word, word_of_hex}
 
 hex_digit_value : (b : ℕ) → is_hex_digit b ≡ true → digit_value b < 16
@@ -34,8 +30,7 @@ hex_word word is =
 -- The result for such a word is the value of its digits.
 hex_result : {E : Type 0} (word : List ℕ) (r : Result ℕ E) → is_hex_word word ≡ true → ParsesUnsigned 64 16 word r →
     result_ok r ≡ Some (digits_value 16 word)
-hex_result word (Ok n) is read = ap Some (read.1 ∙ ap (digits_value 16) (without_leading_plus_none word (hex_word word is).0))
-hex_result word (Err e) is read = grind (arith, common_steps, hex_word)
+hex_result word r is read = search (rules, without_leading_plus_none, hex_word)
 
 pub hex_parsed : {E : Type 0} (word : List ℕ) (r : Result ℕ E) → is_hex_word word ≡ true → ParsesUnsigned 64 16 word r → result_ok r ≡ word_of_hex word
 unfolding word_of_hex

@@ -1,26 +1,20 @@
 -- Parsed parts break no rule of the column constructors.
-use Rattle.std.proofs.Common.{◌≡◌, ◌≤◌, ℕ, ◌*◌, Bool, true, false, List, [], ◌∷◌, length, map, Option, Some, None, arith, refl, ap, sym, ◌∙◌, IsTrue, not, nat_lt, ◌&&◌, ◌==◌}
-use Rattle.sel_lines.proofs.Common.{common_steps, nat_tests, length-map, max_buffers, max_rows, Bits, list_fault, block_fault, views_fault, utf8view_fault, hidden, too_many, Value, is_valid, validities, and_first, and_second, joined_items, item_ends}
-use Rattle.sel_bits.specs.Faults.{first_broken, IsFault, IsFaultOrMemory}
-use Rattle.sel_bits.specs.declared.faults.MakeError.{MakeError}
-use Rattle.sel_bits.specs.declared.faults.MakeError.TheVariants.{Malformed as Broken, OutOfMemory as WantOfMemory}
+use Rattle.std.proofs.Common.{rules, ◌≡◌, ◌≤◌, ℕ, ◌*◌, Bool, false, List, [], ◌∷◌, length, map, Option, Some, None, arith, refl, ap, sym, ◌∙◌, IsTrue, not, nat_lt, ◌==◌}
+use Rattle.sel_lines.proofs.Common.{common_steps, nat_tests, length-map, max_buffers, max_rows, Bits, list_fault, block_fault, views_fault, utf8view_fault, hidden, too_many, Value, is_valid, validities, and_second, joined_items, item_ends}
+use Rattle.sel_bits.specs.Faults.{IsFault, IsFaultOrMemory}
+use Rattle.sel_bits.specs.declared.faults.MakeError.{MakeError, TheVariants.OutOfMemory as WantOfMemory}
 use Rattle.sel_bits.specs.declared.faults.Malformed.{Malformed}
-use Rattle.sel_bits.specs.declared.faults.Malformed.TheVariants.{ViewRange, ViewPrefix}
-use Rattle.sel_arrow.specs.Pieces.{rows_between, last_offset}
-use Rattle.sel_arrow.specs.Texts.{all_text}
-use Rattle.sel_arrow.specs.Views.{all_placed, has_prefix, is_in_range, is_placed, view_value}
-use Rattle.sel_arrow.specs.declared.view.View.{View}
+use Rattle.sel_arrow.specs.{Texts.all_text, declared.view.View.View, Pieces.rows_between, Pieces.last_offset}
+use Rattle.sel_arrow.specs.Views.{all_placed, is_placed, view_value}
 use Rattle.sel_gather.proofs.Rebuilt.{ends_between, ends_last}
 
 -- ---- errors if no rule is broken
 
 pub never_fault : (fault : Option Malformed) (e : MakeError) → fault ≡ None → IsFault fault e → ⊥
-never_fault fault (Broken rule) none is = absurd cc
-never_fault fault WantOfMemory none is = is
+never_fault fault e none is = grind (arith, common_steps)
 
 pub memory_alone : (fault : Option Malformed) (e : MakeError) → fault ≡ None → IsFaultOrMemory fault e → e ≡ WantOfMemory
-memory_alone fault (Broken rule) none is = absurd cc
-memory_alone fault WantOfMemory none is = refl
+memory_alone fault e none is = grind (arith, common_steps)
 
 -- ---- columns without children
 
@@ -33,13 +27,9 @@ within n last le = grind (arith, nat_tests, le)
 alike : (m n : ℕ) → m ≡ n → not (m == n) ≡ false
 alike m n e = grind (arith, nat_tests, e)
 
-two_sound : (range prefix : Bool) → (range && prefix) ≡ true → first_broken ((ViewRange, not range) ∷ (ViewPrefix, not prefix) ∷ []) ≡ None
-two_sound true prefix h = rw h refl
-two_sound false prefix h = absurd cc
-
 views_sound : (buffers : List (List ℕ)) (views : List View) → IsTrue (all_placed buffers views) → views_fault buffers views ≡ None
 views_sound buffers [] placed = refl
-views_sound buffers (v ∷ views) placed = grind (arith, common_steps, two_sound, and_first, and_second, (views_sound buffers views (and_second (is_placed buffers v) (all_placed buffers views) placed)))
+views_sound buffers (v ∷ views) placed = search (rules, (views_sound buffers views (and_second (is_placed buffers v) (all_placed buffers views) placed)))
 
 pub texts_sound : (views : List View) (buffers : List (List ℕ)) (validity : Bits) (flags : List Bool) → length views ≤ max_rows → length buffers ≤ max_buffers → validity.bits ≡ flags → length flags ≡ length views →
     IsTrue (all_placed buffers views) → IsTrue (all_text (hidden flags (map (view_value buffers) views))) → utf8view_fault views buffers (Some validity) ≡ None

@@ -1,23 +1,15 @@
 -- The parts of a text are no longer than the text, and at most one more than its bytes.
-use Rattle.std.proofs.Common.{◌≡◌, ◌≤◌, ◌<◌, ℕ, zero, suc, ◌+◌, ◌-◌, Bool, true, false, cond, List, [], ◌∷◌, length, get_or, map, Bor, refl, arith, ap, ◌∙◌}
-use Rattle.sel_lines.proofs.Common.{All, slice_split, onto_first, get_or-map, length-map}
+use Rattle.std.proofs.Common.{rules, ◌≡◌, ◌≤◌, ◌<◌, ℕ, zero, suc, ◌+◌, Bool, List, [], ◌∷◌, length, get_or, map, Bor, refl, arith, ap}
+use Rattle.sel_lines.proofs.Common.{All, slice_split, get_or-map, length-map}
 
 -- The bytes of the parts, each with its separator.
 abbrev pub weight : List (List ℕ) → ℕ
 weight [] = 0
 weight (part ∷ parts) = suc (length part) + weight parts
 
-cut_weight : (b : Bool) (x : ℕ) (parts : List (List ℕ)) → 0 < weight parts →
-    weight (cond b ([] ∷ parts) (onto_first x parts)) ≡ suc (weight parts)
-cut_weight true x parts some = omega arith
-cut_weight false x [] some = absurd (omega (arith, some))
-cut_weight false x (part ∷ parts) some = omega arith
-
 pub split_weight : (p : ℕ → Bool) (text : List ℕ) → weight (slice_split p text) ≡ suc (length text)
 split_weight p [] = refl
-split_weight p (x ∷ text) =
-    let rest = split_weight p text in
-    cut_weight (p x) x (slice_split p text) (omega (arith, rest)) ∙ ap suc rest
+split_weight p (x ∷ text) = search (rules, (split_weight p text))
 
 pub few_parts : (parts : List (List ℕ)) → length parts ≤ weight parts
 few_parts [] = omega arith

@@ -1,21 +1,12 @@
 -- A word represents the number whose printed form it is.
-use Rattle.std.proofs.Common.{◌≡◌, ◌≢◌, ℕ, zero, suc, ◌^◌, ◌≤◌, ◌<◌, ℤ, pos, negsuc, neg_ℤ, Bool, true, false, cond, List, [], ◌∷◌, length, get_or, drop, Some, None, Result, Ok, Err, arith, refl, ap, sym, ◌∙◌, lit<, bytes_eq, nat_lt, Decides, ◌&&◌}
-use Rattle.std.specs.Result.{result_ok}
-use Rattle.std.specs.Int.{w64}
-use Rattle.std.specs.Str.Parse.{digits_value, signed_digits_value, ParsesSigned, ParsesUnsigned, AllDigits}
-use Rattle.std.specs.Fmt.{decimal, signed_decimal}
-use Rattle.std.specs.Int.Signed.{mag}
-use Rattle.sel_lines.proofs.Common.{Decides-and, Decides-ltb, HasOneSpelling}
-use Rattle.std.proofs.lemmas.Bool.{cases_eq, cond-true}
-use mathlib.Core.Logic.{⊎_elim}
-use Rattle.std.proofs.lemmas.Slice.Eq.{bytes_eq-Decides}
+use Rattle.std.proofs.Common.{rules, ◌≡◌, ◌≢◌, ℕ, zero, suc, ◌^◌, ◌≤◌, ◌<◌, ℤ, pos, neg_ℤ, cond, List, [], ◌∷◌, length, get_or, drop, Some, None, Result, Ok, Err, arith, refl, ap, sym, ◌∙◌, lit<, bytes_eq, nat_lt, Decides, ◌&&◌}
+use Rattle.std.proofs.lemmas.{Slice.Eq.bytes_eq-Decides, Bool.cases_eq, Bool.cond-true}
 use Rattle.std.proofs.lemmas.Fmt.{decimal_is_IsNumeral, first_decimal, decimal_digit, decimal-digits_value, parse-decimal, parse-signed_decimal}
 use Rattle.std.proofs.lemmas.Str.Parse.{parse_plain, parse_signed_plain, parse_signed_minus, numerals_by_value, tells_digits, digit_at, IsNumeralModel}
-use Rattle.sel_lines.specs.Numbers.{integer_of, unsigned_of}
-
-cond_none : {A : Type 0} (b : Bool) (x : A) → (b ≡ true → ⊥) → cond b (Some x) None ≡ None
-cond_none true x never = absurd (never refl)
-cond_none false x never = refl
+use Rattle.std.specs.{Int.w64, Int.Signed.mag, Result.result_ok, Fmt.decimal, Fmt.signed_decimal}
+use Rattle.std.specs.Str.Parse.{digits_value, signed_digits_value, ParsesSigned, ParsesUnsigned, AllDigits}
+use Rattle.sel_lines.{proofs.Common.Decides-and, proofs.Common.Decides-ltb, proofs.Common.HasOneSpelling, specs.Numbers.integer_of, specs.Numbers.unsigned_of}
+use mathlib.Core.Logic.{⊎_elim}
 
 test_of : (printed word : List ℕ) (m n : ℕ) → Decides (bytes_eq printed word && nat_lt m n) ((printed ≡ word) × (m < n))
 test_of printed word m n = Decides-and _ _ (bytes_eq-Decides printed word) (Decides-ltb m n)
@@ -26,7 +17,7 @@ read_some printed word m n x prints small = cond-true _ _ _ ((test_of printed wo
 
 read_none : {A : Type 0} (printed word : List ℕ) (m n : ℕ) (x : A) → (printed ≡ word → m < n → ⊥) →
     cond (bytes_eq printed word && nat_lt m n) (Some x) None ≡ None
-read_none printed word m n x never = cond_none _ x (λ t. let both = (test_of printed word m n).0 t in never both.0 both.1)
+read_none printed word m n x never = search (rules, test_of)
 
 integer_some : (word : List ℕ) (z : ℤ) → z ≡ signed_digits_value 10 word → signed_decimal z ≡ word → mag z < 2 ^ 63 →
     integer_of word ≡ Some z
@@ -51,18 +42,10 @@ own = numerals_by_value _ tells_digits
 
 -- Printed numbers have no plus sign, no `-0` and no leading zero.
 decimal_one_spelling : (n : ℕ) → n < 2 ^ 64 → HasOneSpelling (decimal n)
-decimal_one_spelling zero small = rw (decimal_digit 0 (lit< tt)) ((λ e. omega arith), (λ e. absurd (omega arith)), (λ e. refl))
-decimal_one_spelling (suc n) small =
-    let first = first_decimal (suc n) (omega arith) small in
-    let is = (decimal_is_IsNumeral (suc n) small).0 in
-    let range = digit_at (decimal (suc n)) 0 is.1 is.0 in
-    ((λ e. omega arith), (λ e. absurd (omega arith)), (λ e. absurd (omega arith)))
+decimal_one_spelling n small = search (rules, decimal_digit, first_decimal, decimal_is_IsNumeral, digit_at)
 
 pub integer_one_spelling : (z : ℤ) → mag z < 2 ^ 63 → HasOneSpelling (signed_decimal z)
-integer_one_spelling (pos n) small = decimal_one_spelling n (omega arith)
-integer_one_spelling (negsuc n) small =
-    let first = first_decimal (suc n) (omega arith) (omega arith) in
-    ((λ e. omega arith), (λ e f. omega arith), (λ e. absurd (omega arith)))
+integer_one_spelling z small = search (rules, decimal_one_spelling, first_decimal)
 
 -- ---- the result of `parse` for a word without these
 

@@ -1,23 +1,15 @@
 -- Fixed-size lists that are parsed one by one.
-use Rattle.std.proofs.Common.{◌≡◌, ℕ, ℤ, zero, suc, pos, ◌*◌, Bool, true, List, [], ◌∷◌, ◌++◌, length, length-append, get_or, map, replicate, Bor, Some, None, arith, refl, ap, sym, ◌∙◌, ◌==◌, ◌&&◌}
-use Rattle.sel_lines.proofs.Common.{common_steps, list_all, Decides-eqb, map-append, append-nil, length-map, length-replicate, list_all-append, Bits, hidden, list_of, blocks, block_rows, rows, Value, Null, Truth, Number, Bytes, Items, Tuple, is_valid, validities, both, and_first, and_second, items_in, joined_items, blocks_of, is_block, parsed_width, HasBlocks, standing_for, entries_text, fixed_words, shown_list, number_of, truth_of}
-use Rattle.sel_arrow.specs.NestedArrays.{block_column}
-use Rattle.sel_arrow.specs.declared.fixed_size_list.FixedSizeListArray.{FixedSizeListArray}
-use Rattle.sel_gather.proofs.ItemRuns.{joined-append, listed_values}
-use Rattle.sel_gather.proofs.Rebuilt.{IsBlock, blocks_length, blocks_rebuilt}
-use Rattle.sel_lines.specs.declared.blocks.Blocks.{Blocks}
-use Rattle.polars_compute.specs.Entries.{at_each}
-use Rattle.polars_compute.proofs.Elements.{long_rows}
-use Rattle.sel_lines.specs.declared.rows.Rows.{Rows}
-use Rattle.sel_lines.proofs.ReadLists.{held_length}
-use Rattle.sel_lines.proofs.RowLemmas.{items_more}
+use Rattle.std.proofs.Common.{rules, ◌≡◌, ℕ, ℤ, zero, suc, pos, ◌*◌, Bool, true, List, [], ◌∷◌, ◌++◌, length, get_or, map, replicate, Bor, Some, None, arith, refl, ap, sym, ◌∙◌, ◌==◌}
+use Rattle.sel_lines.proofs.Common.{common_steps, list_all, map-append, append-nil, length-map, length-replicate, list_all-append, Bits, hidden, list_of, blocks, block_rows, rows, Value, Null, Truth, Number, is_valid, validities, both, and_first, and_second, items_in, joined_items, blocks_of, is_block, parsed_width, HasBlocks, standing_for, entries_text, fixed_words, shown_list, number_of, truth_of}
+use Rattle.sel_arrow.specs.{NestedArrays.block_column, declared.fixed_size_list.FixedSizeListArray.FixedSizeListArray}
+use Rattle.sel_gather.proofs.{ItemRuns.listed_values, Rebuilt.IsBlock, Rebuilt.blocks_length, Rebuilt.blocks_rebuilt}
+use Rattle.sel_lines.{specs.declared.blocks.Blocks.Blocks, specs.declared.rows.Rows.Rows, proofs.ReadLists.held_length, proofs.RowLemmas.items_more}
+use Rattle.polars_compute.{specs.Entries.at_each, proofs.Elements.long_rows}
 
 -- ---- a row, and the list that is stored for it
 
 list_stands : (w : ℕ) (v : Value) → is_block w v ≡ true → IsBlock w (standing_for w v)
-list_stands w Null h = ap length (listed_values (replicate w (Number (pos 0)))) ∙ length-replicate w (Number (pos 0))
-list_stands w (Items items) h = (Decides-eqb _ w).0 h
-list_stands w v h = absurd cc
+list_stands w v h = search (rules, listed_values, length-replicate)
 
 lists_stand : (w : ℕ) (read : List Value) → list_all (is_block w) read ≡ true → (k : ℕ) → IsBlock w (get_or (map (standing_for w) read) k Null)
 lists_stand w [] all k = tt
@@ -28,22 +20,14 @@ lists_stand w (v ∷ read) all (suc k) = lists_stand w read (and_second (is_bloc
 pub standing_length : (w : ℕ) (read : List Value) → list_all (is_block w) read ≡ true → length (joined_items w (map (standing_for w) read)) ≡ length read * w
 standing_length w read all = blocks_length w (map (standing_for w) read) (lists_stand w read all) ∙ ap (λ n. n * w) (length-map read (standing_for w))
 
-is_there : (w : ℕ) (v : Value) → is_block w v ≡ true → is_valid (standing_for w v) ≡ true
-is_there w Null h = refl
-is_there w v h = refl
-
 are_there : (w : ℕ) (read : List Value) → list_all (is_block w) read ≡ true → replicate (length read) true ≡ validities (map (standing_for w) read)
 are_there w [] all = refl
-are_there w (v ∷ read) all = grind (arith, common_steps, is_there, and_first, and_second, (are_there w read (and_second (is_block w v) (list_all (is_block w) read) all)))
+are_there w (v ∷ read) all = search (rules, (are_there w read (and_second (is_block w v) (list_all (is_block w) read) all)))
 
 shown_again : (w : ℕ) (read : List Value) → hidden (validities read) (map (standing_for w) read) ≡ read
 shown_again w [] = refl
 shown_again w (Null ∷ read) = ap (λ l. Null ∷ l) (shown_again w read)
-shown_again w (Items items ∷ read) = ap (λ l. Items items ∷ l) (shown_again w read)
-shown_again w (Truth b ∷ read) = ap (λ l. Truth b ∷ l) (shown_again w read)
-shown_again w (Number z ∷ read) = ap (λ l. Number z ∷ l) (shown_again w read)
-shown_again w (Bytes bytes ∷ read) = ap (λ l. Bytes bytes ∷ l) (shown_again w read)
-shown_again w (Tuple parts ∷ read) = ap (λ l. Tuple parts ∷ l) (shown_again w read)
+shown_again w (v ∷ read) = ap (λ l. v ∷ l) (shown_again w read)
 
 -- A list has as many items as were parsed.
 pub width_is : (w n : ℕ) (items : Rows ℤ) → n ≡ length items.values.items → (n == w) ≡ is_block w (shown_list (Some items))
@@ -88,5 +72,4 @@ entries_printed arr w read index b is size =
 pub fixed_answered : (words : List (Bor (List ℕ))) (d : Bor (List ℕ)) (w : ℕ) (read : List Value) (index : ℤ) (b : Bool) (text : List ℕ) → length words ≡ 4 →
     Some w ≡ parsed_width (get_or words 0 d).now → blocks_of w (get_or words 1 d).now ≡ Some read → Some (Number index) ≡ number_of (get_or words 2 d).now → Some (Truth b) ≡ truth_of (get_or words 3 d).now →
     text ≡ entries_text w read (replicate (length read) (Number index)) b → Some text ≡ fixed_words (map (λ word. word.now) words)
-fixed_answered (width ∷ lists ∷ at ∷ oob ∷ []) d w read index b text four wide held placed asked made = grind (arith, common_steps)
-fixed_answered words d w read index b text four wide held placed asked made = absurd (omega arith)
+fixed_answered words d w read index b text four wide held placed asked made = grind (arith, common_steps)

@@ -1,13 +1,11 @@
 -- Lists that are parsed one by one.
+use Rattle.std.proofs.lemmas.Grind.{common_steps}
+use Rattle.sel_lines.proofs.Common.{map-append, append-nil, Bits, hidden, list_rows, Value, Null, Number, is_valid, validities, items_in, joined_items, item_ends, HasRead, IsListRow}
 use Rattle.std.proofs.Common.{◌≡◌, ℕ, ℤ, zero, suc, pos, ◌+◌, Bool, List, [], ◌∷◌, ◌++◌, length, length-append, get_or, map, Some, arith, refl, ap, sym, ◌∙◌}
-use Rattle.sel_lines.proofs.Common.{map-append, append-nil, Bits, hidden, list_rows, Value, Null, Number, Items, is_valid, validities, items_in, joined_items, item_ends, HasRead, IsListRow}
 use Rattle.sel_bits.specs.Bits.{unsliced}
 use Rattle.sel_arrow.proofs.Rows.{length-mapped}
-use Rattle.sel_gather.proofs.ItemRuns.{ends-append, joined-append}
-use Rattle.sel_gather.proofs.JoinedRows.{same_numbers}
-use Rattle.sel_gather.proofs.Rebuilt.{IsListed, lists_rebuilt}
-use Rattle.sel_lines.specs.declared.lists.Lists.{Lists}
-use Rattle.sel_lines.proofs.RowLemmas.{items_more}
+use Rattle.sel_gather.proofs.{ItemRuns.ends-append, ItemRuns.joined-append, JoinedRows.same_numbers, Rebuilt.IsListed, Rebuilt.lists_rebuilt}
+use Rattle.sel_lines.{specs.declared.lists.Lists.Lists, proofs.RowLemmas.items_more}
 
 pub held_length : (flags : List Bool) (values : List ℤ) → length (hidden flags (map Number values)) ≡ length values
 held_length flags values = length-mapped Number values (Some (unsliced flags))
@@ -43,9 +41,7 @@ read_more read old new row xs bs b has paired values flags ends valid is held li
     }
 
 listed_row : (v : Value) → IsListRow v → IsListed v
-listed_row Null h = tt
-listed_row (Items items) h = tt
-listed_row v h = absurd h
+listed_row v h = grind (arith, common_steps)
 
 -- The column of the parts.
 pub lists_made : (read : List Value) (lists : Lists) (offsets : List ℕ) (child : List Value) (validity : Bits) → HasRead read lists → map pos offsets ≡ lists.ends.items →

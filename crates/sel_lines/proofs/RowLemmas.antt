@@ -1,21 +1,18 @@
 -- Rows that are parsed and printed one by one.
-use Rattle.std.proofs.Common.{◌≡◌, ◌≢◌, ℕ, zero, suc, ◌+◌, ◌≤◌, ◌<◌, Bool, false, List, [], ◌∷◌, ◌++◌, length, get_or, take, drop, map, Option, Some, None, arith, refl, ap, sym, ◌∙◌, Bor, append_assoc, option_map, codes, cond, is_some, unwrap_or}
+use Rattle.std.proofs.Common.{rules, ◌≡◌, ◌≢◌, ℕ, suc, ◌+◌, ◌≤◌, ◌<◌, Bool, false, List, [], ◌∷◌, ◌++◌, length, get_or, take, drop, map, Option, Some, None, arith, refl, ap, sym, ◌∙◌, Bor, append_assoc, option_map, codes, cond, is_some, unwrap_or}
 use Rattle.sel_lines.proofs.Common.{common_steps, join_with_byte, slice_split, take_more, map-append, take-append-drop, length-take, length-map, hidden, shown_row, Value, Null}
-use Rattle.std.proofs.Math.Seq.{drop-cons}
-use Rattle.std.proofs.lemmas.Simd.{map-map}
+use Rattle.std.proofs.{Math.Seq.drop-cons, lemmas.Simd.map-map}
 use Rattle.sel_gather.proofs.Grown.{hidden-append}
 use Rattle.sel_lines.specs.Columns.{all_some, row_text, column_text}
 
 pub mapped_some : {A B P : Type 0} (f : A → B) (found : Option A) (y : B) → option_map f found ≡ Some y →
     ((x : A) → found ≡ Some x → f x ≡ y → P) → P
-mapped_some f None y is then = absurd cc
-mapped_some f (Some x) y is then = then x refl cc
+mapped_some f found y is then = grind (arith, common_steps)
 
 all_some_push : {X : Type 0} (xs : List (Option X)) (ys : List X) (y : X) → all_some xs ≡ Some ys → all_some (xs ++ (Some y ∷ [])) ≡ Some (ys ++ (y ∷ []))
 all_some_push [] ys y e = let same : [] ≡ ys = cc in ap (λ r. Some (r ++ (y ∷ []))) same
 all_some_push (None ∷ xs) ys y e = cc
-all_some_push (Some x ∷ xs) ys y e =
-    mapped_some (λ zs. x ∷ zs) (all_some xs) ys e (λ zs here made. rw (all_some_push xs zs y here, ← made) refl)
+all_some_push (Some x ∷ xs) ys y e = search (rules, (all_some_push xs))
 
 all_some_none : {X : Type 0} (xs zs : List (Option X)) → all_some (xs ++ (None ∷ zs)) ≡ None
 all_some_none [] zs = refl
@@ -46,16 +43,10 @@ join_push c [] part some = absurd (omega arith)
 join_push c (x ∷ []) part some = refl
 join_push c (x ∷ y ∷ more) part some = ap (λ r. x ++ (c ∷ r)) (join_push c (y ∷ more) part (omega arith)) ∙ sym (append_assoc x (c ∷ join_with_byte c (y ∷ more)) (c ∷ part))
 
--- The first part.
-join_first : {A : Type 0} (c : ℕ) (f : A → List ℕ) (rows : List A) (d : A) → 0 < length rows → join_with_byte c (map f (take (0 + 1) rows)) ≡ f (get_or rows 0 d)
-join_first c f [] d some = absurd (omega arith)
-join_first c f (x ∷ rows) d some = refl
-
 -- One more part, after a comma if it is not the first.
 pub join_first_step : {A : Type 0} (c : ℕ) (f : A → List ℕ) (rows : List A) (i : ℕ) (d : A) (old new : List ℕ) → i < length rows → i ≤ 0
     → old ≡ join_with_byte c (map f (take i rows)) → new ≡ old ++ f (get_or rows i d) → new ≡ join_with_byte c (map f (take (i + 1) rows))
-join_first_step c f rows zero d old new lt first before now = now ∙ ap (λ r. r ++ f (get_or rows 0 d)) before ∙ sym (join_first c f rows d lt)
-join_first_step c f rows (suc i) d old new lt first before now = absurd (omega arith)
+join_first_step c f rows i d old new lt first before now = grind (arith, common_steps)
 
 pub join_step : {A : Type 0} (c : ℕ) (f : A → List ℕ) (rows : List A) (i : ℕ) (d : A) (old mid new : List ℕ) → i < length rows → 0 < i
     → old ≡ join_with_byte c (map f (take i rows)) → mid ≡ old ++ (c ∷ []) → new ≡ mid ++ f (get_or rows i d)
@@ -64,13 +55,11 @@ join_step c f rows i d old mid new lt some before comma now = grind (arith, comm
 
 pub text_of_none : (rows : List Value) → length rows ≡ 0 → column_text rows ≡ codes "-"
 unfolding column_text
-text_of_none [] none = refl
-text_of_none (row ∷ rows) none = absurd (omega (arith, none))
+text_of_none rows none = grind (arith, common_steps)
 
 pub text_of_some : (rows : List Value) → length rows ≢ 0 → column_text rows ≡ join_with_byte 44 (map row_text rows)
 unfolding column_text
-text_of_some [] some = absurd (some refl)
-text_of_some (row ∷ rows) some = refl
+text_of_some rows some = grind (arith, common_steps)
 
 pub map_now : {Y : Type 0} (f : List ℕ → Y) (words : List (Bor (List ℕ))) → map (λ word. f word.now) words ≡ map f (map (λ word. word.now) words)
 map_now f words = sym (map-map f (λ (word : Bor (List ℕ)). word.now) words)
@@ -84,8 +73,7 @@ parts_read value_of p none word parts words some same cut = rw (same, ← some, 
 -- ---- items and their validity
 
 shown_here : {T : Type 0} (shown : T → Value) (row : Option T) (beneath : T) → cond (is_some row) (shown (unwrap_or row beneath)) Null ≡ shown_row shown row
-shown_here shown None beneath = refl
-shown_here shown (Some item) beneath = refl
+shown_here shown row beneath = grind (arith, common_steps)
 
 -- More items and flags.
 pub items_more : {T : Type 0} (shown : T → Value) (fs gs bs : List Bool) (xs zs ys : List T) → length fs ≡ length xs → gs ≡ fs ++ bs →

@@ -1,8 +1,7 @@
 -- The words of a line of `table`, and the types of its columns.
-use Rattle.std.proofs.Common.{◌≡◌, ℕ, ◌-◌, ◌<◌, Bor, List, ◌∷◌, All, length, get_or, map, take, drop, Option, Some, arith, refl, ap, sym, ◌∙◌}
 use Rattle.sel_lines.proofs.Common.{get_or-map, length-map, length-drop, take_all, type_of, of_int64, Value, ArrayRef, all_some, column_of, index_of, number_of, truth_of, type_of_each}
-use Rattle.sel_lines.specs.Table.{table_read, table_words}
-use Rattle.sel_lines.proofs.RowLemmas.{map_now}
+use Rattle.std.proofs.Common.{◌≡◌, ℕ, ◌-◌, ◌<◌, Bor, List, ◌∷◌, All, length, get_or, map, take, drop, Option, Some, arith, refl, ap, sym, ◌∙◌}
+use Rattle.sel_lines.{specs.Table.table_read, specs.Table.table_words, proofs.RowLemmas.map_now}
 
 -- ---- types
 

@@ -1,28 +1,19 @@
 -- Strings as words, and views of them into one data buffer that grows.
-use Rattle.std.proofs.Common.{◌≡◌, ◌≢◌, ℕ, ◌+◌, ◌-◌, ◌≤◌, ◌<◌, Bool, true, false, ◌&&◌, cond, Bor, List, [], ◌∷◌, ◌++◌, length, take, map, get_or, Option, Some, None, arith, refl, ap, sym, ◌∙◌, length-append, leb, ◌==◌, IsTrue, is_some, unwrap_or, leb-true, eqb-true}
+use Rattle.std.proofs.lemmas.Grind.{common_steps}
+use Rattle.std.proofs.Common.{◌≡◌, ◌≢◌, ℕ, ◌+◌, ◌≤◌, ◌<◌, Bool, true, false, ◌&&◌, cond, Bor, List, [], ◌∷◌, ◌++◌, length, take, map, get_or, Option, Some, None, arith, refl, ap, sym, ◌∙◌, length-append, leb, IsTrue, is_some, unwrap_or, leb-true}
 use Rattle.sel_lines.proofs.Common.{map-append, length-map, take_more, list_all-append, hidden, Value, Null, Bytes, both, byte_count, bytes_needed, string_value, text_row}
-use Rattle.std.specs.Str.{IsUtf8, is_utf8}
-use Rattle.std.proofs.lemmas.Str.{is_utf8-from_IsUtf8}
-use Rattle.std.proofs.lemmas.List.{take-map}
-use Rattle.sel_arrow.specs.Texts.{all_text, is_text}
-use Rattle.sel_arrow.specs.Views.{all_placed, inline_bytes, view_of, view_value}
-use Rattle.sel_arrow.specs.declared.view.View.{View}
+use Rattle.std.{specs.Str.IsUtf8, specs.Str.is_utf8, proofs.lemmas.Str.is_utf8-from_IsUtf8, proofs.lemmas.List.take-map}
+use Rattle.sel_arrow.specs.{Texts.all_text, Texts.is_text, Views.all_placed, Views.inline_bytes, Views.view_of, Views.view_value, declared.view.View.View}
 use Rattle.sel_arrow.proofs.GrownViews.{Named, far_new, near_new, placed_more}
-use Rattle.sel_gather.proofs.Grown.{hidden-append}
-use Rattle.sel_gather.proofs.JoinedRows.{needed-append, needed_part}
+use Rattle.sel_gather.proofs.{Grown.hidden-append, JoinedRows.needed-append, JoinedRows.needed_part}
 
 -- ---- a string after `=`
 
 pub text_some : (word text : List ℕ) → word ≡ 61 ∷ text → Some (Bytes text) ≡ string_value word
 text_some word text is = ap string_value (sym is)
 
-not_text : (b : Bool) (c : ℕ) (text : List ℕ) → (c == 61) ≡ b → (c ≡ 61 → ⊥) → None ≡ cond b (Some (Bytes text)) None
-not_text true c text is other = absurd (other (eqb-true c 61 is))
-not_text false c text is other = refl
-
 pub text_none : (word : List ℕ) → ((text : List ℕ) → word ≢ 61 ∷ text) → None ≡ string_value word
-text_none [] other = refl
-text_none (c ∷ text) other = not_text (c == 61) c text refl (λ is. other text (ap (λ d. d ∷ text) is))
+text_none word other = grind (arith, common_steps)
 
 -- ---- the view of a string that is appended
 
@@ -44,12 +35,10 @@ pub record Growing (store : List ℕ) (views : List View) (flags : List Bool) (r
   pub texts : IsTrue (all_text rows)
 
 flag_bytes : (b : Bool) (text : List ℕ) → (b ≡ false → text ≡ []) → byte_count (cond b (Bytes text) Null) ≡ length text
-flag_bytes true text none = refl
-flag_bytes false text none = ap length (sym (none refl))
+flag_bytes b text none = grind (arith, common_steps)
 
 flag_text : (b : Bool) (text : List ℕ) → is_utf8 text ≡ true → is_text (cond b (Bytes text) Null) ≡ true
-flag_text true text utf8 = utf8
-flag_text false text utf8 = refl
+flag_text b text utf8 = grind (arith, common_steps)
 
 -- One more string, or an empty string in a null slot.
 pub grow : (store : List ℕ) (views : List View) (flags : List Bool) (rows : List Value) (text : List ℕ) (b : Bool) (v : View) → Growing store views flags rows
@@ -73,12 +62,10 @@ grow store views flags rows text b v so is near none utf8 =
 -- ---- the strings of the rows so far
 
 row_text_is : (row : Option (Bor (List ℕ))) (d text : Bor (List ℕ)) (b : Bool) → text ≡ unwrap_or row d → b ≡ is_some row → cond b (Bytes text.now) Null ≡ text_row row
-row_text_is None d text b is flag = ap (λ f. cond f (Bytes text.now) Null) flag
-row_text_is (Some t) d text b is flag = ap (λ f. cond f (Bytes text.now) Null) flag ∙ ap (λ (s : Bor (List ℕ)). Bytes s.now) is
+row_text_is row d text b is flag = grind (arith, common_steps)
 
 beneath_null : (row : Option (Bor (List ℕ))) (d text : Bor (List ℕ)) (b : Bool) → text ≡ unwrap_or row d → d.now ≡ [] → b ≡ is_some row → b ≡ false → text.now ≡ []
-beneath_null None d text b is empty flag none = ap (λ (s : Bor (List ℕ)). s.now) is ∙ empty
-beneath_null (Some t) d text b is empty flag none = absurd cc
+beneath_null row d text b is empty flag none = grind (arith, common_steps)
 
 one_row_more : (rows : List (Option (Bor (List ℕ)))) (i : ℕ) (e : Option (Bor (List ℕ))) → i < length rows
     → map text_row (take (i + 1) rows) ≡ map text_row (take i rows) ++ (text_row (get_or rows i e) ∷ [])

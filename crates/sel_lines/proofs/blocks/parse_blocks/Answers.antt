@@ -1,7 +1,5 @@
-use Rattle.std.proofs.Common.{[], sym, ◌==◌, subst}
-use Rattle.sel_lines.proofs.Common.{IfOk-weaker, block_of, IsReadingBlocks}
-use Rattle.std.proofs.lemmas.Bool.{cond-true}
-use Rattle.sel_lines.proofs.RowLemmas.{parts_read}
+use Rattle.std.proofs.{Common.[], Common.sym, Common.◌==◌, Common.subst, lemmas.Bool.cond-true}
+use Rattle.sel_lines.proofs.{Common.IfOk-weaker, Common.block_of, Common.IsReadingBlocks, RowLemmas.parts_read}
 use Rattle.sel_lines.proofs.blocks.parse_blocks.Goals as goal
 
 pub returns-then-eq : goal.returns-then-eq

@@ -1,6 +1,5 @@
 use Rattle.std.proofs.Common.{◌++◌, ◌∷◌, [], ◌∙◌, ap, refl, sym, option_map}
-use Rattle.sel_lines.proofs.Common.{block_of, shown_list}
-use Rattle.sel_lines.proofs.RowLemmas.{rows_step}
+use Rattle.sel_lines.proofs.{Common.block_of, Common.shown_list, RowLemmas.rows_step}
 use Rattle.sel_lines.proofs.blocks.parse_each.Goals as goal
 
 pub loop-word-init : goal.loop-word-init

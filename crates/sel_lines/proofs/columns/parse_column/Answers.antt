@@ -1,6 +1,5 @@
 use Rattle.std.proofs.Common.{◌∙◌, ◌==◌}
-use Rattle.sel_lines.proofs.Common.{IfOk-weaker, row_of}
-use Rattle.sel_lines.proofs.RowLemmas.{parts_read}
+use Rattle.sel_lines.proofs.{Common.IfOk-weaker, Common.row_of, RowLemmas.parts_read}
 use Rattle.sel_lines.proofs.columns.parse_column.Goals as goal
 
 pub returns : goal.returns

@@ -1,6 +1,5 @@
 use Rattle.std.proofs.Common.{sym, arith, ap, ◌∙◌, Some, length, length-append, ◌++◌, ◌∷◌, [], ◌+◌}
-use Rattle.sel_lines.proofs.Common.{row_of}
-use Rattle.sel_lines.proofs.RowLemmas.{rows_step, hidden_more}
+use Rattle.sel_lines.proofs.{Common.row_of, RowLemmas.rows_step, RowLemmas.hidden_more}
 use Rattle.sel_lines.proofs.columns.parse_rows.Goals as goal
 
 pub loop-word-preserved : goal.loop-word-preserved

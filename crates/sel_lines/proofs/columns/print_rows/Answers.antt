@@ -1,8 +1,7 @@
 use Rattle.std.proofs.Common.{◌∙◌, arith, ap, ◌++◌, lit<, string_bytes}
-use Rattle.sel_lines.proofs.Common.{Null, row_text}
-use Rattle.sel_lines.proofs.RowLemmas.{join_step, join_first_step}
-use Rattle.sel_lines.proofs.columns.print_rows.Goals as goal
+use Rattle.sel_lines.proofs.{Common.Null, Common.row_text, RowLemmas.join_step, RowLemmas.join_first_step}
 use Rattle.sel_lines.proofs.columns.print_rows.Goals.{then-place-gt0+in_ok-push, else-place-gt0}
+use Rattle.sel_lines.proofs.columns.print_rows.Goals as goal
 
 pub loop-place-preserved : goal.loop-place-preserved
 loop-place-preserved g c =

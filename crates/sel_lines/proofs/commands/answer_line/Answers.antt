@@ -1,7 +1,5 @@
 use Rattle.std.proofs.Common.{◌∙◌, ap, map, arith, ◌==◌}
-use Rattle.sel_lines.proofs.Common.{IfOk-weaker, slice_split}
-use Rattle.sel_lines.specs.Commands.{answer_of_words}
-use Rattle.sel_lines.proofs.Answered.{of_text}
+use Rattle.sel_lines.{proofs.Common.IfOk-weaker, proofs.Common.slice_split, specs.Commands.answer_of_words, proofs.Answered.of_text}
 use Rattle.sel_lines.proofs.commands.answer_line.Goals as goal
 
 pub returns : goal.returns

@@ -1,7 +1,6 @@
 use Rattle.std.proofs.Common.{◌∙◌, arith, ap, sym, subst, length, replicate, rules, w64, option_map}
 use Rattle.sel_lines.proofs.Common.{to_z-of_z, Number, Truth, IsReadingBlocks, entries_text}
-use Rattle.sel_lines.proofs.FewItems.{few_blocks, narrow_width}
-use Rattle.sel_lines.proofs.ReadBlocks.{fixed_answered}
+use Rattle.sel_lines.proofs.{FewItems.few_blocks, FewItems.narrow_width, ReadBlocks.fixed_answered}
 use Rattle.sel_lines.proofs.fixed.answer_fixed.Goals as goal
 
 pub returns : goal.returns

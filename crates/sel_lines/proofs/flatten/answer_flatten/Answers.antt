@@ -1,6 +1,5 @@
 use Rattle.std.proofs.Common.{◌∙◌, Some, None, ap, sym, map, option_map}
-use Rattle.sel_lines.proofs.Common.{IfOk-weaker, read_part}
-use Rattle.sel_lines.proofs.Flattened.{words_read}
+use Rattle.sel_lines.proofs.{Common.IfOk-weaker, Common.read_part, Flattened.words_read}
 use Rattle.sel_lines.proofs.flatten.answer_flatten.Goals as goal
 
 pub returns-in_default-2 : goal.returns-in_default-2

@@ -1,7 +1,6 @@
 use Rattle.std.proofs.Common.{◌∙◌, Some, ap, sym, option_map}
-use Rattle.sel_lines.proofs.Common.{primitive_rows, flat_text}
+use Rattle.sel_lines.proofs.{Common.primitive_rows, Common.flat_text, Flattened.answer_read, Flattened.column_flat_text}
 use Rattle.sel_arrow.proofs.Rows.{length-number_rows}
-use Rattle.sel_lines.proofs.Flattened.{answer_read, column_flat_text}
 use Rattle.sel_lines.proofs.flatten.answer_parts.Goals as goal
 
 pub returns-in_ok-print_column-in-Ok-Some : goal.returns-in_ok-print_column-in-Ok-Some

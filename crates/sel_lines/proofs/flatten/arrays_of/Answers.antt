@@ -1,6 +1,5 @@
 use Rattle.std.proofs.Common.{◌∙◌, sym, ap, map, map-id, rules}
-use Rattle.std.proofs.lemmas.Iterator.Adapters.{YieldsList-from_vec}
-use Rattle.std.proofs.lemmas.Iterator.Consumers.{YieldsList-end}
+use Rattle.std.proofs.lemmas.Iterator.{Adapters.YieldsList-from_vec, Consumers.YieldsList-end}
 use Rattle.sel_arrow.specs.Columns.{primitive_rows}
 use Rattle.sel_lines.specs.declared.flatten.Part.{Part}
 use Rattle.sel_lines.proofs.flatten.arrays_of.Goals as goal

@@ -1,6 +1,5 @@
 use Rattle.std.proofs.Common.{arith, subst}
-use Rattle.sel_lines.specs.ListParts.{IsReading}
-use Rattle.sel_lines.proofs.FewItems.{few_lists}
+use Rattle.sel_lines.{specs.ListParts.IsReading, proofs.FewItems.few_lists}
 use Rattle.sel_lines.proofs.get.answer_get.Goals as goal
 
 pub answer_lists-requires : goal.answer_lists-requires

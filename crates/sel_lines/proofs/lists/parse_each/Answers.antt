@@ -1,6 +1,5 @@
 use Rattle.std.proofs.Common.{◌++◌, ◌∷◌, [], ◌∙◌, ap, sym, option_map}
-use Rattle.sel_lines.proofs.Common.{list_of_word, shown_list}
-use Rattle.sel_lines.proofs.RowLemmas.{rows_step}
+use Rattle.sel_lines.proofs.{Common.list_of_word, Common.shown_list, RowLemmas.rows_step}
 use Rattle.sel_lines.proofs.lists.parse_each.Goals as goal
 
 pub loop-word-preserved : goal.loop-word-preserved

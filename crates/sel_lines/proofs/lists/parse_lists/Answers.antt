@@ -1,6 +1,5 @@
 use Rattle.std.proofs.Common.{◌==◌, subst}
-use Rattle.sel_lines.proofs.Common.{IfOk-weaker, list_of_word, IsReading}
-use Rattle.sel_lines.proofs.RowLemmas.{parts_read}
+use Rattle.sel_lines.proofs.{Common.IfOk-weaker, Common.list_of_word, Common.IsReading, RowLemmas.parts_read}
 use Rattle.sel_lines.proofs.lists.parse_lists.Goals as goal
 
 pub returns : goal.returns

@@ -1,7 +1,6 @@
 use Rattle.std.proofs.Common.{◌≡◌, ◌++◌, ◌∷◌, [], ◌∙◌, pos, false, ap, sym, refl, arith, length, w64, to_z}
 use Rattle.std.proofs.lemmas.Int.{ints}
-use Rattle.sel_lines.proofs.Common.{append-nil}
-use Rattle.sel_lines.proofs.ReadLists.{read_more}
+use Rattle.sel_lines.proofs.{Common.append-nil, ReadLists.read_more}
 use Rattle.sel_lines.proofs.lists.push_null.Goals as goal
 
 pub returns : goal.returns

@@ -1,7 +1,6 @@
 use Rattle.std.proofs.Common.{◌<◌, ◌∙◌, None, Some, ap, arith, length, pos, sym, option_map}
 use Rattle.sel_lines.proofs.Common.{IfOk-weaker, Number, Truth, parsed_rows, rows_of_arrays}
-use Rattle.sel_lines.specs.Table.{table_answer}
-use Rattle.sel_lines.proofs.TableWords.{rest_is, table_words_read}
+use Rattle.sel_lines.{specs.Table.table_answer, proofs.TableWords.rest_is, proofs.TableWords.table_words_read}
 use Rattle.sel_lines.proofs.table.answer_table.Goals as goal
 
 pub returns-in_default-3 : goal.returns-in_default-3

@@ -1,8 +1,7 @@
 use Rattle.std.proofs.Common.{◌<◌, ◌∙◌, arith, ap, sym, ◌++◌, length, lit<, string_bytes}
-use Rattle.sel_lines.proofs.Common.{get_or-map, length-map, rows, rows_of_arrays, ArrayRef, column_text}
-use Rattle.sel_lines.proofs.RowLemmas.{join_step, join_first_step}
+use Rattle.sel_lines.proofs.{Common.get_or-map, Common.length-map, Common.rows, Common.rows_of_arrays, Common.ArrayRef, Common.column_text, RowLemmas.join_step}
+use Rattle.sel_lines.proofs.{RowLemmas.join_first_step, table.print_columns.Goals.then-place-gt0+in_ok-push, table.print_columns.Goals.else-place-gt0}
 use Rattle.sel_lines.proofs.table.print_columns.Goals as goal
-use Rattle.sel_lines.proofs.table.print_columns.Goals.{then-place-gt0+in_ok-push, else-place-gt0}
 
 pub loop-place-preserved : goal.loop-place-preserved
 loop-place-preserved c =

@@ -1,5 +1,4 @@
-use Rattle.std.proofs.Common.{◌∙◌, Some, sym, ap}
-use Rattle.std.proofs.lemmas.Bool.{cond-true}
+use Rattle.std.proofs.{Common.◌∙◌, Common.Some, Common.sym, Common.ap, lemmas.Bool.cond-true}
 use Rattle.sel_lines.proofs.Common.{all_within, primitive_rows, column_text}
 use Rattle.sel_lines.proofs.take.take_column.Goals as goal
 

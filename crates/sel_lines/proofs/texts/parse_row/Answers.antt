@@ -1,7 +1,5 @@
-use Rattle.std.proofs.Common.{◌∙◌, Some, ap, cond, lit<}
-use Rattle.std.proofs.lemmas.Str.Pattern.{strip_prefix_char}
-use Rattle.sel_lines.proofs.Common.{Null, string_value}
-use Rattle.sel_lines.proofs.TextViews.{text_none}
+use Rattle.std.proofs.{Common.◌∙◌, Common.Some, Common.ap, Common.cond, Common.lit<, lemmas.Str.Pattern.strip_prefix_char}
+use Rattle.sel_lines.proofs.{Common.Null, Common.string_value, TextViews.text_none}
 use Rattle.sel_lines.proofs.texts.parse_row.Goals as goal
 
 pub returns-in-None : goal.returns-in-None

@@ -1,6 +1,5 @@
 use Rattle.std.proofs.Common.{◌∙◌, ◌==◌}
-use Rattle.sel_lines.proofs.Common.{IfOk-weaker, row_of, string_value}
-use Rattle.sel_lines.proofs.RowLemmas.{parts_read}
+use Rattle.sel_lines.proofs.{Common.IfOk-weaker, Common.row_of, Common.string_value, RowLemmas.parts_read}
 use Rattle.sel_lines.proofs.texts.parse_rows.Goals as goal
 
 pub returns : goal.returns

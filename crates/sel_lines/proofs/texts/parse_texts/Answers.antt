@@ -1,6 +1,5 @@
 use Rattle.std.proofs.Common.{◌∙◌, sym, ap, map, length, arith, option_map}
-use Rattle.sel_lines.proofs.Common.{length-map, bytes_needed, text_row}
-use Rattle.sel_lines.proofs.FewItems.{few_texts}
+use Rattle.sel_lines.proofs.{Common.length-map, Common.bytes_needed, Common.text_row, FewItems.few_texts}
 use Rattle.sel_lines.proofs.texts.parse_texts.Goals as goal
 
 pub of_rows-requires : goal.of_rows-requires

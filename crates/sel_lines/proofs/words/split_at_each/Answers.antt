@@ -1,7 +1,5 @@
-use Rattle.std.proofs.Common.{◌∙◌, ap, map}
+use Rattle.std.proofs.{Common.◌∙◌, Common.ap, Common.map, lemmas.Iterator.Consumers.YieldsList-end, lemmas.Iterator.Splits.YieldsList-from_str_split}
 use Rattle.std.specs.Str.Iter.{split_text, split_has_more, split_pattern}
-use Rattle.std.proofs.lemmas.Iterator.Consumers.{YieldsList-end}
-use Rattle.std.proofs.lemmas.Iterator.Splits.{YieldsList-from_str_split}
 use Rattle.sel_lines.proofs.Pieces.{cut_count, cut_lengths}
 use Rattle.sel_lines.proofs.words.split_at_each.Goals as goal
 

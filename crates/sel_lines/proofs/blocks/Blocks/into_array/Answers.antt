@@ -1,8 +1,7 @@
 use Rattle.std.proofs.Common.{◌≡◌, ◌∙◌, ◌*◌, map, ap, arith, length, sym}
 use Rattle.sel_lines.proofs.Common.{length-map, hidden, rows, row_count, Number, is_valid, joined_items, standing_for}
+use Rattle.sel_lines.proofs.{MadeColumns.block_sound, MadeColumns.memory_alone, ReadBlocks.blocks_made, ReadBlocks.standing_length}
 use Rattle.sel_arrow.proofs.NestedRows.{length-rows}
-use Rattle.sel_lines.proofs.MadeColumns.{block_sound, memory_alone}
-use Rattle.sel_lines.proofs.ReadBlocks.{blocks_made, standing_length}
 use Rattle.sel_lines.proofs.blocks.Blocks.into_array.Goals as goal
 
 pub returns-in-Ok-clause-rows : goal.returns-in-Ok-clause-rows

@@ -1,10 +1,8 @@
 use Rattle.std.proofs.Common.{◌≡◌, ◌∙◌, ◌∷◌, ℤ, map, ap, length, sym}
 use Rattle.sel_lines.proofs.Common.{hidden, rows, row_count, Number, joined_items, item_ends}
+use Rattle.sel_lines.proofs.{MadeColumns.list_sound, MadeColumns.memory_alone, ReadLists.lists_made}
 use Rattle.sel_arrow.proofs.NestedRows.{length-rows}
-use Rattle.sel_gather.proofs.JoinedRows.{map_same, offsets_of, same_numbers}
-use Rattle.sel_gather.proofs.Rebuilt.{rising_ends}
-use Rattle.sel_lines.proofs.MadeColumns.{list_sound, memory_alone}
-use Rattle.sel_lines.proofs.ReadLists.{lists_made}
+use Rattle.sel_gather.proofs.{JoinedRows.map_same, JoinedRows.offsets_of, JoinedRows.same_numbers, Rebuilt.rising_ends}
 use Rattle.sel_lines.proofs.lists.Lists.into_array.Goals as goal
 
 pub of_rising-requires : goal.of_rising-requires

@@ -1,6 +1,5 @@
 use Rattle.std.proofs.Common.{map, take}
-use Rattle.sel_lines.specs.Parts.{text_row}
-use Rattle.sel_lines.proofs.TextViews.{Growing}
+use Rattle.sel_lines.{specs.Parts.text_row, proofs.TextViews.Growing}
 use Rattle.sel_lines.proofs.texts.Texts.of_rows.Given as goal
 
 abbrev pub invariant-loop-row : goal.invariant-loop-row
