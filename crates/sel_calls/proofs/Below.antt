@@ -1,11 +1,8 @@
 -- Children and fields of a well-formed column are well-formed.
 use Rattle.std.proofs.Common.{◌≡◌, ℕ, ◌<◌, true, length, arith, Option, Vec, Global, sym, ap, ◌∙◌}
 use Rattle.sel_calls.proofs.Common.{type_of, well_formed, all_well_formed, Bits, Column, Struct, child, is_listing, field, fields_of}
-use Rattle.sel_arrow.specs.declared.column.Column.TheVariants.{Struct'}
-use Rattle.sel_arrow.proofs.NestedRows.{struct_covered}
-use Rattle.sel_gather.proofs.Below.{child_formed}
-use Rattle.sel_gather.proofs.FieldsOf.{fields_of-Struct}
-use Rattle.sel_gather.proofs.TupleRows.{formed_in}
+use Rattle.sel_arrow.{specs.declared.column.Column.TheVariants.Struct', proofs.NestedRows.struct_covered}
+use Rattle.sel_gather.proofs.{Below.child_formed, FieldsOf.fields_of-Struct, TupleRows.formed_in}
 
 pub field_is_formed : (c : Column) (j : ℕ) → well_formed c ≡ true → j < length (fields_of c) → well_formed (field j c) ≡ true
 field_is_formed (Struct' len n fields validity) j formed h = (formed_in _ fields len j (Struct' len n fields validity) (struct_covered len validity (all_well_formed len fields) formed).2 h).1

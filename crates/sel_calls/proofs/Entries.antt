@@ -1,9 +1,8 @@
 -- Results of element access for fixed-size lists, by the rows and the type of the lists.
-use Rattle.std.proofs.Common.{◌≡◌, ℕ, ℤ, Bool, false, length, List, [], ◌∷◌, inl, inr, replicate, w64, FitsSigned, to_z, of_z, ap, sym, ◌∙◌}
+use Rattle.std.proofs.lemmas.Grind.{common_steps}
 use Rattle.sel_calls.proofs.Common.{to_z-of_z, PolarsError, block_column, rows, Value, Number, error_status, list_index_out_of_bounds, ReturnsFirst, IsOkOrLimit}
-use Rattle.sel_bits.specs.declared.faults.PolarsError.TheVariants.{OutOfMemory, SizeLimit, ComputeError}
-use Rattle.sel_arrow.specs.declared.fixed_size_list.FixedSizeListArray.{FixedSizeListArray}
-use Rattle.sel_arrow.proofs.NestedRows.{length-rows}
+use Rattle.std.proofs.Common.{arith, ◌≡◌, ℕ, ℤ, Bool, false, length, List, [], ◌∷◌, replicate, w64, FitsSigned, to_z, of_z, ap, sym, ◌∙◌}
+use Rattle.sel_arrow.{specs.declared.fixed_size_list.FixedSizeListArray.FixedSizeListArray, proofs.NestedRows.length-rows}
 use Rattle.polars_compute.specs.Entries.{at_each, is_get_error, exceeded_entries, IsGetError}
 
 -- The index that the call passes for each list is the given index for each row.
@@ -13,6 +12,4 @@ same-indices arr index fits = ap (λ i. at_each arr i) (to_z-of_z w64 index fits
 -- An error of a kernel for element access is out of memory, an index that is an error, or an exceeded limit.
 pub get-error : (status : ℕ) (null_on_oob : Bool) (arr : FixedSizeListArray) (indices : List Value) (fault : PolarsError) → status ≡ error_status fault → IsGetError null_on_oob arr indices fault →
     ReturnsFirst status ((list_index_out_of_bounds, is_get_error null_on_oob arr indices ≡ false) ∷ []) (IsOkOrLimit status (exceeded_entries arr indices))
-get-error status null_on_oob arr indices OutOfMemory number refusal = inl number
-get-error status null_on_oob arr indices (SizeLimit limit) number refusal = inr (inr (refusal.0, inr (inr (limit, number, refusal.1))))
-get-error status null_on_oob arr indices ComputeError number refusal = inr (inl (number, λ inside. absurd (cc (refusal, inside))))
+get-error status null_on_oob arr indices fault number refusal = grind (arith, common_steps)

@@ -1,23 +1,19 @@
 -- The statuses of calls.
-use Rattle.std.proofs.Common.{◌≡◌, ℕ, zero, suc, ◌≤◌, List, [], ◌∷◌, inl, inr, refl, arith}
+use Rattle.std.proofs.lemmas.Grind.{common_steps}
+use Rattle.std.proofs.Common.{◌≡◌, ℕ, ◌≤◌, List, [], ◌∷◌, inl, inr, arith}
 use Rattle.sel_calls.proofs.Common.{Limit, PolarsError, error_status, ok, out_of_memory, ReturnsFirst, IsOkOrLimit, ExceedsNone, IsLimitOrMemory}
-use Rattle.sel_bits.specs.declared.faults.PolarsError.TheVariants.{OutOfMemory, SizeLimit, ComputeError}
 
 -- A kernel's error is out of memory or an exceeded limit, so a call returns its status after all checks.
 pub returns-error : (status : ℕ) (Past : Limit → Type 0) (fault : PolarsError) → status ≡ error_status fault → IsLimitOrMemory Past fault → ReturnsFirst status [] (IsOkOrLimit status Past)
-returns-error status Past OutOfMemory is past = inl is
-returns-error status Past (SizeLimit limit) is past = inr (inr (limit, is, past))
-returns-error status Past ComputeError is past = absurd past
+returns-error status Past fault is past = grind (arith, common_steps)
 
 -- A result that exceeds no limit is stored, unless memory runs out.
 pub returns-put : (status : ℕ) (Past : Limit → Type 0) → status ≤ out_of_memory → ExceedsNone Past → ReturnsFirst status [] (IsOkOrLimit status Past)
-returns-put zero Past low none = inr (inl (refl, none))
-returns-put (suc n) Past low none = inl (omega (arith, low))
+returns-put status Past low none = grind (arith, common_steps)
 
 -- A call returns success or out of memory.
 pub returns-low : (status : ℕ) → status ≤ out_of_memory → ReturnsFirst status [] (status ≡ ok)
-returns-low zero low = inr refl
-returns-low (suc n) low = inl (omega (arith, low))
+returns-low status low = grind (arith, common_steps)
 
 -- A call's other conditions hold where the first one is known to.
 pub without-first : (status code : ℕ) (Right : Type 0) (conditions : List (ℕ × Type 0)) (AllHold : Type 0) → Right → ReturnsFirst status ((code, Right) ∷ conditions) AllHold → ReturnsFirst status conditions AllHold
@@ -40,5 +36,4 @@ returns-more status (c ∷ cs) A B more (inr (inr rest)) = inr (inr (rest.0, ret
 
 -- The same limits, stated in another way.
 pub limit-more : (status : ℕ) (E F : Limit → Type 0) → ((limit : Limit) → E limit → F limit) → ((limit : Limit) → F limit → E limit) → IsOkOrLimit status E → IsOkOrLimit status F
-limit-more status E F more back (inl fits) = inl (fits.0, λ limit past. fits.1 limit (back limit past))
-limit-more status E F more back (inr past) = inr (past.0, past.1, more past.0 past.2)
+limit-more status E F more back h5 = grind (arith, common_steps)

@@ -1,4 +1,5 @@
 -- The row references in words.
+use Rattle.std.proofs.lemmas.Grind.{common_steps}
 use Rattle.std.proofs.Common.{◌≡◌, ℕ, zero, suc, ◌+◌, ◌<◌, All, List, [], ◌∷◌, length, map, get_or, refl, ap, ◌∙◌, arith, false, Option, Some, None}
 use Rattle.std.specs.Option.{is_some, ForSome}
 use Rattle.sel_calls.proofs.Common.{All-nil, All-cons, Bits, Covers, valid_at, rows, ArrayRef, PickFits, HasRow, pick_in, picks_from}
@@ -7,12 +8,8 @@ use Rattle.sel_calls.specs.declared.several.PickWords.{PickWords}
 
 at : (i k : ℕ) (validity : Option Bits) (words : List PickWords) (w : PickWords) (d : Option (ℕ × ℕ)) → k < length words → get_or (picks_from i validity words) k d ≡ pick_in (get_or words k w) (valid_at validity (i + k))
 at i k validity [] w d below = absurd (omega (arith, below))
-at i zero validity (first ∷ words) w d below =
-    let place : i ≡ i + 0 = omega arith in
-    ap (λ n. pick_in first (valid_at validity n)) place
-at i (suc k) validity (first ∷ words) w d below =
-    let place : (i + 1) + k ≡ i + suc k = omega arith in
-    at (i + 1) k validity words w d (omega (arith, below)) ∙ ap (λ n. pick_in (get_or words k w) (valid_at validity n)) place
+at i zero validity (first ∷ words) w d below = grind (arith)
+at i (suc k) validity (first ∷ words) w d below = grind (arith, (at (i + 1) k validity words w d (omega (arith, below))))
 
 -- The row reference at a position.
 pub picks_at : (k : ℕ) (validity : Option Bits) (words : List PickWords) (w : PickWords) (d : Option (ℕ × ℕ)) → k < length words → get_or (picks_from 0 validity words) k d ≡ pick_in (get_or words k w) (valid_at validity k)
@@ -25,8 +22,7 @@ pub covered : (validity : Option Bits) (n k : ℕ) → Covers validity n → k <
 covered validity n k covers below v is = omega (arith, covers v is, below)
 
 pub is_gone : {A : Type 0} (o : Option A) → is_some o ≡ false → o ≡ None
-is_gone None e = refl
-is_gone (Some x) e = absurd cc
+is_gone o e = grind (arith, common_steps)
 
 -- As many row references as words.
 pub picks_long : (i : ℕ) (validity : Option Bits) (words : List PickWords) → length (picks_from i validity words) ≡ length words
@@ -48,17 +44,11 @@ length_at [] s = refl
 length_at (array ∷ arrays) zero = refl
 length_at (array ∷ arrays) (suc s) = length_at arrays s
 
-has_fits : (arrays : List ArrayRef) (p : Option (ℕ × ℕ)) → HasRow (lengths arrays) p → PickFits (map (λ array. rows array.column) arrays) p
-has_fits arrays None has = tt
-has_fits arrays (Some p) has = omega (arith, has, length_at arrays p.0)
-
-fits_has : (arrays : List ArrayRef) (p : Option (ℕ × ℕ)) → PickFits (map (λ array. rows array.column) arrays) p → HasRow (lengths arrays) p
-fits_has arrays None fits = tt
-fits_has arrays (Some p) fits = omega (arith, fits, length_at arrays p.0)
-
 -- Each row reference is in bounds.
-pub rows_fit : (arrays : List ArrayRef) (ps : List (Option (ℕ × ℕ))) → All (HasRow (lengths arrays)) ps → All (PickFits (map (λ array. rows array.column) arrays)) ps
-rows_fit arrays ps all k d below = has_fits arrays (get_or ps k d) (all k d below)
+pub rows_fit : (arrays : List ArrayRef) (ps : List (Option (ℕ × ℕ))) {ls : List ℕ} → ls ≡ lengths arrays → All (HasRow ls) ps → All
+    (PickFits (map (λ array. rows array.column) arrays)) ps
+rows_fit arrays ps same all k d below = grind (arith, common_steps, length_at, all k d below)
 
-pub rows_had : (arrays : List ArrayRef) (ps : List (Option (ℕ × ℕ))) → All (PickFits (map (λ array. rows array.column) arrays)) ps → All (HasRow (lengths arrays)) ps
-rows_had arrays ps all k d below = fits_has arrays (get_or ps k d) (all k d below)
+pub rows_had : (arrays : List ArrayRef) (ps : List (Option (ℕ × ℕ))) {ls : List ℕ} → ls ≡ lengths arrays → All
+    (PickFits (map (λ array. rows array.column) arrays)) ps → All (HasRow ls) ps
+rows_had arrays ps same all k d below = grind (arith, common_steps, length_at, all k d below)

@@ -1,18 +1,12 @@
 -- Lists that represent the same numbers give the same rows.
-use Rattle.std.proofs.Common.{◌≡◌, ℕ, ℤ, Bool, List, [], ◌∷◌, length, map, Option, Result, Ok, Err, IfOk, refl, ap, sym, ◌∙◌}
+use Rattle.std.proofs.lemmas.Simd.{map-map}
+use Rattle.std.proofs.Common.{rules, ◌≡◌, ℕ, ℤ, Bool, List, length, map, Option, Result, IfOk, ap, sym, ◌∙◌}
 use Rattle.sel_calls.proofs.Common.{length-map, Bits, masked, number_rows, Covers, Value, Number, rows, ArrayRef, validity_in}
 use Rattle.sel_arrow.proofs.Rows.{length-number_rows}
-use Rattle.sel_ffi.proofs.Shown.{shows-numbers}
-use Rattle.sel_ffi.specs.Outputs.{Shows, numbers}
+use Rattle.sel_ffi.{proofs.Shown.shows-numbers, specs.Outputs.Shows, specs.Outputs.numbers}
 
 same-numbers : {A B : Type 0} → (f : A → ℤ) (g : B → ℤ) (xs : List A) (ys : List B) → map f xs ≡ map g ys → map (λ x. Number (f x)) xs ≡ map (λ y. Number (g y)) ys
-same-numbers f g [] [] same = refl
-same-numbers f g [] (y ∷ ys) same = absurd (cc same)
-same-numbers f g (x ∷ xs) [] same = absurd (cc same)
-same-numbers f g (x ∷ xs) (y ∷ ys) same =
-    let first : f x ≡ g y = cc same in
-    let rest : map f xs ≡ map g ys = cc same in
-    cc (ap Number first, same-numbers f g xs ys rest)
+same-numbers f g xs ys same = sym (map-map Number f xs) ∙ ap (map Number) same ∙ map-map Number g ys
 
 pub same-rows : {A B : Type 0} → (f : A → ℤ) (g : B → ℤ) (xs : List A) (ys : List B) (validity : Option Bits) → map f xs ≡ map g ys → number_rows f xs validity ≡ number_rows g ys validity
 same-rows f g xs ys validity same = ap (masked validity) (same-numbers f g xs ys same)
@@ -27,8 +21,7 @@ same-shown f g xs ys rows same shows = rw (sym (same-numbers f g xs ys same)) sh
 pub made-of-same : {A B E : Type 0} → (f : A → ℤ) (g : B → ℤ) (xs : List A) (ys : List B) (bytes : List ℕ) (has : Bool) (result : Result ArrayRef E) → map f xs ≡ map g ys
     → IfOk result (λ made. rows made.column ≡ number_rows f xs (validity_in bytes has (length xs)))
     → IfOk result (λ made. rows made.column ≡ number_rows g ys (validity_in bytes has (length ys)))
-made-of-same f g xs ys bytes has (Ok made) same is = is ∙ same-rows f g xs ys (validity_in bytes has (length xs)) same ∙ ap (λ n. number_rows g ys (validity_in bytes has n)) (same-length f g xs ys same)
-made-of-same f g xs ys bytes has (Err fault) same is = is
+made-of-same f g xs ys bytes has result same is = search (rules, same-rows, same-length)
 
 -- A list that represents the numbers of a column matches its rows.
 pub shown-by : {A B : Type 0} → (f : A → ℤ) (g : B → ℤ) (xs : List A) (ys : List B) (validity : Option Bits) (vs : List Value) → map f xs ≡ map g ys → number_rows f xs validity ≡ vs → Covers validity (length xs) → Shows (numbers g ys) vs

@@ -1,15 +1,15 @@
 -- Rows of a type whose list sizes are too large exceed a limit.
-use Rattle.std.proofs.Common.{◌≡◌, ℕ, ◌+◌, Bool, true, false, true≢false, ◌||◌, ◌&&◌, List, length, map, refl, arith}
+use Rattle.std.proofs.lemmas.Grind.{common_steps}
+use Rattle.std.proofs.Common.{◌≡◌, ℕ, ◌+◌, Bool, true, false, true≢false, ◌||◌, ◌&&◌, List, length, map, arith}
 use Rattle.sel_calls.proofs.Common.{flat_map, nat_tests, shape_of, shapes_of_each, widths_fit, all_widths_fit, is_few, Value, any_exceeds_limit, block_in, entries_in, exceeds_max, part_in, exceeds_limit}
 use Rattle.sel_arrow.specs.declared.datatype.ArrowDataType.{ArrowDataType, Row_of-ArrowDataType, end_of-ArrowDataType, more_of-ArrowDataType}
 use Rattle.sel_arrow.specs.declared.datatype.ArrowDataType.TheVariants.{LargeList', FixedSizeList', Struct'}
 use Rattle.sel_text.specs.declared.build.NullSlots.{NullSlots}
-use Rattle.std.proofs.lemmas.Bool.{or_left, or_right}
+use Rattle.std.proofs.lemmas.Bool.{or_right}
 
 -- One of two conditions does not hold.
 one_fails : (a b : Bool) → (a && b) ≡ false → (p q : Bool) → (a ≡ false → p ≡ true) → (b ≡ false → q ≡ true) → (p || q) ≡ true
-one_fails false b fails p q one other = or_left p q (one refl)
-one_fails true b fails p q one other = or_right p q (other fails)
+one_fails a b fails p q one other = grind (arith, common_steps)
 
 long_past : (size : ℕ) → is_few size ≡ false → exceeds_max size ≡ true
 long_past size many = grind (arith, nat_tests, many)

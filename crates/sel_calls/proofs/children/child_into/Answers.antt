@@ -1,12 +1,7 @@
-use Rattle.std.proofs.Common.{◌≡◌, ◌≤◌, ◌∙◌, ap, arith, subst, sym}
-use Rattle.sel_calls.proofs.Common.{depth, type_of, Shape, child}
-use Rattle.sel_calls.proofs.Depths.{child_depth}
+use Rattle.std.proofs.Common.{arith}
+use Rattle.sel_calls.proofs.{Depths.child_depth}
 use Rattle.sel_calls.proofs.children.child_into.Goals as goal
 
 pub put-requires : goal.put-requires
 put-requires c =
-    let column = c.args.column.now.column in
-    let same : type_of c.in-Ok.column ≡ type_of (child column) = c.in-Ok.ensures.dtype ∙ ap type_of c.in-Some.ensures.child in
-    let low = child_depth column in
-    let limit = c.requires in
-    subst (λ (s : Shape). depth s ≤ 128) (sym same) (omega (arith, low, limit))
+    rw (c.in-Ok.ensures.dtype, c.in-Some.ensures.child) (omega (arith, child_depth c.args.column.now.column, c.requires))

@@ -1,7 +1,6 @@
 use Rattle.std.proofs.Common.{◌≡◌, ◌≤◌, ◌*◌, ◌∙◌, length, ap, sym, arith}
 use Rattle.polars_compute.specs.Select.{select}
-use Rattle.sel_calls.proofs.Common.{rows, ArrayRef, Bits}
-use Rattle.sel_calls.proofs.{AllKept.all_kept, Made.returns-again, Made.returns-first}
+use Rattle.sel_calls.proofs.{Common.rows, Common.ArrayRef, Common.Bits, AllKept.all_kept, Made.returns-again, Made.returns-first}
 use Rattle.sel_calls.proofs.filters.filter_bits_into.Goals as goal
 
 pub returns-then-is_all_true : goal.returns-then-is_all_true

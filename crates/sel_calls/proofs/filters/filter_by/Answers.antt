@@ -1,6 +1,5 @@
 use Rattle.std.proofs.Common.{◌≡◌, length, ap, sym, arith}
-use Rattle.sel_calls.proofs.Common.{rows, boolean_rows, ArrayRef}
-use Rattle.sel_calls.proofs.{AllKept.all_forced, Made.returns-again, Made.returns-first}
+use Rattle.sel_calls.proofs.{Common.rows, Common.boolean_rows, Common.ArrayRef, AllKept.all_forced, Made.returns-again, Made.returns-first}
 use Rattle.sel_calls.proofs.filters.filter_by.Goals as goal
 
 pub returns-then-is_all_true : goal.returns-then-is_all_true

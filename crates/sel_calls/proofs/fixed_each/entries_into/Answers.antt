@@ -1,7 +1,5 @@
 use Rattle.std.proofs.Common.{◌≡◌, inr, length, rules}
-use Rattle.sel_calls.proofs.Common.{primitive_rows, block_column, rows}
-use Rattle.sel_calls.proofs.Entries.{get-error}
-use Rattle.sel_calls.proofs.Made.{returns-none}
+use Rattle.sel_calls.proofs.{Common.primitive_rows, Common.block_column, Common.rows, Entries.get-error, Made.returns-none}
 use Rattle.sel_calls.proofs.fixed_each.entries_into.Goals as goal
 
 pub returns-in-Err : goal.returns-in-Err

@@ -1,4 +1,4 @@
-use Rattle.std.proofs.Common.{◌<◌, ◌≤◌, All, arith, length, None, refl, subst, sym, take_all}
+use Rattle.std.proofs.Common.{◌<◌, All, arith, length, None, refl, subst, sym, take_all}
 use Rattle.sel_calls.proofs.Common.{All-more, HasRow, picks_from}
 use Rattle.sel_calls.proofs.picks.are_in_bounds.Goals as goal
 
@@ -15,15 +15,11 @@ returns-then-not-has_row c =
 
 pub loop-k-preserved : goal.loop-k-preserved
 loop-k-preserved c =
-    let p = c.args.places.now in
-    let picks = picks_from 0 p.validity.now p.words.now in
-    let inside : c.loop-k.k < length picks = omega (arith, c.loop-k-test.true, c.len-k-end.ensures.len) in
-    All-more (HasRow c.args.lengths.now) picks c.loop-k.k None inside c.loop-k.invariant
+    All-more (HasRow c.args.lengths.now) _ _ None (omega (arith, c.loop-k-test.true, c.len-k-end.ensures.len)) c.loop-k.invariant
     (subst (HasRow c.args.lengths.now) c.get.ensures (c.has_row.ensures.0 c.if-not-has_row.false))
 
 pub returns : goal.returns
 returns c =
     let p = c.args.places.now in
-    let picks = picks_from 0 p.validity.now p.words.now in
-    let all : length picks ≤ c.loop-k.k = omega (arith, c.loop-k-test.false, c.len-k-end.ensures.len) in
-    (λ yes. subst (All (HasRow c.args.lengths.now)) (take_all c.loop-k.k picks all) c.loop-k.invariant, λ every. refl)
+    let all = take_all c.loop-k.k (picks_from 0 p.validity.now p.words.now) (omega (arith, c.loop-k-test.false, c.len-k-end.ensures.len)) in
+    (λ yes. subst (All (HasRow c.args.lengths.now)) all c.loop-k.invariant, λ every. refl)

@@ -1,6 +1,5 @@
 use Rattle.std.proofs.Common.{◌≡◌, ◌∙◌, length, ap, sym, arith}
-use Rattle.sel_calls.proofs.Common.{rows, ArrayRef}
-use Rattle.sel_calls.proofs.{AllKept.all_kept, Made.returns-again, Made.returns-first}
+use Rattle.sel_calls.proofs.{Common.rows, Common.ArrayRef, AllKept.all_kept, Made.returns-again, Made.returns-first}
 use Rattle.sel_calls.proofs.selections.filter_selected_into.Goals as goal
 
 pub returns-then-selection-len : goal.returns-then-selection-len

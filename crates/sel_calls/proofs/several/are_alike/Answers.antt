@@ -1,6 +1,5 @@
 use Rattle.std.proofs.Common.{◌≡◌, ◌∙◌, All, sym, subst, refl, take_all}
-use Rattle.sel_calls.proofs.Common.{All-more, type_of, ArrayRef}
-use Rattle.sel_calls.proofs.Alike.{alike_types, first_type_is, not_alike}
+use Rattle.sel_calls.proofs.{Common.All-more, Common.type_of, Common.ArrayRef, Alike.alike_types, Alike.first_type_is, Alike.not_alike}
 use Rattle.sel_calls.proofs.several.are_alike.Goals as goal
 
 pub returns-then-not-same_dtype : goal.returns-then-not-same_dtype

@@ -1,11 +1,7 @@
 use Rattle.std.proofs.Common.{◌≡◌, ◌<◌, true, arith, ap, sym, subst, ◌∙◌, nat_lt}
-use Rattle.sel_calls.proofs.Common.{nat_tests, shape_of, exceeds_limit, depth}
-use Rattle.std.proofs.lemmas.Str.{IsUtf8-from_is_utf8}
-use Rattle.sel_text.specs.Spelling.{spelled}
-use Rattle.sel_text.specs.declared.build.NullSlots.TheVariants.{Zeros}
-use Rattle.std.proofs.lemmas.Bool.{or_left, or_right}
-use Rattle.sel_text.proofs.OneType.{one_spelled}
-use Rattle.sel_calls.proofs.WideTypes.{wide_past}
+use Rattle.std.proofs.lemmas.{Str.IsUtf8-from_is_utf8, Bool.or_left, Bool.or_right}
+use Rattle.sel_calls.proofs.{Common.nat_tests, Common.shape_of, Common.exceeds_limit, Common.depth, WideTypes.wide_past}
+use Rattle.sel_text.{specs.Spelling.spelled, specs.declared.build.NullSlots.TheVariants.Zeros, proofs.OneType.one_spelled}
 use Rattle.sel_calls.proofs.texts.read_dtype.Goals as goal
 
 pub returns-in-Err-clause-refused : goal.returns-in-Err-clause-refused

@@ -1,6 +1,5 @@
 use Rattle.std.proofs.Common.{◌<◌, ◌∙◌, ap, arith, length, None, sym}
-use Rattle.sel_calls.proofs.Common.{valid_at, pick_in}
-use Rattle.sel_calls.proofs.PickWords.{covered, picks_at, picks_long}
+use Rattle.sel_calls.proofs.{Common.valid_at, Common.pick_in, PickWords.covered, PickWords.picks_at, PickWords.picks_long}
 use Rattle.sel_calls.proofs.picks.WordPlacesPlaces.get.Goals as goal
 
 pub words_at-requires : goal.words_at-requires

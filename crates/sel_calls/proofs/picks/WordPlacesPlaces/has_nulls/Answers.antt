@@ -1,7 +1,6 @@
 use Rattle.std.proofs.Common.{◌∙◌, All, sym, subst}
 use Rattle.sel_gather.specs.Plans.{IsPicked}
-use Rattle.sel_calls.specs.Several.{picks_from}
-use Rattle.sel_calls.proofs.PickWords.{is_gone, words_picked}
+use Rattle.sel_calls.{specs.Several.picks_from, proofs.PickWords.is_gone, proofs.PickWords.words_picked}
 use Rattle.sel_calls.proofs.picks.WordPlacesPlaces.has_nulls.Goals as goal
 
 pub returns : goal.returns
