@@ -1,9 +1,7 @@
 -- Lines are made of the bytes that are read, and outputs of the bytes that are written.
-use Rattle.std.proofs.Common.{◌≡◌, ◌≢◌, ◌<◌, ℕ, zero, suc, ◌+◌, ◌-◌, true, false, List, [], ◌∷◌, ◌++◌, length, take, drop, Option, Result, Ok, arith, refl, ap, ◌∙◌}
-use Rattle.std.proofs.lemmas.List.Elements.{All-push}
-use Rattle.std.proofs.lemmas.List.{take_rest}
-use Rattle.std.proofs.Math.Seq.{take-add}
-use Rattle.std.proofs.KnownBytes.{Appends-trans}
+use Rattle.std.proofs.lemmas.Grind.{common_steps}
+use Rattle.std.proofs.Common.{◌≡◌, ◌≢◌, ◌<◌, ℕ, ◌+◌, ◌-◌, true, false, List, [], ◌∷◌, ◌++◌, length, take, drop, Option, Result, Ok, arith}
+use Rattle.std.proofs.{lemmas.List.Elements.All-push, lemmas.List.take_rest, Math.Seq.take-add, KnownBytes.Appends-trans}
 use Rattle.std.specs.Io.KnownBytes.{Appends}
 use Rattle.sel_bench.specs.Counted.{has_write_failed}
 use Rattle.sel_lines.specs.Lines.{HasNoFeed}
@@ -17,17 +15,8 @@ sent_more a b c text i n before now = rw take-add (Appends-trans a b c _ _ befor
 
 -- ---- whether a write failed
 
-took : (E : Type 0) (n : ℕ) (bytes : List ℕ) → n ≢ 0 → has_write_failed {E = E} (Ok n) bytes ≡ false
-took E zero bytes some = absurd (some refl)
-took E (suc n) bytes some = refl
-
-took_none : (E : Type 0) (n : ℕ) (bytes : List ℕ) → n ≡ 0 → 0 < length bytes → has_write_failed {E = E} (Ok n) bytes ≡ true
-took_none E zero [] none long = absurd (omega arith)
-took_none E zero (byte ∷ bytes) none long = refl
-took_none E (suc n) bytes none long = absurd (omega (arith, none))
-
 pub some_taken : {E : Type 0} (r : Result ℕ E) (n : ℕ) (bytes : List ℕ) → r ≡ Ok n → n ≢ 0 → has_write_failed r bytes ≡ false
-some_taken {E = E} r n bytes is some = ap (λ s. has_write_failed s bytes) is ∙ took E n bytes some
+some_taken r n bytes is some = grind (arith, common_steps)
 
 pub none_taken : {E : Type 0} (r : Result ℕ E) (n : ℕ) (bytes : List ℕ) → r ≡ Ok n → n ≡ 0 → 0 < length bytes → has_write_failed r bytes ≡ true
-none_taken {E = E} r n bytes is none long = ap (λ s. has_write_failed s bytes) is ∙ took_none E n bytes none long
+none_taken r n bytes is none long = grind (arith, common_steps)

@@ -1,6 +1,4 @@
-use Rattle.std.proofs.Common.{rules, ◌++◌, ◌∷◌, []}
-use Rattle.std.proofs.lemmas.Result.{err_from_is_err_and}
-use Rattle.std.proofs.KnownBytes.{Consumes-trans}
+use Rattle.std.proofs.{Common.rules, Common.◌++◌, Common.◌∷◌, Common.[], lemmas.Result.err_from_is_err_and, KnownBytes.Consumes-trans}
 use Rattle.sel_bench.proofs.Pieces.{no_feed_push}
 use Rattle.sel_bench.proofs.reading.read_line.Goals as goal
 

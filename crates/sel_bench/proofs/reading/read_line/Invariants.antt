@@ -1,5 +1,4 @@
-use Rattle.std.proofs.Common.{◌≡◌, length}
-use Rattle.std.specs.Io.KnownBytes.{Consumes}
+use Rattle.std.{proofs.Common.◌≡◌, proofs.Common.length, specs.Io.KnownBytes.Consumes}
 use Rattle.sel_bench.specs.Counted.{failures_of}
 use Rattle.sel_lines.specs.Lines.{HasNoFeed}
 use Rattle.sel_bench.proofs.reading.read_line.Given as goal

@@ -1,6 +1,5 @@
 use Rattle.std.proofs.Common.{◌≡◌, ◌-◌, ◌≤◌}
-use Rattle.sel_bench.specs.Counted.{failures_of}
-use Rattle.sel_bench.proofs.Progress.{SoFar}
+use Rattle.sel_bench.{specs.Counted.failures_of, proofs.Progress.SoFar}
 use Rattle.sel_bench.proofs.run.run.Given as goal
 
 abbrev pub invariant-lines : goal.invariant-lines

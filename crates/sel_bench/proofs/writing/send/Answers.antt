@@ -1,6 +1,5 @@
 use Rattle.std.proofs.Common.{◌<◌, ◌-◌, ℕ, arith, take, drop, length, length-take, length-drop, ap, ◌∙◌, true}
-use Rattle.sel_bench.specs.Counted.{counted_up, failures_of}
-use Rattle.sel_bench.proofs.Pieces.{sent_more, some_taken, none_taken}
+use Rattle.sel_bench.{specs.Counted.counted_up, specs.Counted.failures_of, proofs.Pieces.sent_more, proofs.Pieces.some_taken, proofs.Pieces.none_taken}
 use Rattle.sel_bench.proofs.writing.send.Goals as goal
 
 -- A write that took none of the rest.

@@ -1,5 +1,4 @@
-use Rattle.std.proofs.Common.{◌≡◌, ◌≤◌, ◌-◌, length, take}
-use Rattle.std.specs.Io.KnownBytes.{Appends}
+use Rattle.std.{proofs.Common.◌≡◌, proofs.Common.◌≤◌, proofs.Common.◌-◌, proofs.Common.length, proofs.Common.take, specs.Io.KnownBytes.Appends}
 use Rattle.sel_bench.specs.Counted.{failures_of}
 use Rattle.sel_bench.proofs.writing.send.Given as goal
 
