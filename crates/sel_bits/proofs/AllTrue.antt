@@ -1,5 +1,5 @@
 -- The number of leading true bits is the length exactly if the number of true bits is.
-use Rattle.std.proofs.Common.{◌≡◌, ◌+◌, ◌↔◌, refl, arith, List, [], ◌∷◌, length, Bool, true, false, cond}
+use Rattle.std.proofs.Common.{◌≡◌, ◌+◌, ◌↔◌, arith, List, ◌∷◌, length, Bool, true, cond}
 use Rattle.std.proofs.lemmas.List.Sums.{count_by-le-length, sum_by-cons}
 use Rattle.sel_bits.specs.Bits.{count_true, leading_ones}
 
@@ -7,14 +7,12 @@ count_cons : (b : Bool) (bs : List Bool) → count_true (b ∷ bs) ≡ cond b 1 
 count_cons b bs = sum_by-cons (λ x. cond x 1 0) b bs
 
 front_counts : (bits : List Bool) → leading_ones bits ≡ length bits → count_true bits ≡ length bits
-front_counts [] front = refl
 front_counts (true ∷ bits) front = omega (arith, count_cons true bits, front_counts bits (omega (arith, front)))
-front_counts (false ∷ bits) front = absurd (omega (arith, front))
+front_counts bits front = cc
 
 count_fronts : (bits : List Bool) → count_true bits ≡ length bits → leading_ones bits ≡ length bits
-count_fronts [] all = refl
 count_fronts (true ∷ bits) all = let rest = count_fronts bits (omega (arith, all, count_cons true bits)) in omega (arith, rest)
-count_fronts (false ∷ bits) all = absurd (omega (arith, all, count_cons false bits, count_by-le-length (λ b. b) bits))
+count_fronts bits all = grind (arith, count_by-le-length)
 
 pub all_true : (bits : List Bool) → (leading_ones bits ≡ length bits) ↔ (count_true bits ≡ length bits)
 all_true bits = (front_counts bits, count_fronts bits)

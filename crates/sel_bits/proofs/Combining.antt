@@ -1,5 +1,6 @@
 -- Functions applied bit by bit to lists and to words.
-use Rattle.std.proofs.Common.{◌≡◌, ℕ, zero, suc, ◌+◌, ◌-◌, ◌%◌, ◌^◌, ◌<◌, ◌≤◌, ◌∙◌, sym, refl, ap, subst, arith, min, max, List, [], ◌∷◌, ◌++◌, length, get_or, take, drop, map, Bool, false, cond, not, ◌&&◌, ◌||◌}
+use Rattle.std.proofs.lemmas.Grind.{common_steps}
+use Rattle.std.proofs.Common.{◌≡◌, ℕ, suc, ◌+◌, ◌-◌, ◌%◌, ◌^◌, ◌<◌, ◌≤◌, ◌∙◌, sym, refl, ap, subst, arith, min, max, List, [], ◌∷◌, ◌++◌, length, get_or, take, drop, map, Bool, false, cond, not, ◌&&◌, ◌||◌}
 use Rattle.std.specs.Prelude.{bit_and, bit_or, ◌==◌, if◌then◌else◌}
 use Rattle.std.specs.Int.{bit_at, bit_not, w64}
 use Rattle.std.proofs.Math.Seq.{take-add}
@@ -17,24 +18,18 @@ use Rattle.sel_bits.proofs.Shifts.{bit_at_mod}
 use Rattle.sel_bits.proofs.WordsOf.{length_part, is_word_of}
 
 pub length-zip_three : {A B C D : Type 0} (f : A → B → C → D) (xs : List A) (ys : List B) (zs : List C) → length xs ≡ length ys → length xs ≡ length zs → length (zip_three f xs ys zs) ≡ length xs
-length-zip_three f [] ys zs p q = refl
-length-zip_three f (x ∷ xs) [] zs p q = absurd (omega arith)
-length-zip_three f (x ∷ xs) (y ∷ ys) [] p q = absurd (omega arith)
 length-zip_three f (x ∷ xs) (y ∷ ys) (z ∷ zs) p q = omega (arith, length-zip_three f xs ys zs (omega arith) (omega arith))
+length-zip_three f xs ys zs p q = cc
 
 get_or-zip_three : {A B C D : Type 0} (f : A → B → C → D) (xs : List A) (ys : List B) (zs : List C) (i : ℕ) (a : A) (b : B) (c : C) (d : D) → length xs ≡ length ys → length xs ≡ length zs → i < length xs
     → get_or (zip_three f xs ys zs) i d ≡ f (get_or xs i a) (get_or ys i b) (get_or zs i c)
-get_or-zip_three f [] ys zs i a b c d p q lt = absurd (omega arith)
-get_or-zip_three f (x ∷ xs) [] zs i a b c d p q lt = absurd (omega arith)
-get_or-zip_three f (x ∷ xs) (y ∷ ys) [] i a b c d p q lt = absurd (omega arith)
-get_or-zip_three f (x ∷ xs) (y ∷ ys) (z ∷ zs) zero a b c d p q lt = refl
 get_or-zip_three f (x ∷ xs) (y ∷ ys) (z ∷ zs) (suc i) a b c d p q lt = get_or-zip_three f xs ys zs i a b c d (omega arith) (omega arith) (omega arith)
+get_or-zip_three f xs ys zs i a b c d p q lt = grind arith
 
 -- Three lists where f ignores the third, or all but the first.
 of_two : {A B C : Type 0} (f : A → B → C) (xs : List A) (ys : List B) → zip_three (λ x y _. f x y) xs ys ys ≡ zip_with f xs ys
-of_two f [] ys = refl
-of_two f (x ∷ xs) [] = refl
 of_two f (x ∷ xs) (y ∷ ys) = ap (λ l. f x y ∷ l) (of_two f xs ys)
+of_two f xs ys = cc
 
 of_one : {A B : Type 0} (f : A → B) (xs : List A) → zip_three (λ x _ _. f x) xs xs xs ≡ map f xs
 of_one f [] = refl
@@ -57,10 +52,8 @@ pub of_not : (xs : List Bool) → zip_three (λ x _ _. not x) xs xs xs ≡ map n
 of_not xs = of_one not xs
 
 pub of_choice : (ms ts fs : List Bool) → zip_three (λ x y z. if x then y else z) ms ts fs ≡ choose ms ts fs
-of_choice [] ts fs = refl
-of_choice (m ∷ ms) [] fs = refl
-of_choice (m ∷ ms) (t ∷ ts) [] = refl
 of_choice (m ∷ ms) (t ∷ ts) (f ∷ fs) = ap (λ l. (if m then t else f) ∷ l) (of_choice ms ts fs)
+of_choice ms ts fs = cc
 
 -- Bits of words.
 number_of_is_set : (w i : ℕ) → bit_at w i ≡ cond (is_set w i) 1 0
@@ -94,10 +87,7 @@ chosen : (m t f : Bool) → ((t && m) || (f && not m)) ≡ (if m then t else f)
 chosen m t f = grind (arith, nat_tests)
 
 pub set_choice : (m t f i : ℕ) → m < 2 ^ 64 → i < 64 → is_set (bit_or (bit_and t m) (bit_and f (bit_not w64 m))) i ≡ (if is_set m i then is_set t i else is_set f i)
-set_choice m t f i fits lt =
-    set_or (bit_and t m) (bit_and f (bit_not w64 m)) i
-    ∙ (λ j. set_and t m i j || set_and_not f m i fits lt j)
-    ∙ chosen (is_set m i) (is_set t i) (is_set f i)
+set_choice m t f i fits lt = grind (arith, set_or, set_and, set_and_not)
 
 -- Bit i of w is f of bit i of three words.
 abbrev pub IsMade : (Bool → Bool → Bool → Bool) → ℕ → ℕ → ℕ → ℕ → Type 0
@@ -127,10 +117,7 @@ masked_made f xs ys zs at len x y z w second third within few x_is y_is z_is mad
 
 -- The first bits of a list, followed by the next ones.
 pub packed_more : (l : List Bool) (at len : ℕ) → at + len ≤ length l → take at l ++ bits len (word_of (take len (drop at l))) ≡ take (at + len) l
-packed_more l at len within =
-    let part = take len (drop at l) in
-    let block : bits len (word_of part) ≡ part = ap (λ n. bits n (word_of part)) (sym (length_part at len l within)) ∙ bits_word_of part in
-    ap (λ more. take at l ++ more) block ∙ sym (take-add at len l)
+packed_more l at len within = grind (arith, common_steps, length_part, bits_word_of, take-add)
 
 -- The word of a part fits its number of bits.
 pub part_fits : (l : List Bool) (at len : ℕ) → at + len ≤ length l → word_of (take len (drop at l)) < 2 ^ len

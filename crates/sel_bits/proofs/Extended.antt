@@ -61,8 +61,4 @@ ones_word xs = ap count_ones (same xs) ∙ ones-mask_l (λ b. b) xs
 
 -- The count after one more block.
 pub ones_more : (xs : List Bool) (at len total : ℕ) → total ≡ count_true (take at xs) → total + count_ones (word_of (take len (drop at xs))) ≡ count_true (take (at + len) xs)
-ones_more xs at len total is =
-    let block = ones_word (take len (drop at xs)) in
-    let both = sum_by-append (λ b. cond b 1 0) (take at xs) (take len (drop at xs)) in
-    let whole = ap count_true (take-add at len xs) in
-    omega (arith, is, block, both, whole)
+ones_more xs at len total is = grind (arith, ones_word, sum_by-append, take-add)

@@ -1,20 +1,16 @@
 -- Offsets that break no rule.
-use Rattle.std.proofs.Common.{◌≡◌, ℕ, zero, suc, ◌+◌, ◌≤◌, ◌<◌, ℤ, pos, negsuc, Bool, true, false, ◌||◌, List, [], ◌∷◌, length, take, drop, map, None, refl, ap, sym, ◌∙◌, arith, get_or, length-take}
+use Rattle.std.proofs.lemmas.Grind.{elements}
+use Rattle.std.proofs.Common.{◌≡◌, ℕ, zero, suc, ◌+◌, ◌≤◌, ◌<◌, ℤ, pos, Bool, false, ◌||◌, List, [], ◌∷◌, length, take, drop, map, None, refl, ap, sym, ◌∙◌, arith, get_or}
 use Rattle.std.proofs.lemmas.Grind.{common_steps}
-use Rattle.std.proofs.lemmas.List.{length-map, get_or-map, take-map, drop-map, get_or-take, get_or-drop}
+use Rattle.std.proofs.lemmas.List.{length-map, get_or-map, take-map, drop-map}
 use Rattle.sel_bits.specs.Signs.{is_negative, is_below, magnitude}
 use Rattle.sel_bits.specs.Offsets.{magnitudes, has_negative, has_fall, falls_after, IsOffsets, IsRising, offsets_fault}
-use Rattle.sel_bits.specs.Faults.{first_broken}
-use Rattle.sel_bits.specs.declared.faults.Malformed.TheVariants.{OffsetNegative, OffsetOrder}
 
 not_less : (a b : ℤ) → is_negative a ≡ false → is_negative b ≡ false → is_below b a ≡ false → magnitude a ≤ magnitude b
-not_less (pos a) (pos b) p q h = grind (arith, common_steps)
-not_less (pos a) (negsuc b) p q h = cc
-not_less (negsuc a) b p q h = cc
+not_less a b p q h = grind arith
 
 or_parts : (a b : Bool) → (a || b) ≡ false → (a ≡ false) × (b ≡ false)
-or_parts true b h = cc
-or_parts false b h = (refl, h)
+or_parts a b h = grind arith
 
 neg_parts : {T : Type 0} (number : T → ℤ) → (x : T) (xs : List T) → has_negative number (x ∷ xs) ≡ false → (is_negative (number x) ≡ false) × (has_negative number xs ≡ false)
 neg_parts number x xs h = or_parts (is_negative (number x)) (has_negative number xs) h
@@ -23,19 +19,13 @@ fall_parts : {T : Type 0} (number : T → ℤ) → (x y : T) (xs : List T) → h
 fall_parts number x y xs h = or_parts (is_below (number y) (number x)) (falls_after number y xs) h
 
 shown : (z : ℤ) → is_negative z ≡ false → z ≡ pos (magnitude z)
-shown (pos n) h = refl
-shown (negsuc n) h = cc
+shown z h = grind arith
 
 pub positive : {T : Type 0} (number : T → ℤ) → (xs : List T) → has_negative number xs ≡ false → map number xs ≡ map pos (magnitudes number xs)
 positive number [] h = refl
-positive number (x ∷ xs) h =
-    cc (shown (number x) (neg_parts number x xs h).0, positive number xs (neg_parts number x xs h).1)
+positive number (x ∷ xs) h = grind (arith, (positive number xs (neg_parts number x xs h).1))
 
 climbs : {T : Type 0} (number : T → ℤ) → (xs : List T) → has_negative number xs ≡ false → has_fall number xs ≡ false → (j k : ℕ) → j ≤ k → k < length xs → get_or (magnitudes number xs) j 0 ≤ get_or (magnitudes number xs) k 0
-climbs number [] neg fall j k le h = omega arith
-climbs number (x ∷ xs) neg fall zero zero le h = omega arith
-climbs number (x ∷ xs) neg fall (suc j) zero le h = omega arith
-climbs number (x ∷ []) neg fall j (suc k) le h = omega arith
 climbs number (x ∷ (y ∷ ys)) neg fall zero (suc k) le h =
     let here = neg_parts number x (y ∷ ys) neg in
     let falls = fall_parts number x y ys fall in
@@ -43,23 +33,12 @@ climbs number (x ∷ (y ∷ ys)) neg fall zero (suc k) le h =
     let rest : magnitude (number y) ≤ get_or (magnitudes number (y ∷ ys)) k 0 = climbs number (y ∷ ys) here.1 falls.1 0 k (omega arith) (omega arith) in
     omega arith
 climbs number (x ∷ (y ∷ ys)) neg fall (suc j) (suc k) le h =
-    climbs number (y ∷ ys) (neg_parts number x (y ∷ ys) neg).1 (fall_parts number x y ys fall).1 j k (omega arith) (omega arith)
+    grind (arith, (climbs number (y ∷ ys) (neg_parts number x (y ∷ ys) neg).1 (fall_parts number x y ys fall).1 j k (omega arith) (omega arith)))
+climbs number xs neg fall j k le h = grind arith
 
 -- Numbers that break no rule are offsets.
 pub accepted : {T : Type 0} (number : T → ℤ) → (xs : List T) → offsets_fault number xs ≡ None → IsOffsets number xs
-accepted number [] h = cc
-accepted number (x ∷ xs) h = made (has_negative number (x ∷ xs)) (has_fall number (x ∷ xs)) refl refl h
-  where
-    made : (n f : Bool) → has_negative number (x ∷ xs) ≡ n → has_fall number (x ∷ xs) ≡ f → first_broken ((OffsetNegative, n) ∷ (OffsetOrder, f) ∷ []) ≡ None → IsOffsets number (x ∷ xs)
-    made true f neg fall h = cc
-    made false true neg fall h = cc
-    made false false neg fall h = record {
-      positive = positive number (x ∷ xs) neg;
-      rising = record {
-        some = omega arith;
-        rising = λ j k le h. climbs number (x ∷ xs) neg fall j k le (rw length-map at h);
-      };
-    }
+accepted number xs h = grind (arith, common_steps, positive, climbs)
 
 pub accepted-numbers : {T : Type 0} (number : T → ℤ) → (xs : List T) → offsets_fault number xs ≡ None → map number xs ≡ map pos (magnitudes number xs)
 accepted-numbers number xs h = (accepted number xs h).positive
@@ -76,13 +55,7 @@ shown_at number xs ns i x e h is =
 
 -- A part of a non-decreasing list is non-decreasing.
 pub rising_part : (ns : List ℕ) (off len : ℕ) → IsRising ns → off + len < length ns → IsRising (take (len + 1) (drop off ns))
-rising_part ns off len rises h = record {
-  some = grind (arith, common_steps);
-  rising = λ j k le below.
-      let short : length (take (len + 1) (drop off ns)) ≤ len + 1 = omega (arith, length-take (len + 1) (drop off ns)) in
-      rw (get_or-take (len + 1) (drop off ns) j 0 (omega arith), get_or-take (len + 1) (drop off ns) k 0 (omega arith), get_or-drop, get_or-drop)
-      (rises.rising (off + j) (off + k) (omega arith) (omega arith));
-}
+rising_part ns off len rises h = grind (arith, elements)
 
 -- The numbers of a part of the values are a part of the numbers.
 pub part_shown : {T : Type 0} (number : T → ℤ) → (xs : List T) (off len : ℕ) → magnitudes number (take len (drop off xs)) ≡ take len (drop off (magnitudes number xs))

@@ -1,13 +1,13 @@
 -- Words and bytes that are made of booleans.
-use Rattle.std.proofs.Common.{◌≡◌, ℕ, ◌+◌, ◌*◌, ◌/◌, ◌%◌, ◌^◌, ◌<◌, ◌≤◌, ◌∙◌, sym, refl, ap, arith, List, [], ◌∷◌, ◌++◌, length, get_or, take, drop, replicate, Bool, true, false, cond, append_assoc}
+use Rattle.std.proofs.lemmas.Grind.{common_steps}
+use Rattle.std.proofs.Common.{◌≡◌, ℕ, ◌+◌, ◌*◌, ◌%◌, ◌^◌, ◌<◌, ◌≤◌, ◌∙◌, refl, ap, arith, List, [], ◌∷◌, ◌++◌, length, get_or, take, drop, replicate, Bool, true, false, cond, append_assoc}
 use Rattle.std.specs.Prelude.{◌==◌, not, count_by, if◌then◌else◌}
 use Rattle.std.specs.Int.{from_bool}
 use Rattle.std.proofs.Math.Nat.{pow-suc}
 use Rattle.std.proofs.lemmas.Bool.Decides.{nat_tests}
 use lib.Pow.{pow_mono}
-use Rattle.std.proofs.lemmas.Nat.{shl_whole}
 use Rattle.std.proofs.lemmas.Nat.Bits.{bit_at_ones, bit_at-zero}
-use Rattle.std.proofs.lemmas.List.{get_or_default, same_lists, take_more, length-take, length-replicate, get_or-replicate, take-append-drop}
+use Rattle.std.proofs.lemmas.List.{get_or_default, same_lists, length-take, length-replicate, get_or-replicate, take-append-drop}
 use Rattle.std.proofs.lemmas.List.Sums.{sum_by-cons}
 use Rattle.sel_bits.specs.Words.{is_set, bits, word_of}
 use Rattle.sel_bits.specs.Bits.{bits_from}
@@ -24,42 +24,25 @@ is_set_word_of l i = ap (λ b. b == 1) (bit_at_word_of l i) ∙ test_of_cond (ge
 
 -- The bits of the word of a list are the list.
 pub bits_word_of : (l : List Bool) → bits (length l) (word_of l) ≡ l
-bits_word_of l =
-    same_lists (bits (length l) (word_of l)) l (length_bits (length l) (word_of l))
-    (λ i d lt.
-    let low : i < length l = omega (arith, length_bits (length l) (word_of l), lt) in
-    get_bits (length l) (word_of l) i d low ∙ is_set_word_of l i ∙ get_or_default l i false d low)
+bits_word_of l = grind (arith, same_lists, length_bits, get_bits, is_set_word_of, get_or_default)
 
 -- One more boolean as the highest bit.
 pub word_of-push : (l : List Bool) (b : Bool) → word_of (l ++ b ∷ []) ≡ word_of l + from_bool b * 2 ^ length l
-word_of-push [] true = refl
-word_of-push [] false = refl
 word_of-push (a ∷ l) true = omega (arith, word_of-push l true, pow-suc 2 (length l))
 word_of-push (a ∷ l) false = omega (arith, word_of-push l false, pow-suc 2 (length l))
+word_of-push l b = grind arith
 
 from_bool_lt : (b : Bool) → from_bool b < 2 ^ 1
-from_bool_lt true = omega arith
-from_bool_lt false = omega arith
+from_bool_lt b = grind arith
 
 -- The next boolean of a list, shifted to its position in the word.
 pub word_of-next : (l : List Bool) (i word bit : ℕ) → i < length l → length l ≤ 64 → word ≡ word_of (take i l) → bit ≡ from_bool (get_or l i false)
     → word + bit * 2 ^ i % 2 ^ 64 ≡ word_of (take (i + 1) l)
-word_of-next l i word bit inside short is bit-is =
-    let long : length (take i l) ≡ i = omega (arith, length-take i l) in
-    let small : bit < 2 ^ 1 = rw bit-is (from_bool_lt (get_or l i false)) in
-    let grown : word_of (take (i + 1) l) ≡ word_of (take i l) + from_bool (get_or l i false) * 2 ^ length (take i l) = ap word_of (take_more l i false inside) ∙ word_of-push (take i l) (get_or l i false) in
-    shl_sum ∙ sym (grown ∙ ap (λ n. word_of (take i l) + from_bool (get_or l i false) * 2 ^ n) long ∙ ap (λ n. n + from_bool (get_or l i false) * 2 ^ i) (sym is) ∙ ap (λ n. word + n * 2 ^ i) (sym bit-is))
-  where
-    shl_sum : word + bit * 2 ^ i % 2 ^ 64 ≡ word + bit * 2 ^ i
-    shl_sum = ap (λ n. word + n) (shl_whole bit 1 i 64 (rw bit-is (from_bool_lt (get_or l i false))) (omega arith))
+word_of-next l i word bit inside short is bit-is = grind (arith, common_steps, word_of-push)
 
 -- The word of a prefix of at most 64 booleans.
 pub word_of-few : (l : List Bool) (i : ℕ) → i ≤ length l → length l ≤ 64 → word_of (take i l) < 2 ^ 64
-word_of-few l i inside short =
-    let long : length (take i l) ≡ i = omega (arith, length-take i l) in
-    let fits = word_of_lt (take i l) in
-    let up : 2 ^ i ≤ 2 ^ 64 = pow_mono {j = 64} (omega arith) in
-    omega (arith, ap (λ n. 2 ^ n) long, fits, up)
+word_of-few l i inside short = grind (arith, length-take, word_of_lt, pow_mono)
 
 -- A byte of eight equal bits.
 byte_bit : (value : Bool) (j : ℕ) → j < 8 → is_set (if value then 255 else 0) j ≡ value
@@ -68,16 +51,7 @@ byte_bit false j lt = ap (λ x. x == 1) (bit_at-zero j)
 
 -- Bytes of equal bits.
 pub equal_bits : (value : Bool) (k n : ℕ) → n ≤ 8 * k → bits_from (replicate k (if value then 255 else 0)) 0 n ≡ replicate n value
-equal_bits value k n enough =
-    let bytes : List ℕ = replicate k (if value then 255 else 0) in
-    same_lists (bits_from bytes 0 n) (replicate n value) (length_bits_from bytes 0 n ∙ sym (length-replicate n value))
-    (λ i d lt.
-    let low : i < n = omega (arith, length_bits_from bytes 0 n, lt) in
-    let inside : (0 + i) / 8 < k = omega arith in
-    get_bits_from bytes 0 n i d low
-    ∙ ap (λ w. is_set w ((0 + i) % 8)) (get_or-replicate k ((0 + i) / 8) (if value then 255 else 0) 0 inside)
-    ∙ byte_bit value ((0 + i) % 8) (omega arith)
-    ∙ sym (get_or-replicate n i value d low))
+equal_bits value k n enough = grind (arith, same_lists, length_bits_from, length-replicate, get_bits_from, get_or-replicate, byte_bit)
 
 -- Each entry is true or false.
 pub counts : (bs : List Bool) → count_by (λ b. b) bs + count_by not bs ≡ length bs
@@ -87,5 +61,4 @@ counts (false ∷ bs) = omega (arith, counts bs, sum_by-cons (λ b. cond b 1 0) 
 
 -- One more block of a list.
 pub block_packed : (packed block rest values : List Bool) (n : ℕ) → packed ++ rest ≡ values → block ≡ take n rest → (packed ++ block) ++ drop n rest ≡ values
-block_packed packed block rest values n before is =
-    append_assoc packed block (drop n rest) ∙ ap (λ l. packed ++ (l ++ drop n rest)) is ∙ ap (λ l. packed ++ l) (take-append-drop n rest) ∙ before
+block_packed packed block rest values n before is = grind (arith, append_assoc, take-append-drop)

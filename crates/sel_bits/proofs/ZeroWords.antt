@@ -1,5 +1,5 @@
 -- Consecutive words without a set bit.
-use Rattle.std.proofs.Common.{◌≡◌, ℕ, ◌+◌, ◌*◌, ◌≤◌, ◌∙◌, sym, refl, ap, arith, List, [], ◌∷◌, ◌++◌, length, take, drop, replicate, Bool, true, false}
+use Rattle.std.proofs.Common.{◌≡◌, ℕ, ◌+◌, ◌*◌, ◌≤◌, ◌∙◌, sym, ap, arith, List, ◌∷◌, ◌++◌, length, take, drop, replicate, Bool, false}
 use Rattle.std.proofs.lemmas.List.{replicate-append-replicate, drop-drop}
 use Rattle.std.proofs.Math.Seq.{take-add}
 use Rattle.sel_bits.specs.Words.{word_of}
@@ -13,9 +13,8 @@ next_part reading at count word here counts is = is ∙ (λ i. word_of (take (sy
 
 -- If the word of a list has no set bit, each entry is false.
 none_true : (l : List Bool) → word_of l ≡ 0 → l ≡ replicate (length l) false
-none_true [] zero = refl
-none_true (true ∷ l) zero = absurd (omega (arith, zero))
 none_true (false ∷ l) zero = ap (λ t. false ∷ t) (none_true l (omega (arith, zero)))
+none_true l b0 = grind arith
 
 pub word_more : (l : List Bool) (at words : ℕ) → at + 64 * words + 64 ≤ length l → take (64 * words) (drop at l) ≡ replicate (64 * words) false
     → word_of (take 64 (drop (at + 64 * words) l)) ≡ 0 → take (64 * (words + 1)) (drop at l) ≡ replicate (64 * (words + 1)) false

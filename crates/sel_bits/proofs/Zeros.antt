@@ -22,15 +22,13 @@ leading_found [] z low here = cc
 leading_found (true ∷ l) zero low here = refl
 leading_found (true ∷ l) (suc z) low here = let first : true ≡ false = low 0 (omega arith) (omega arith) in cc
 leading_found (false ∷ l) zero low here = cc
-leading_found (false ∷ l) (suc z) low here =
-    let rest : leading_zeros l ≡ z = leading_found l z (λ i le lt. low (suc i) (omega arith) (omega arith)) here in omega arith
+leading_found (false ∷ l) (suc z) low here = grind (arith, (leading_found l z (λ i le lt. low (suc i) (omega arith) (omega arith)) here))
 
 -- Only false entries.
 pub leading_all : (l : List Bool) → AreFalse l 0 (length l) → leading_zeros l ≡ length l
 leading_all [] low = refl
 leading_all (true ∷ l) low = let first : true ≡ false = low 0 (omega arith) (omega arith) in cc
-leading_all (false ∷ l) low =
-    let rest : leading_zeros l ≡ length l = leading_all l (λ i le lt. low (suc i) (omega arith) (omega arith)) in omega arith
+leading_all (false ∷ l) low = grind (arith, (leading_all l (λ i le lt. low (suc i) (omega arith) (omega arith))))
 
 -- The same from an entry on.
 leading_after : (l : List Bool) (start z : ℕ) → start ≤ z → AreFalse l start z → get_or l z false ≡ true → leading_zeros (drop start l) ≡ z - start
@@ -40,13 +38,11 @@ leading_after l start z after low here =
     (get_or-drop start l (z - start) false ∙ ap (λ j. get_or l j false) place ∙ here)
 
 pub leading_rest : (l : List Bool) (start : ℕ) → start ≤ length l → AreFalse l start (length l) → leading_zeros (drop start l) ≡ length l - start
-leading_rest l start within low =
-    leading_all (drop start l) (λ i le lt. get_or-drop start l i false ∙ low (start + i) (omega arith) (omega (arith, length-drop start l))) ∙ length-drop start l
+leading_rest l start within low = grind (arith, leading_all, get_or-drop, length-drop)
 
 pub leading_le : (l : List Bool) → leading_zeros l ≤ length l
-leading_le [] = omega arith
-leading_le (true ∷ l) = omega arith
 leading_le (false ∷ l) = omega (arith, leading_le l)
+leading_le l = omega arith
 
 -- The same at the other end.
 pub trailing_found : (l : List Bool) (kept : ℕ) → kept < length l → get_or l kept false ≡ true → AreFalse l (kept + 1) (length l) → trailing_zeros l ≡ length l - (kept + 1)
@@ -56,17 +52,14 @@ trailing_found l kept lt here high =
     get_or-reverse l (length l - (kept + 1)) false (omega arith) ∙ ap (λ j. get_or l j false) place ∙ here)
 
 pub trailing_all : (l : List Bool) → AreFalse l 0 (length l) → trailing_zeros l ≡ length l
-trailing_all l low =
-    leading_all (reverse l) (λ i le lt. let under : i < length l = omega (arith, length-reverse l) in get_or-reverse l i false under ∙ low (length l - 1 - i) (omega arith) (omega arith)) ∙ length-reverse l
+trailing_all l low = grind (arith, leading_all, length-reverse, get_or-reverse)
 
 -- A boolean from its number.
 is_false : (b : Bool) → ◌≡◌ {A = ℕ} (cond b 1 0) 0 → b ≡ false
-is_false true h = absurd (omega arith)
-is_false false h = refl
+is_false b h = grind arith
 
 is_true : (b : Bool) → ◌≡◌ {A = ℕ} (cond b 1 0) 1 → b ≡ true
-is_true true h = refl
-is_true false h = absurd (omega arith)
+is_true b h = grind arith
 
 -- From its highest set bit on, a word has only that bit.
 from_top : (word h : ℕ) → 2 ^ h ≤ word → word < 2 * 2 ^ h → (i : ℕ) → h ≤ i → bit_at word i ≡ bit_at 1 (i - h)
