@@ -15,10 +15,7 @@ next c =
     ∙ ap (λ n. count_true (take n (bits_from c.args.bytes.now c.args.shift c.args.len))) e
 
 pub overflow_add-count : goal.overflow_add-count
-overflow_add-count c =
-    let xs = bits_from c.args.bytes.now c.args.shift c.args.len in
-    let part = take (64 * (c.loop-block.block + 1)) xs in
-    record { fits = omega (arith, next c, count_by-le-length (λ b. b) part, length-take (64 * (c.loop-block.block + 1)) xs, length_bits_from c.args.bytes.now c.args.shift c.args.len) }
+overflow_add-count c = grind (arith, next, count_by-le-length, length-take)
 
 pub loop-block-preserved : goal.loop-block-preserved
 loop-block-preserved c = next c
@@ -32,8 +29,7 @@ last c =
     ∙ ap (λ l. count_true l) (take_all (64 * c.loop-block.block + c.args.len % 64) xs (omega (arith, length_bits_from c.args.bytes.now c.args.shift c.args.len)))
 
 pub overflow_add-result : goal.overflow_add-result
-overflow_add-result c =
-    record { fits = omega (arith, last c, count_by-le-length (λ b. b) (bits_from c.args.bytes.now c.args.shift c.args.len), length_bits_from c.args.bytes.now c.args.shift c.args.len) }
+overflow_add-result c = grind (arith, last, count_by-le-length, length_bits_from)
 
 pub returns : goal.returns
 returns c = last c

@@ -1,10 +1,11 @@
-use Rattle.std.proofs.Common.{◌≡◌, ◌+◌, ◌-◌, ◌<◌, ◌∙◌, sym, ap, length, map, not, take, drop, arith, subst}
+use Rattle.std.proofs.lemmas.Grind.{common_steps}
+use Rattle.std.proofs.Common.{◌≡◌, ◌+◌, ◌-◌, ◌<◌, ◌∙◌, sym, ap, length, map, not, take, drop, arith}
 use Rattle.std.specs.Int.{w64, trailing_zeros as lowest_place}
 use Rattle.std.proofs.lemmas.List.{length-map, drop-map}
 use Rattle.sel_bits.specs.Bits.{leading_zeros, leading_ones}
 use Rattle.sel_bits.specs.Words.{word_of}
 use Rattle.sel_bits.proofs.Combining.{of_not}
-use Rattle.sel_bits.proofs.Zeros.{AreFalse, lowest_set, none_set, false_joined, leading_rest}
+use Rattle.sel_bits.proofs.Zeros.{lowest_set, none_set, leading_rest}
 use Rattle.sel_bits.proofs.bitmap.Bitmap.ones_from.Goals as goal
 
 found : (c : goal.Then-word-ne0)
@@ -26,21 +27,7 @@ pub returns-then-word-ne0-clause-within : goal.returns-then-word-ne0-clause-with
 returns-then-word-ne0-clause-within c = omega (arith, found c)
 
 pub loop-at-preserved : goal.loop-at-preserved
-loop-at-preserved c =
-    let bits = c.args.self.now.bits in
-    let is = c.word_by-word.ensures ∙ ap (λ l. word_of (take c.min-len.result (drop c.loop-at.at l))) (of_not bits) in
-    record {
-      after = omega arith;
-      within = omega arith;
-      ones = false_joined (map not bits) c.args.start c.loop-at.at (c.loop-at.at + c.min-len.result) c.loop-at.invariant.ones
-          (none_set (map not bits) c.loop-at.at c.min-len.result c.word_by-word.result is (omega (arith, length-map bits not)) (omega arith));
-    }
+loop-at-preserved c = grind (arith, of_not, none_set, length-map)
 
 pub returns-clause-count : goal.returns-clause-count
-returns-clause-count c =
-    let bits = c.args.self.now.bits in
-    let end : c.loop-at.at ≡ length bits = omega arith in
-    let there : length bits ≡ length (map not bits) = omega (arith, length-map bits not) in
-    rw end (sym (ap leading_zeros (sym (drop-map not c.args.start bits))
-    ∙ leading_rest (map not bits) c.args.start (omega (arith, length-map bits not)) (subst (AreFalse (map not bits) c.args.start) (end ∙ there) c.loop-at.invariant.ones)
-    ∙ ap (λ n. n - c.args.start) (sym there)))
+returns-clause-count c = grind (arith, common_steps, drop-map, leading_rest)

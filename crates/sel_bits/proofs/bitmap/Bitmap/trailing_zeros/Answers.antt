@@ -1,6 +1,6 @@
-use Rattle.std.proofs.Common.{◌≡◌, ◌+◌, ◌-◌, ◌<◌, ◌∙◌, sym, length, arith, subst}
+use Rattle.std.proofs.Common.{◌≡◌, ◌+◌, ◌-◌, ◌<◌, length, arith, subst}
 use Rattle.sel_bits.specs.Bits.{trailing_zeros}
-use Rattle.sel_bits.proofs.Zeros.{AreFalse, highest_set, none_set, false_joined, trailing_all}
+use Rattle.sel_bits.proofs.Zeros.{AreFalse, highest_set, none_set, trailing_all}
 use Rattle.sel_bits.proofs.bitmap.Bitmap.trailing_zeros.Goals as goal
 
 found : (c : goal.After-ilog2)
@@ -19,19 +19,7 @@ pub returns-then-word-ne0-clause-count : goal.returns-then-word-ne0-clause-count
 returns-then-word-ne0-clause-count c = omega (arith, found c)
 
 pub loop-end-preserved : goal.loop-end-preserved
-loop-end-preserved c =
-    let bits = c.args.self.now.bits in
-    let from = c.loop-end.end - c.min-len.result in
-    let end : from + c.min-len.result ≡ c.loop-end.end = omega arith in
-    let here : AreFalse bits from (from + c.min-len.result) =
-    none_set bits from c.min-len.result c.word_at-word.result c.word_at-word.ensures (omega arith) (omega arith) in
-    record {
-      within = omega arith;
-      zeros = false_joined bits from c.loop-end.end (length bits) (subst (AreFalse bits from) end here) c.loop-end.invariant.zeros;
-    }
+loop-end-preserved c = grind (arith, none_set)
 
 pub returns-clause-count : goal.returns-clause-count
-returns-clause-count c =
-    let bits = c.args.self.now.bits in
-    let end : c.loop-end.end ≡ 0 = omega arith in
-    c.len-2.ensures ∙ sym (trailing_all bits (subst (λ e. AreFalse bits e (length bits)) end c.loop-end.invariant.zeros))
+returns-clause-count c = grind (arith, trailing_all)

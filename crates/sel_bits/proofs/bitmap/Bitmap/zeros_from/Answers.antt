@@ -1,7 +1,7 @@
-use Rattle.std.proofs.Common.{◌≡◌, ◌+◌, ◌-◌, ◌<◌, sym, length, drop, arith, subst}
+use Rattle.std.proofs.Common.{◌≡◌, ◌+◌, ◌-◌, ◌<◌, sym, length, drop, arith}
 use Rattle.std.specs.Int.{w64, trailing_zeros as lowest_place}
 use Rattle.sel_bits.specs.Bits.{leading_zeros}
-use Rattle.sel_bits.proofs.Zeros.{AreFalse, lowest_set, none_set, false_joined, leading_rest}
+use Rattle.sel_bits.proofs.Zeros.{lowest_set, none_set, leading_rest}
 use Rattle.sel_bits.proofs.bitmap.Bitmap.zeros_from.Goals as goal
 
 found : (c : goal.Then-word-ne0)
@@ -20,15 +20,7 @@ pub returns-then-word-ne0-clause-within : goal.returns-then-word-ne0-clause-with
 returns-then-word-ne0-clause-within c = omega (arith, found c)
 
 pub loop-at-preserved : goal.loop-at-preserved
-loop-at-preserved c = record {
-  after = omega arith;
-  within = omega arith;
-  zeros = false_joined c.args.self.now.bits c.args.start c.loop-at.at (c.loop-at.at + c.min-len.result) c.loop-at.invariant.zeros
-      (none_set c.args.self.now.bits c.loop-at.at c.min-len.result c.word_at-word.result c.word_at-word.ensures (omega arith) (omega arith));
-}
+loop-at-preserved c = grind (arith, none_set)
 
 pub returns-clause-count : goal.returns-clause-count
-returns-clause-count c =
-    let bits = c.args.self.now.bits in
-    let end : c.loop-at.at ≡ length bits = omega arith in
-    rw end (sym (leading_rest bits c.args.start (omega arith) (subst (AreFalse bits c.args.start) end c.loop-at.invariant.zeros)))
+returns-clause-count c = grind (arith, leading_rest)
