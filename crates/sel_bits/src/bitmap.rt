@@ -198,6 +198,7 @@ impl Bitmap {
 
     /// Returns the word of the `len` bits from bit `at` on, with zeros above them.
     #[inline]
+    #[tactic(auto, using(std::proofs::lemmas::Grind::common_steps, crate::proofs::BitLists::length_bits_from, crate::proofs::Loads::read_word))]
     pub(crate) fn word_at(&self, at: usize, len: usize) -> u64
         requires within { at + len ≤ length self.now.bits }
         requires few { len ≤ 64 }
@@ -361,6 +362,7 @@ impl Bitmap {
     /// # Requires
     /// `start` is at most the length.
     #[inline]
+    #[tactic(auto, using(crate::proofs::Zeros::none_set, crate::proofs::Zeros::leading_rest))]
     pub fn zeros_from(&self, start: usize) -> usize
         requires { start ≤ length self.now.bits }
         ensures count { result ≡ leading_zeros (drop start self.now.bits) }
@@ -383,6 +385,7 @@ impl Bitmap {
     /// # Requires
     /// `start` is at most the length.
     #[inline]
+    #[tactic(auto, using(std::proofs::lemmas::Grind::common_steps, crate::proofs::Combining::of_not, crate::proofs::Zeros::none_set))]
     pub fn ones_from(&self, start: usize) -> usize
         requires { start ≤ length self.now.bits }
         ensures count { result ≡ leading_ones (drop start self.now.bits) }
@@ -401,6 +404,7 @@ impl Bitmap {
     }
 
     /// Returns the number of false bits after the last true bit.
+    #[tactic(auto, using(crate::proofs::Zeros::none_set, crate::proofs::Zeros::trailing_all))]
     fn trailing_zeros(&self) -> usize
         ensures count { result ≡ trailing_zeros self.now.bits }
         ensures within { result ≤ length self.now.bits }
@@ -440,7 +444,7 @@ impl Bitmap {
     ///
     /// # Errors
     /// `OutOfMemory` if the bytes cannot be shared once more.
-    #[tactic(auto, using(crate::proofs::BitLists::length_bits_from, crate::proofs::BitLists::bits_from_bytes))]
+    #[tactic(auto, using(std::proofs::lemmas::Grind::common_steps, crate::proofs::BitLists::length_bits_from, crate::proofs::BitLists::bits_from_bytes))]
     pub fn to_buffer(&self) -> PolarsResult<Buffer<u8>>
         ensures bits { IfOk result (λ bytes. self.now.bits ≡
             bits_from bytes (self.now.offset % 8) (length self.now.bits)) }

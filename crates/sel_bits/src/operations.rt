@@ -194,7 +194,7 @@ impl BitRule for Choose {
 }
 
 /// Returns the function applied to the bits of three bitmaps, or `OutOfMemory`.
-#[tactic(auto, using(crate::proofs::Combining::pieces))]
+#[tactic(auto, using(std::proofs::lemmas::Grind::common_steps, crate::proofs::Combining::pieces))]
 fn combine<R: BitRule>(alloc: Global, x: &Bitmap, y: &Bitmap, z: &Bitmap) -> PolarsResult<Bitmap>
     requires second { length x.now.bits ≡ length y.now.bits }
     requires third { length x.now.bits ≡ length z.now.bits }

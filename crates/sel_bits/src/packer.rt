@@ -149,7 +149,7 @@ impl BitPacker {
     /// # Errors
     /// `OutOfMemory` if an allocation fails; the earlier bits are kept, and some of the new bits
     /// may have been appended.
-    #[tactic(auto, using(crate::proofs::Extended::copies_more, crate::proofs::Padded::word_of_lt))]
+    #[tactic(auto, using(std::proofs::lemmas::Grind::common_steps, crate::proofs::Extended::copies_more, crate::proofs::Padded::word_of_lt))]
     pub fn extend_constant(&mut self, len: usize, value: bool) -> PolarsResult<()>
         ensures extended { OnOk result (self.new ≡ self.old ++ replicate len value) }
         ensures len { OnOk result (length self.new ≡ length self.old + len) }

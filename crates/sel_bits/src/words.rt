@@ -62,6 +62,7 @@ fn load_eight(bytes: &[u8], at: usize) -> u64
 /// # Requires
 /// `shift` is less than 8, and `len` is at most 64.
 #[inline]
+#[tactic(auto, using(std::proofs::lemmas::Grind::common_steps, crate::proofs::Loads::low_word))]
 pub fn first_word(bytes: &[u8], shift: usize, len: usize) -> u64
     requires shift { shift < 8 }
     requires len { len ≤ 64 }
@@ -77,6 +78,7 @@ pub fn first_word(bytes: &[u8], shift: usize, len: usize) -> u64
 
 /// Returns the `len` lowest bits of a word, with zeros above them.
 #[inline(always)]
+#[tactic(auto, using(std::proofs::lemmas::Grind::common_steps, std::proofs::lemmas::Nat::one_shl, std::proofs::lemmas::Nat::and_mask))]
 pub(crate) fn low_bits(word: u64, len: usize) -> u64
     requires { len ≤ 64 }
     ensures { result ≡ word % 2 ^ len }

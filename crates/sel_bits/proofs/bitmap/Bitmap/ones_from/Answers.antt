@@ -26,8 +26,5 @@ returns-then-word-ne0-clause-count c = sym (found c).1
 pub returns-then-word-ne0-clause-within : goal.returns-then-word-ne0-clause-within
 returns-then-word-ne0-clause-within c = omega (arith, found c)
 
-pub loop-at-preserved : goal.loop-at-preserved
-loop-at-preserved c = grind (arith, of_not, none_set, length-map)
-
 pub returns-clause-count : goal.returns-clause-count
 returns-clause-count c = grind (arith, common_steps, drop-map, leading_rest)

@@ -17,9 +17,3 @@ overflow_sub-result-then-word-ne0-2 c = omega (arith, found c)
 
 pub returns-then-word-ne0-clause-count : goal.returns-then-word-ne0-clause-count
 returns-then-word-ne0-clause-count c = omega (arith, found c)
-
-pub loop-end-preserved : goal.loop-end-preserved
-loop-end-preserved c = grind (arith, none_set)
-
-pub returns-clause-count : goal.returns-clause-count
-returns-clause-count c = grind (arith, trailing_all)

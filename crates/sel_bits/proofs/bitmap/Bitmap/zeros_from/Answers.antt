@@ -18,9 +18,3 @@ returns-then-word-ne0-clause-count c = sym (found c).1
 
 pub returns-then-word-ne0-clause-within : goal.returns-then-word-ne0-clause-within
 returns-then-word-ne0-clause-within c = omega (arith, found c)
-
-pub loop-at-preserved : goal.loop-at-preserved
-loop-at-preserved c = grind (arith, none_set)
-
-pub returns-clause-count : goal.returns-clause-count
-returns-clause-count c = grind (arith, leading_rest)
