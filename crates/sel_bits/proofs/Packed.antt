@@ -32,9 +32,6 @@ word_of-push (a ∷ l) true = omega (arith, word_of-push l true, pow-suc 2 (leng
 word_of-push (a ∷ l) false = omega (arith, word_of-push l false, pow-suc 2 (length l))
 word_of-push l b = grind arith
 
-from_bool_lt : (b : Bool) → from_bool b < 2 ^ 1
-from_bool_lt b = grind arith
-
 -- The next boolean of a list, shifted to its position in the word.
 pub word_of-next : (l : List Bool) (i word bit : ℕ) → i < length l → length l ≤ 64 → word ≡ word_of (take i l) → bit ≡ from_bool (get_or l i false)
     → word + bit * 2 ^ i % 2 ^ 64 ≡ word_of (take (i + 1) l)

@@ -3,13 +3,7 @@ use Rattle.std.proofs.Common.{◌≡◌, ℕ, ◌+◌, ◌*◌, ◌≤◌, ◌�
 use Rattle.std.proofs.lemmas.List.{replicate-append-replicate, drop-drop}
 use Rattle.std.proofs.Math.Seq.{take-add}
 use Rattle.sel_bits.specs.Words.{word_of}
-use Rattle.sel_bits.specs.Reading.{WordReading, reached, next_count, next_bits}
 use Rattle.sel_bits.proofs.WordsOf.{length_part}
-
--- The next word of a reader, given its position and the number of its bits.
-pub next_part : (reading : WordReading) (at count word : ℕ) → reached reading ≡ at → next_count reading ≡ count → word ≡ word_of (take count (drop at reading.source.bits))
-    → word ≡ word_of (next_bits reading)
-next_part reading at count word here counts is = is ∙ (λ i. word_of (take (sym counts i) (drop (sym here i) reading.source.bits)))
 
 -- If the word of a list has no set bit, each entry is false.
 none_true : (l : List Bool) → word_of l ≡ 0 → l ≡ replicate (length l) false

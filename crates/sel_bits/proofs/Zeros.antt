@@ -13,9 +13,6 @@ use Rattle.sel_bits.proofs.Padded.{bit_at_word_of}
 abbrev pub AreFalse : List Bool → ℕ → ℕ → Type 0
 AreFalse l from end = (i : ℕ) → from ≤ i → i < end → get_or l i false ≡ false
 
-pub false_joined : (l : List Bool) (from middle end : ℕ) → AreFalse l from middle → AreFalse l middle end → AreFalse l from end
-false_joined l from middle end low high i le lt = ⊎_elim (λ (before : i < middle). low i le before) (λ (after : middle ≤ i). high i after lt) (cases_lt i middle)
-
 -- False entries before a true one.
 pub leading_found : (l : List Bool) (z : ℕ) → AreFalse l 0 z → get_or l z false ≡ true → leading_zeros l ≡ z
 leading_found [] z low here = cc

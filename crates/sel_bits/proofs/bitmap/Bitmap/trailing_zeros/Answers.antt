@@ -1,6 +1,6 @@
 use Rattle.std.proofs.Common.{◌≡◌, ◌+◌, ◌-◌, ◌<◌, length, arith, subst}
 use Rattle.sel_bits.specs.Bits.{trailing_zeros}
-use Rattle.sel_bits.proofs.Zeros.{AreFalse, highest_set, none_set, trailing_all}
+use Rattle.sel_bits.proofs.Zeros.{AreFalse, highest_set}
 use Rattle.sel_bits.proofs.bitmap.Bitmap.trailing_zeros.Goals as goal
 
 found : (c : goal.After-ilog2)

@@ -1,7 +1,7 @@
 use Rattle.std.proofs.Common.{◌≡◌, ◌+◌, ◌-◌, ◌<◌, sym, length, drop, arith}
 use Rattle.std.specs.Int.{w64, trailing_zeros as lowest_place}
 use Rattle.sel_bits.specs.Bits.{leading_zeros}
-use Rattle.sel_bits.proofs.Zeros.{lowest_set, none_set, leading_rest}
+use Rattle.sel_bits.proofs.Zeros.{lowest_set}
 use Rattle.sel_bits.proofs.bitmap.Bitmap.zeros_from.Goals as goal
 
 found : (c : goal.Then-word-ne0)
