@@ -1,5 +1,5 @@
 -- Views into one data buffer to which bytes are appended.
-use Rattle.std.proofs.Common.{◌≡◌, ℕ, zero, suc, ◌+◌, ◌-◌, ◌≤◌, Bool, true, false, ◌&&◌, cond, List, [], ◌∷◌, ◌++◌, length, drop, map, get_or, arith, refl, ap, sym, subst, ◌∙◌, length-append, length-drop, leb, ltb, ◌==◌, leb-true, le-leb, ltb-true, eq-eqb}
+use Rattle.std.proofs.Common.{◌≡◌, ℕ, ◌+◌, ◌≤◌, Bool, true, false, ◌&&◌, cond, List, [], ◌∷◌, ◌++◌, length, map, get_or, arith, refl, ap, sym, subst, ◌∙◌, length-append, length-drop, leb, ltb, ◌==◌}
 use Rattle.sel_arrow.proofs.Common.{slice_range, map-append, take_all, take-append-le, drop-append-le, list_all-append, Bytes}
 use Rattle.std.proofs.Math.Seq.{drop-append_seam}
 use Rattle.sel_arrow.specs.Views.{all_placed, inline_bytes, is_inline, is_placed, view_of, view_value, word_at}
@@ -20,36 +20,18 @@ near_value old new v e = rw e refl
 near_placed : (bs : List (List ℕ)) (v : View) → is_inline v ≡ true → is_placed bs v ≡ true
 near_placed bs v e = rw e refl
 
-far_value : (bs : List (List ℕ)) (v : View) → is_inline v ≡ false → view_value bs v ≡ Bytes (slice_range (get_or bs v.buffer_idx []) v.offset (v.offset + v.length))
-far_value bs v e = rw e refl
-
 far_placed : (bs : List (List ℕ)) (v : View) → is_inline v ≡ false → is_placed bs v ≡ ((ltb v.buffer_idx (length bs) && fits (get_or bs v.buffer_idx []) v) && starts (get_or bs v.buffer_idx []) v)
 far_placed bs v e = rw e refl
 
 range_grown : (store more : List ℕ) (a n : ℕ) → a + n ≤ length store → slice_range (store ++ more) a (a + n) ≡ slice_range store a (a + n)
-range_grown store more a n inside =
-    let behind : n ≤ length (drop a store) = rw length-drop (omega arith) in
-    let wide : a + n - a ≡ n = omega arith in
-    rw (wide, drop-append-le a store more (omega arith)) (take-append-le n (drop a store) more behind)
+range_grown store more a n inside = grind (arith, length-drop, drop-append-le, take-append-le)
 
 abbrev Kept : List ℕ → List ℕ → View → Type 0
 Kept store more v = (is_placed ((store ++ more) ∷ []) v ≡ true) × (view_value ((store ++ more) ∷ []) v ≡ view_value (store ∷ []) v)
 
 far_kept : (store more : List ℕ) (v : View) (i : ℕ) → v.buffer_idx ≡ i → is_inline v ≡ false
     → ((ltb i 1 && fits (get_or (store ∷ []) i []) v) && starts (get_or (store ∷ []) i []) v) ≡ true → Kept store more v
-far_kept store more v zero at e placed =
-    let fit : fits store v ≡ true = and_first (fits store v) (starts store v) placed in
-    let start : starts store v ≡ true = and_second (fits store v) (starts store v) placed in
-    let inside : v.offset + v.length ≤ length store = leb-true _ _ fit in
-    let same = range_grown store more v.offset v.length inside in
-    let wider : fits (store ++ more) v ≡ true = le-leb _ _ (omega (arith, inside, length-append store more)) in
-    let first : starts (store ++ more) v ≡ true = ap (λ bytes. v.prefix == word_at bytes 0) same ∙ start in (
-      far_placed ((store ++ more) ∷ []) v e ∙ ap (λ j. (ltb j 1 && fits (get_or ((store ++ more) ∷ []) j []) v) && starts (get_or ((store ++ more) ∷ []) j []) v) at ∙ both (fits (store ++ more) v) (starts (store ++ more) v) wider first,
-      far_value ((store ++ more) ∷ []) v e ∙ ap (λ j. Bytes (slice_range (get_or ((store ++ more) ∷ []) j []) v.offset (v.offset + v.length))) at ∙ ap Bytes same
-          ∙ sym (far_value (store ∷ []) v e ∙ ap (λ j. Bytes (slice_range (get_or (store ∷ []) j []) v.offset (v.offset + v.length))) at),
-    )
-far_kept store more v (suc i) at e placed =
-    absurd (let inside = ltb-true (suc i) 1 (and_first (ltb (suc i) 1) (fits [] v) (and_first (ltb (suc i) 1 && fits [] v) (starts [] v) placed)) in omega (arith, inside))
+far_kept store more v i at e placed = grind (arith, range_grown, length-append)
 
 kept : (store more : List ℕ) (v : View) → is_placed (store ∷ []) v ≡ true → Kept store more v
 kept store more v placed = decided (is_inline v) refl
@@ -77,9 +59,7 @@ abbrev near_view : List ℕ → View
 near_view text = record { length = length text; prefix = word_at text 0; buffer_idx = word_at text 4; offset = word_at text 8 }
 
 range_behind : (store text : List ℕ) → slice_range (store ++ text) (length store) (length store + length text) ≡ text
-range_behind store text =
-    let wide : length store + length text - length store ≡ length text = omega arith in
-    rw (wide, drop-append_seam store text) (take_all (length text) text (omega arith))
+range_behind store text = grind (arith, drop-append_seam, take_all)
 
 -- A well-formed view with the bytes `text`.
 abbrev pub Named : List ℕ → View → List ℕ → Type 0
@@ -87,18 +67,10 @@ Named store v text = (is_placed (store ∷ []) v ≡ true) × (view_value (store
 
 -- A view of at most 12 bytes, with any data buffer.
 pub near_new : (store text : List ℕ) (v : View) (at : ℕ) → v ≡ view_of text 0 at → leb (length text) 12 ≡ true → inline_bytes v ≡ text → Named store v text
-near_new store text v at is few near =
-    let long : v.length ≡ length text = ap (λ (w : View). w.length) (is ∙ ap (λ b. cond b (near_view text) (far_view at text)) few) in
-    let inline : is_inline v ≡ true = ap (λ n. leb n 12) long ∙ few in
-    (near_placed (store ∷ []) v inline, ap (λ b. Bytes (cond b (inline_bytes v) (slice_range (get_or (store ∷ []) v.buffer_idx []) v.offset (v.offset + v.length)))) inline ∙ ap Bytes near)
+near_new store text v at is few near = grind arith
 
 far_named : (store text : List ℕ) → is_inline (far_view (length store) text) ≡ false → Named (store ++ text) (far_view (length store) text) text
-far_named store text e =
-    let v = far_view (length store) text in
-    let same = range_behind store text in
-    let fit : fits (store ++ text) v ≡ true = le-leb _ _ (omega (arith, length-append store text)) in
-    let start : starts (store ++ text) v ≡ true = ap (λ bytes. word_at text 0 == word_at bytes 0) same ∙ eq-eqb (word_at text 0) (word_at text 0) refl in
-    (far_placed ((store ++ text) ∷ []) v e ∙ both (fits (store ++ text) v) (starts (store ++ text) v) fit start, far_value ((store ++ text) ∷ []) v e ∙ ap Bytes same)
+far_named store text e = grind (arith, range_behind, length-append)
 
 -- A view of more than 12 bytes, which are appended to the data buffer.
 pub far_new : (store text : List ℕ) (v : View) → v ≡ view_of text 0 (length store) → leb (length text) 12 ≡ false → Named (store ++ text) v text

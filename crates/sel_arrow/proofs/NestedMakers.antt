@@ -1,9 +1,9 @@
 -- Columns with children, from parts that break no rule, and with a replaced validity.
-use Rattle.std.proofs.Common.{◌≡◌, ◌≢◌, ℕ, Bool, true, false, ◌==◌, List, length, get_or, map, Option, None, is_some, All, Vec, Box, Global, refl, ap, sym, subst, ◌∙◌, arith}
+use Rattle.std.proofs.Common.{◌≡◌, ◌≢◌, ℕ, Bool, true, false, ◌==◌, List, length, map, Option, None, is_some, All, Vec, Box, Global, refl, ap, sym, subst, ◌∙◌, arith}
 use Rattle.sel_arrow.proofs.Common.{list_all, nat_tests, Bits, IsRising, list_fault, block_fault, struct_length_fault, Covers, IsValidityOf, rows, row_count, type_of, well_formed, IsField, IsWellFormed, Column, LargeList, FixedSizeList, Struct}
 use Rattle.sel_arrow.proofs.Lists.{all_at}
 use Rattle.sel_arrow.proofs.NestedFaults.{list_test, block_test, tuple_fit}
-use Rattle.sel_arrow.proofs.NestedRows.{length-rows, length-list_rows, length-block_rows, length-tuple_rows, has_lists, lists_formed, has_blocks, blocks_formed, list_tells, block_tells, struct_tells}
+use Rattle.sel_arrow.proofs.NestedRows.{length-rows, length-list_rows, length-block_rows, length-tuple_rows, has_blocks, blocks_formed, list_tells, block_tells, struct_tells}
 use Rattle.sel_arrow.proofs.Trees.{rows-Struct, struct_test, has_fields, fields_make}
 
 -- ---- parts that break no rule
@@ -17,10 +17,7 @@ pub blocks_make : (size len : ℕ) (values : Box Column Global) (validity : Opti
 blocks_make size len values validity n formed count sound = sym (block_test size len values.value validity n true formed count (ap is_some sound))
 
 counted : (len : ℕ) (cs : List Column) → list_all (λ c. row_count c == len) cs ≡ true → All IsWellFormed cs → All (IsField len) cs
-counted len cs same formed = λ k d lt.
-    let here = all_at (λ c. row_count c == len) cs k d same lt in
-    let count : row_count (get_or cs k d) ≡ len = grind (arith, nat_tests, here) in
-    (count, formed k d lt)
+counted len cs same formed = grind (arith, all_at)
 
 pub tuples_make : (len : ℕ) (fields : Vec Column Global) (validity : Option Bits) (fit : Bool) → fit ≡ list_all (λ c. row_count c == len) fields.items → All IsWellFormed fields.items → struct_length_fault len fit validity ≡ None →
     well_formed (Struct len fields validity) ≡ true
@@ -31,10 +28,7 @@ tuples_make len fields validity fit is formed sound =
 -- ---- a replaced validity
 
 pub lists_under : (offsets : List ℕ) (values : Box Column Global) (old new : Option Bits) → well_formed (LargeList offsets values old) ≡ true → Covers new (length (rows (LargeList offsets values old))) → well_formed (LargeList offsets values new) ≡ true
-lists_under offsets values old new formed covers =
-    let has = has_lists offsets values.value old formed in
-    let covered = subst (Covers new) (length-list_rows offsets (rows values.value) old) covers in
-    lists_formed offsets values.value new (record { rising = has.rising; few = has.few; ends = has.ends; covered = covered; child = has.child })
+lists_under offsets values old new formed covers = grind (arith, length-list_rows)
 
 pub blocks_under : (size len : ℕ) (values : Box Column Global) (old new : Option Bits) → well_formed (FixedSizeList size len values old) ≡ true → Covers new (length (rows (FixedSizeList size len values old))) →
     well_formed (FixedSizeList size len values new) ≡ true
@@ -70,10 +64,7 @@ pub count_fits : (len n : ℕ) (c : Column) → n ≡ length (rows c) → n ≡ 
 count_fits len n c count same = let is : row_count c ≡ len = sym (length-rows c) ∙ sym count ∙ same in grind (arith, nat_tests, is)
 
 pub count_differs : (len n : ℕ) (c : Column) → n ≡ length (rows c) → n ≢ len → (row_count c == len) ≡ false
-count_differs len n c count differs = apart (row_count c) len (λ same. differs (count ∙ length-rows c ∙ same))
-  where
-    apart : (m n : ℕ) → m ≢ n → (m == n) ≡ false
-    apart m n h = grind (arith, nat_tests, h)
+count_differs len n c count differs = grind (arith, length-rows)
 
 pub ruleset nested_makers = (length-list_rows, length-block_rows, lists_under, blocks_under, tuples_under, lists_tell, blocks_tell, tuples_tell, tuples_count, rows-Struct)
 

@@ -1,6 +1,7 @@
 -- Slices and copies of columns with children.
+use Rattle.std.proofs.lemmas.Grind.{common_steps}
 use Rattle.std.proofs.Common.{◌≡◌, ℕ, ◌+◌, ◌-◌, ◌*◌, ◌≤◌, ◌<◌, true, List, [], ◌∷◌, ◌++◌, length, take, drop, map, get_or, Option, All, Vec, Box, Global, refl, ap, sym, subst, ◌∙◌, arith, suc, suc-mul, add-mul}
-use Rattle.sel_arrow.proofs.Common.{flat_map, range_with_len, slice_range, ForSome, option_map, length-map, map_more, map_push, get_or-take, get_or-drop, take-take, drop-drop, drop-take, All-weaker, max_rows, Bits, masked, part_of, Covers, list_of, list_rows, blocks, block_rows, struct_at, struct_rows, pieces, rows_between, rows, row_count, buffers_held, type_of, well_formed, IsField, IsWellFormed, of_struct, shapes_of, Value, Null, Tuple, values_of, Column, LargeList, FixedSizeList, Struct}
+use Rattle.sel_arrow.proofs.Common.{flat_map, range_with_len, slice_range, ForSome, option_map, length-map, map_more, map_push, get_or-take, get_or-drop, take-take, drop-drop, drop-take, All-weaker, Bits, masked, part_of, Covers, list_of, list_rows, blocks, block_rows, struct_at, struct_rows, rows_between, rows, row_count, buffers_held, type_of, well_formed, IsField, IsWellFormed, of_struct, shapes_of, Value, Null, Tuple, values_of, Column, LargeList, FixedSizeList, Struct}
 use Rattle.std.proofs.lemmas.List.FromFn.{length-map-range_with_len, get_or-map-range_with_len, fill_by_all}
 use Rattle.std.proofs.lemmas.Nat.{mul-le}
 use Rattle.sel_arrow.proofs.ByteRows.{part-pieces, part_rising, part_few, part_last, part_covered}
@@ -44,9 +45,7 @@ part-blocks w n off len xs h =
 -- ---- rows of a part
 
 pub part-list_rows : (offsets : List ℕ) (child : List Value) (validity : Option Bits) (off len : ℕ) → list_rows (take (len + 1) (drop off offsets)) child (option_map (part_of off len) validity) ≡ take len (drop off (list_rows offsets child validity))
-part-list_rows offsets child validity off len =
-    ap (λ parts. masked (option_map (part_of off len) validity) (map list_of parts)) (part-pieces offsets child off len)
-    ∙ part-mapped list_of (pieces offsets child) validity off len
+part-list_rows offsets child validity off len = simp (part-pieces, part-mapped)
 
 pub part-block_rows : (w n : ℕ) (child : List Value) (validity : Option Bits) (off len : ℕ) → off + len ≤ n →
     block_rows w len (take (len * w) (drop (off * w) child)) (option_map (part_of off len) validity) ≡ take len (drop off (block_rows w n child validity))
@@ -60,9 +59,7 @@ tuple_of_parts fields off len i lt = ap (λ values. Tuple (values_of values)) (e
   where
     each : (fields : List (List Value)) → map (λ field. get_or field i Null) (map (λ field. take len (drop off field)) fields) ≡ map (λ field. get_or field (off + i) Null) fields
     each [] = refl
-    each (field ∷ fields) =
-        let here : get_or (take len (drop off field)) i Null ≡ get_or field (off + i) Null = get_or-take len (drop off field) i Null lt ∙ get_or-drop off field i Null in
-        ap (λ v. v ∷ map (λ field. get_or field i Null) (map (λ field. take len (drop off field)) fields)) here ∙ ap (λ rest. get_or field (off + i) Null ∷ rest) (each fields)
+    each (field ∷ fields) = simp (get_or-take, get_or-drop, (each fields))
 
 pub part-tuple_rows : (n : ℕ) (fields : List (List Value)) (validity : Option Bits) (off len : ℕ) → off + len ≤ n →
     struct_rows len (map (λ field. take len (drop off field)) fields) (option_map (part_of off len) validity) ≡ take len (drop off (struct_rows n fields validity))
@@ -106,11 +103,7 @@ lists_part offsets new values child validity seen off len formed inside is same 
 
 pub lists_part_rows : (offsets new : List ℕ) (values child : Box Column Global) (validity seen : Option Bits) (off len : ℕ) → new ≡ take (len + 1) (drop off offsets) → rows child.value ≡ rows values.value →
     seen ≡ option_map (part_of off len) validity → rows (LargeList new child seen) ≡ take len (drop off (rows (LargeList offsets values validity)))
-lists_part_rows offsets new values child validity seen off len is same part =
-    ap (λ ns. list_rows ns (rows child.value) seen) is
-    ∙ ap (λ vs. list_rows (take (len + 1) (drop off offsets)) vs seen) same
-    ∙ ap (list_rows (take (len + 1) (drop off offsets)) (rows values.value)) part
-    ∙ part-list_rows offsets (rows values.value) validity off len
+lists_part_rows offsets new values child validity seen off len is same part = grind (arith, part-list_rows)
 
 pub lists_copied : (offsets new : List ℕ) (values child : Box Column Global) (validity seen : Option Bits) → well_formed (LargeList offsets values validity) ≡ true → new ≡ offsets → rows child.value ≡ rows values.value →
     well_formed child.value ≡ true → seen ≡ validity → well_formed (LargeList new child seen) ≡ true
@@ -121,8 +114,7 @@ lists_copied offsets new values child validity seen formed is same below copy =
 
 pub lists_copied_rows : (offsets new : List ℕ) (values child : Box Column Global) (validity seen : Option Bits) → new ≡ offsets → rows child.value ≡ rows values.value → seen ≡ validity →
     rows (LargeList new child seen) ≡ rows (LargeList offsets values validity)
-lists_copied_rows offsets new values child validity seen is same copy =
-    ap (λ os. list_rows os (rows child.value) seen) is ∙ ap (λ vs. list_rows offsets vs seen) same ∙ ap (list_rows offsets (rows values.value)) copy
+lists_copied_rows offsets new values child validity seen is same copy = cc
 
 -- ---- slices and copies of fixed-size list columns
 
@@ -136,9 +128,7 @@ blocks_within size n values validity off len formed inside =
     omega (arith, count, add-mul off len size, mul-le (off + len) size n size inside (omega arith))
 
 pub blocks_fit : (size n : ℕ) (values : Box Column Global) (validity : Option Bits) (k : ℕ) → well_formed (FixedSizeList size n values validity) ≡ true → k ≤ n → k * size < 18446744073709551616
-blocks_fit size n values validity k formed le =
-    let has = has_blocks size n values.value validity formed in
-    omega (arith, mul-le k size max_rows max_rows (omega (arith, has.few)) has.narrow)
+blocks_fit size n values validity k formed le = grind (arith, has_blocks)
 
 pub blocks_cover : (size n : ℕ) (values : Box Column Global) (validity : Option Bits) (off len : ℕ) → well_formed (FixedSizeList size n values validity) ≡ true → off + len ≤ n → ForSome validity (λ v. off + len ≤ length v.bits)
 blocks_cover size n values validity off len formed inside = part_within validity n off len (has_blocks size n values.value validity formed).covered inside
@@ -155,10 +145,7 @@ blocks_part size n values child validity seen off len formed inside part below i
 
 pub blocks_part_rows : (size n : ℕ) (values child : Box Column Global) (validity seen : Option Bits) (off len : ℕ) → off + len ≤ n → rows child.value ≡ take (len * size) (drop (off * size) (rows values.value)) →
     seen ≡ option_map (part_of off len) validity → rows (FixedSizeList size len child seen) ≡ take len (drop off (rows (FixedSizeList size n values validity)))
-blocks_part_rows size n values child validity seen off len inside part is =
-    ap (λ vs. block_rows size len vs seen) part
-    ∙ ap (block_rows size len (take (len * size) (drop (off * size) (rows values.value)))) is
-    ∙ part-block_rows size n (rows values.value) validity off len inside
+blocks_part_rows size n values child validity seen off len inside part is = grind (arith, part-block_rows)
 
 pub blocks_copied : (size n : ℕ) (values child : Box Column Global) (validity seen : Option Bits) → well_formed (FixedSizeList size n values validity) ≡ true → rows child.value ≡ rows values.value →
     well_formed child.value ≡ true → seen ≡ validity → well_formed (FixedSizeList size n child seen) ≡ true
@@ -173,30 +160,21 @@ blocks_copied_rows size n values child validity seen same copy = ap (λ vs. bloc
 -- ---- slices and copies of struct columns
 
 pub tuples_inside : (n : ℕ) (fields : Vec Column Global) (validity : Option Bits) (off len : ℕ) → off + len ≤ length (rows (Struct n fields validity)) → off + len ≤ n
-tuples_inside n fields validity off len inside =
-    omega (arith, inside, ap length (rows-Struct n fields validity), length-tuple_rows n (map rows fields.items) validity)
+tuples_inside n fields validity off len inside = grind (arith, length-tuple_rows)
 
 pub fields_within : (n : ℕ) (fields : Vec Column Global) (validity : Option Bits) (off len : ℕ) → well_formed (Struct n fields validity) ≡ true → off + len ≤ n → All (λ column. IsWellFormed column × (off + len ≤ length (rows column))) fields.items
-fields_within n fields validity off len formed inside =
-    All-weaker (IsField n) (λ column. IsWellFormed column × (off + len ≤ length (rows column))) (λ column field. (field.1, omega (arith, length-rows column, field.0, inside))) fields.items (has_fields n fields validity formed).fields
+fields_within n fields validity off len formed inside = grind (arith, length-rows, has_fields)
 
 pub fields_cover : (n : ℕ) (fields : Vec Column Global) (validity : Option Bits) (off len : ℕ) → well_formed (Struct n fields validity) ≡ true → off + len ≤ n → ForSome validity (λ v. off + len ≤ length v.bits)
 fields_cover n fields validity off len formed inside = part_within validity n off len (has_fields n fields validity formed).covered inside
 
 pub tuples_part : (n : ℕ) (fields parts : Vec Column Global) (validity seen : Option Bits) (off len : ℕ) → well_formed (Struct n fields validity) ≡ true → off + len ≤ n → All (IsField len) parts.items → seen ≡ option_map (part_of off len) validity →
     well_formed (Struct len parts seen) ≡ true
-tuples_part n fields parts validity seen off len formed inside all is =
-    let has = has_fields n fields validity formed in
-    fields_make len parts seen (record { few = omega (arith, has.few); covered = subst (λ v. Covers v len) (sym is) (part_covers validity n off len has.covered inside); fields = all })
+tuples_part n fields parts validity seen off len formed inside all is = grind (arith, common_steps, fields_make)
 
 pub tuples_part_rows : (n : ℕ) (fields parts : Vec Column Global) (validity seen : Option Bits) (off len : ℕ) → off + len ≤ n → map rows parts.items ≡ map (part_rows off len) fields.items → seen ≡ option_map (part_of off len) validity →
     rows (Struct len parts seen) ≡ take len (drop off (rows (Struct n fields validity)))
-tuples_part_rows n fields parts validity seen off len inside part is =
-    rows-Struct len parts seen
-    ∙ ap (λ fs. struct_rows len fs seen) (part ∙ twice fields.items)
-    ∙ ap (struct_rows len (map (λ vs. take len (drop off vs)) (map rows fields.items))) is
-    ∙ part-tuple_rows n (map rows fields.items) validity off len inside
-    ∙ ap (λ vs. take len (drop off vs)) (sym (rows-Struct n fields validity))
+tuples_part_rows n fields parts validity seen off len inside part is = grind (arith, rows-Struct, twice, part-tuple_rows)
   where
     twice : (cs : List Column) → map (part_rows off len) cs ≡ map (λ vs. take len (drop off vs)) (map rows cs)
     twice [] = refl
@@ -225,17 +203,12 @@ tuples_copied n fields copies validity seen formed same below copy =
     (record { few = has.few; covered = subst (λ v. Covers v n) (sym copy) has.covered; fields = fields_copied n fields.items copies.items same below has.fields })
 
 pub tuples_copied_rows : (n : ℕ) (fields copies : Vec Column Global) (validity seen : Option Bits) → map rows copies.items ≡ map rows fields.items → seen ≡ validity → rows (Struct n copies seen) ≡ rows (Struct n fields validity)
-tuples_copied_rows n fields copies validity seen same copy =
-    rows-Struct n copies seen ∙ ap (λ fs. struct_rows n fs seen) same ∙ ap (struct_rows n (map rows fields.items)) copy ∙ sym (rows-Struct n fields validity)
+tuples_copied_rows n fields copies validity seen same copy = grind (arith, rows-Struct)
 
 -- ---- field by field
 
 pub mapped_more : {A B C : Type 0} (f : A → C) (g : B → C) (cs : List B) (ds more : List A) (i : ℕ) (c : B) (d : A) → i < length cs → c ≡ get_or cs i c → more ≡ ds ++ d ∷ [] → f d ≡ g c → map f ds ≡ map g (take i cs) → map f more ≡ map g (take (i + 1) cs)
-mapped_more f g cs ds more i c d lt is pushed here before =
-    ap (map f) pushed ∙ map_push f ds d
-    ∙ ap (λ l. l ++ f d ∷ []) before
-    ∙ ap (λ x. map g (take i cs) ++ x ∷ []) (here ∙ ap g is)
-    ∙ sym (map_more g cs i c lt)
+mapped_more f g cs ds more i c d lt is pushed here before = grind (arith, map_push, map_more)
 
 pub part_is_field : (off len : ℕ) (column part : Column) → rows part ≡ part_rows off len column → off + len ≤ length (rows column) → well_formed part ≡ true → IsField len part
 part_is_field off len column part is inside formed = (sym (length-rows part) ∙ ap length is ∙ length-part (rows column) off len inside, formed)

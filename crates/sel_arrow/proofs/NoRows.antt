@@ -2,17 +2,14 @@
 use Rattle.std.proofs.Common.{◌≡◌, ℕ, pos, ◌≤◌, ◌*◌, true, ◌&&◌, ◌==◌, List, [], ◌∷◌, map, length, None, Vec, Global, refl, ap, sym, ◌∙◌, arith}
 use Rattle.sel_arrow.proofs.Common.{All, list_all, max_rows, IsOffsets, IsRising, widths_fit, covers, is_few, rows, row_count, well_formed, IsField, Column, Struct as StructColumn}
 use Rattle.sel_arrow.specs.declared.datatype.ArrowDataType.{ArrowDataType, Struct}
-use Rattle.sel_arrow.proofs.NestedRows.{length-rows, blocks_formed}
+use Rattle.sel_arrow.proofs.NestedRows.{length-rows}
 use Rattle.sel_arrow.proofs.Trees.{fields_make}
-use Rattle.sel_arrow.proofs.Types.{columns_in, type_of-Struct, widths_fit_struct}
+use Rattle.sel_arrow.proofs.Types.{type_of-Struct, widths_fit_struct}
 
 -- ---- the only offset of a column without rows
 
 rising_alone : (n : ℕ) → IsRising (n ∷ [])
-rising_alone n = record {
-  some = omega arith;
-  rising = λ j k le below. let first : j ≡ 0 = omega arith in let last : k ≡ 0 = omega arith in rw (first, last) (omega arith);
-}
+rising_alone n = grind arith
 
 -- A single offset is well-formed.
 pub one_offset : IsOffsets (λ x. x) (pos 0 ∷ [])
@@ -37,9 +34,7 @@ none_counted column none = sym (length-rows column) ∙ ap length none
 -- No fixed-size lists, over a child without rows.
 pub blocks_of_none : (size : ℕ) (values : Column) → size ≤ max_rows → well_formed values ≡ true → rows values ≡ [] →
     (is_few 0 && is_few size && (row_count values == 0 * size) && covers None 0 && well_formed values) ≡ true
-blocks_of_none size values narrow formed none =
-    blocks_formed size 0 values None
-    (record { few = omega arith; narrow = narrow; fills = omega (arith, none_counted values none); covered = λ v there. cc; child = formed })
+blocks_of_none size values narrow formed none = grind (arith, none_counted)
 
 -- A column without rows can be a field of a struct column without rows.
 pub field_of_none : (column : Column) → rows column ≡ [] → well_formed column ≡ true → IsField 0 column

@@ -1,14 +1,12 @@
 -- The number of null rows, from the validity.
-use Rattle.std.proofs.Common.{◌≡◌, ◌≢◌, ℕ, zero, suc, ◌+◌, true, false, List, [], ◌∷◌, length, Option, Some, None, replicate, refl, ap, sym, ◌∙◌, arith, subst, cond, count_by, not}
+use Rattle.std.proofs.Common.{◌≡◌, ◌≢◌, ℕ, zero, suc, true, false, List, [], ◌∷◌, length, Option, Some, None, replicate, refl, ap, ◌∙◌, arith, cond, count_by, not}
 use Rattle.std.proofs.lemmas.List.Sums.{sum_by-cons}
-use Rattle.sel_arrow.proofs.Common.{Bits, Value, is_valid, is_null, validities, Shape, of_null, IsValidityOf}
+use Rattle.sel_arrow.proofs.Common.{Bits, Value, is_null, validities, Shape, of_null, IsValidityOf}
 
 -- The number of null rows is the number of false entries of their validity.
 nulls_of : (vs : List Value) → count_by is_null vs ≡ count_by not (validities vs)
 nulls_of [] = refl
-nulls_of (v ∷ vs) =
-    sum_by-cons (λ w. cond (is_null w) 1 0) v vs ∙ ap (λ n. cond (is_null v) 1 0 + n) (nulls_of vs)
-    ∙ sym (sum_by-cons (λ b. cond (not b) 1 0) (is_valid v) (validities vs))
+nulls_of (v ∷ vs) = simp (sum_by-cons, (nulls_of vs))
 
 all_true : (n : ℕ) → count_by not (replicate n true) ≡ 0
 all_true zero = refl
@@ -20,9 +18,7 @@ all_false (suc n) = sum_by-cons (λ b. cond (not b) 1 0) false (replicate n fals
 
 -- In a null column every row is null.
 pub nulls_all : (s : Shape) (validity : Option Bits) (vs : List Value) → IsValidityOf s validity vs → s ≡ of_null → count_by is_null vs ≡ length vs
-nulls_all s validity vs tells is =
-    let facts = subst (λ t. IsValidityOf t validity vs) is tells in
-    nulls_of vs ∙ ap (count_by not) facts.1 ∙ all_false (length vs)
+nulls_all s validity vs tells is = grind (arith, nulls_of, all_false)
 
 -- In any other column without a validity no row is null.
 pub nulls_none : (s : Shape) (vs : List Value) → IsValidityOf s None vs → s ≢ of_null → count_by is_null vs ≡ 0

@@ -6,52 +6,37 @@ use Rattle.sel_arrow.proofs.Common.{ForSome, option_map, length-map, get_or-map,
 -- ---- values under a list of booleans
 
 length-hidden : (bs : List Bool) (vs : List Value) → length (hidden bs vs) ≡ length vs
-length-hidden [] vs = refl
-length-hidden (b ∷ bs) [] = refl
 length-hidden (b ∷ bs) (v ∷ vs) = ap suc (length-hidden bs vs)
+length-hidden bs vs = cc
 
 take-hidden : (n : ℕ) (bs : List Bool) (vs : List Value) → take n (hidden bs vs) ≡ hidden (take n bs) (take n vs)
-take-hidden zero bs vs = refl
-take-hidden (suc n) [] vs = refl
-take-hidden (suc n) (b ∷ bs) [] = refl
 take-hidden (suc n) (b ∷ bs) (v ∷ vs) = ap (λ rest. (if b then v else Null) ∷ rest) (take-hidden n bs vs)
+take-hidden n bs vs = cc
 
 hidden_none : (bs : List Bool) → [] ≡ hidden bs []
 hidden_none [] = refl
 hidden_none (b ∷ bs) = refl
 
 drop-hidden : (n : ℕ) (bs : List Bool) (vs : List Value) → drop n (hidden bs vs) ≡ hidden (drop n bs) (drop n vs)
-drop-hidden zero bs vs = refl
-drop-hidden (suc n) [] vs = refl
-drop-hidden (suc n) (b ∷ bs) [] = hidden_none (drop n bs)
 drop-hidden (suc n) (b ∷ bs) (v ∷ vs) = drop-hidden n bs vs
+drop-hidden n bs vs = grind (arith, hidden_none)
 
 get_or-hidden : (bs : List Bool) (vs : List Value) (i : ℕ) → i < length bs → get_or (hidden bs vs) i Null ≡ (if get_or bs i false then get_or vs i Null else Null)
-get_or-hidden [] vs i h = absurd (omega arith)
-get_or-hidden (b ∷ bs) [] i h = elim (get_or (b ∷ bs) i false) as (λ t. Null ≡ (if t then Null else Null)) [ true ↦ refl | false ↦ refl ]
-get_or-hidden (b ∷ bs) (v ∷ vs) zero h = refl
 get_or-hidden (b ∷ bs) (v ∷ vs) (suc i) h = get_or-hidden bs vs i (omega arith)
+get_or-hidden bs vs i h = grind arith
 
 -- If no value is null, the booleans are the validity.
 validities-hidden : (bs : List Bool) (vs : List Value) → validities vs ≡ replicate (length vs) true → length bs ≡ length vs → validities (hidden bs vs) ≡ bs
-validities-hidden [] [] all h = refl
-validities-hidden [] (v ∷ vs) all h = absurd (omega arith)
-validities-hidden (b ∷ bs) [] all h = absurd (omega arith)
-validities-hidden (b ∷ bs) (v ∷ vs) all h =
-    let here : is_valid v ≡ true = cc in
-    let rest : validities vs ≡ replicate (length vs) true = cc in
-    let first : (t : Bool) → is_valid (if t then v else Null) ≡ t = elim [ true ↦ here | false ↦ refl ] in
-    cc (first b, validities-hidden bs vs rest (omega arith))
+validities-hidden (b ∷ bs) (v ∷ vs) all h = grind (arith, (validities-hidden bs vs (cc) (omega arith)))
+validities-hidden bs vs all h = cc
 
 -- ---- values under a validity
 
 pub length-masked : (validity : Option Bits) (vs : List Value) → length (masked validity vs) ≡ length vs
-length-masked None vs = refl
-length-masked (Some validity) vs = length-hidden validity.bits vs
+length-masked validity vs = grind (arith, length-hidden)
 
 get_or-masked : (validity : Option Bits) (vs : List Value) (i : ℕ) → i < length vs → Covers validity (length vs) → get_or (masked validity vs) i Null ≡ (if valid_at validity i then get_or vs i Null else Null)
-get_or-masked None vs i h covers = refl
-get_or-masked (Some validity) vs i h covers = get_or-hidden validity.bits vs i (omega (arith, covers validity refl))
+get_or-masked validity vs i h covers = grind (arith, get_or-hidden)
 
 -- A row whose validity bit is false.
 pub masked_null : (validity : Option Bits) (vs : List Value) (i : ℕ) → valid_at validity i ≡ false → i < length vs → Covers validity (length vs) → get_or (masked validity vs) i Null ≡ Null
@@ -69,8 +54,7 @@ tells-masked s (Some validity) vs other all covers = validities-hidden validity.
 
 -- A part of the rows is the part of the values under the part of the validity.
 pub part-masked : (validity : Option Bits) (vs : List Value) (off len : ℕ) → take len (drop off (masked validity vs)) ≡ masked (option_map (part_of off len) validity) (take len (drop off vs))
-part-masked None vs off len = refl
-part-masked (Some validity) vs off len = rw (drop-hidden, take-hidden) refl
+part-masked validity vs off len = grind (arith, drop-hidden, take-hidden)
 
 -- ---- values of one type under a validity
 
@@ -98,9 +82,7 @@ pub tells-mapped : {A : Type 0} (f : A → Value) → ((x : A) → is_valid (f x
 tells-mapped f valid s xs validity other covers = tells-masked s validity (map f xs) other (validities-map f valid xs) (covers_map f xs validity covers)
 
 pub part-mapped : {A : Type 0} (f : A → Value) → (xs : List A) (validity : Option Bits) (off len : ℕ) → masked (option_map (part_of off len) validity) (map f (take len (drop off xs))) ≡ take len (drop off (masked validity (map f xs)))
-part-mapped f xs validity off len =
-    let parts : take len (drop off (map f xs)) ≡ map f (take len (drop off xs)) = rw (drop-map, take-map) refl in
-    sym (part-masked validity (map f xs) off len ∙ ap (masked (option_map (part_of off len) validity)) parts)
+part-mapped f xs validity off len = simp (drop-map, take-map, part-masked)
 
 -- ---- integers and booleans
 
@@ -156,10 +138,7 @@ pub length-part : {A : Type 0} → (xs : List A) (off len : ℕ) → off + len �
 length-part {A} xs off len h = omega (arith, length-take len (drop off xs), length-drop off xs)
 
 pub part_covers : (validity : Option Bits) (n off len : ℕ) → Covers validity n → off + len ≤ n → Covers (option_map (part_of off len) validity) len
-part_covers None n off len covers h = λ v there. cc
-part_covers (Some validity) n off len covers h = λ part there.
-    let is : part_of off len validity ≡ part = cc in
-    rw (← is) (length-part validity.bits off len (omega (arith, covers validity refl)))
+part_covers validity n off len covers h = grind (arith, length-part)
 
 pub part_within : (validity : Option Bits) (n off len : ℕ) → Covers validity n → off + len ≤ n → ForSome validity (λ v. off + len ≤ length v.bits)
 part_within validity n off len covers h = λ v there. omega (arith, covers v there)

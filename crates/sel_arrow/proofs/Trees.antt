@@ -1,9 +1,9 @@
 -- The definitions for a struct column, in terms of the list of its fields.
-use Rattle.std.proofs.Common.{◌≡◌, ◌≢◌, ℕ, ◌+◌, ◌≤◌, ◌<◌, Bool, true, false, ◌&&◌, ◌==◌, not, All, List, [], ◌∷◌, length, take, get_or, map, Option, is_some, Vec, Global, refl, ap, sym, subst, ◌∙◌, arith, take_all}
-use Rattle.sel_arrow.proofs.Common.{nat_tests, All-nil, All-cons, All-head, All-tail, All-get_or, All-more, max_rows, Bits, struct_length_fault, Covers, covers, is_few, struct_rows, rows, rows_of_each, row_count, well_formed, all_well_formed, IsField, Column, Struct, Row_of-Column, end_of-Column, more_of-Column, items-the_row-Column, items_hidden-the_row-Column-0}
-use Rattle.sel_arrow.proofs.Lists.{false_unless, both, and_first, and_second}
-use Rattle.sel_arrow.proofs.NestedFaults.{and_true, sound_tuples}
-use Rattle.sel_arrow.proofs.NestedRows.{row_of, length-rows, struct_covered, struct_formed}
+use Rattle.std.proofs.lemmas.Grind.{common_steps}
+use Rattle.std.proofs.Common.{◌≡◌, ◌≢◌, ℕ, ◌+◌, ◌≤◌, ◌<◌, Bool, true, false, ◌&&◌, ◌==◌, not, All, List, [], ◌∷◌, length, take, get_or, map, Option, is_some, Vec, Global, refl, ap, sym, subst, ◌∙◌, arith, take_all, rules}
+use Rattle.sel_arrow.proofs.Common.{All-nil, All-head, All-tail, All-more, max_rows, Bits, struct_length_fault, Covers, covers, is_few, struct_rows, rows, rows_of_each, row_count, well_formed, all_well_formed, IsField, Column, Struct, Row_of-Column, end_of-Column, more_of-Column, items-the_row-Column, items_hidden-the_row-Column-0}
+use Rattle.sel_arrow.proofs.Lists.{false_unless, and_first, and_second}
+use Rattle.sel_arrow.proofs.NestedRows.{row_of, length-rows, struct_covered}
 
 each_rows : (n : _) (row : Row_of-Column n) → rows_of_each row ≡ map rows (items-the_row-Column n row)
 each_rows n end_of-Column = refl
@@ -33,17 +33,11 @@ well_formed-Struct len fields validity =
 
 pub fields_formed : (len : ℕ) (cs : List Column) → are_fields len cs ≡ true → All (IsField len) cs
 fields_formed len [] h = All-nil (IsField len)
-fields_formed len (c ∷ cs) h =
-    let two = and_first ((row_count c == len) && well_formed c) (are_fields len cs) h in
-    let rows : row_count c ≡ len = let e = and_first (row_count c == len) (well_formed c) two in grind (arith, nat_tests, e) in
-    All-cons (IsField len) c cs (rows, and_second (row_count c == len) (well_formed c) two) (fields_formed len cs (and_second ((row_count c == len) && well_formed c) (are_fields len cs) h))
+fields_formed len (c ∷ cs) h = grind (arith, and_first, (fields_formed len cs (and_second ((row_count c == len) && well_formed c) (are_fields len cs) h)))
 
 pub formed_fields : (len : ℕ) (cs : List Column) → All (IsField len) cs → are_fields len cs ≡ true
 formed_fields len [] h = refl
-formed_fields len (c ∷ cs) h =
-    let first = All-head (IsField len) c cs h in
-    let rows : (row_count c == len) ≡ true = let e = first.0 in grind (arith, nat_tests, e) in
-    both ((row_count c == len) && well_formed c) (are_fields len cs) (both (row_count c == len) (well_formed c) rows first.1) (formed_fields len cs (All-tail (IsField len) c cs h))
+formed_fields len (c ∷ cs) h = search (rules, All-head, (formed_fields len cs (All-tail (IsField len) c cs h)))
 
 -- The properties of a well-formed struct column.
 pub record HasFields (len : ℕ) (cs : List Column) (validity : Option Bits) : Type 0 where
@@ -52,21 +46,14 @@ pub record HasFields (len : ℕ) (cs : List Column) (validity : Option Bits) : T
   pub fields : All (IsField len) cs
 
 pub has_fields : (len : ℕ) (fields : Vec Column Global) (validity : Option Bits) → well_formed (Struct len fields validity) ≡ true → HasFields len fields.items validity
-has_fields len fields validity h =
-    let facts = struct_covered len validity (are_fields len fields.items) (sym (well_formed-Struct len fields validity) ∙ h) in
-    record { few = facts.0; covered = facts.1; fields = fields_formed len fields.items facts.2 }
+has_fields len fields validity h = grind (arith, common_steps, struct_covered, well_formed-Struct, fields_formed)
 
 pub fields_make : (len : ℕ) (fields : Vec Column Global) (validity : Option Bits) → HasFields len fields.items validity → well_formed (Struct len fields validity) ≡ true
-fields_make len fields validity h =
-    well_formed-Struct len fields validity ∙ struct_formed len validity (are_fields len fields.items) h.few h.covered (formed_fields len fields.items h.fields)
+fields_make len fields validity h = grind (arith, well_formed-Struct, formed_fields)
 
 -- Fields that fit, given the rules for the number of rows and the validity.
 pub struct_test : (len : ℕ) (fields : Vec Column Global) (validity : Option Bits) (t : Bool) → All (IsField len) fields.items → is_some (struct_length_fault len true validity) ≡ not t → t ≡ well_formed (Struct len fields validity)
-struct_test len fields validity t fit fault =
-    sound_tuples len validity t fault
-    ∙ sym (and_true (is_few len && covers validity len))
-    ∙ ap (λ b. is_few len && covers validity len && b) (sym (formed_fields len fields.items fit))
-    ∙ sym (well_formed-Struct len fields validity)
+struct_test len fields validity t fit fault = grind (arith, formed_fields, well_formed-Struct)
 
 -- Fields that do not fit.
 pub struct_failed : (len : ℕ) (fields : Vec Column Global) (validity : Option Bits) → (All (IsField len) fields.items → ⊥) → false ≡ well_formed (Struct len fields validity)
@@ -75,9 +62,7 @@ struct_failed len fields validity none = sym (false_unless (well_formed (Struct 
 -- ---- field by field
 
 pub one_differs : (len n : ℕ) (cs : List Column) (i : ℕ) (c : Column) → i < length cs → c ≡ get_or cs i c → n ≡ length (rows c) → n ≢ len → All (IsField len) cs → ⊥
-one_differs len n cs i c lt is count differs all =
-    let here = subst (IsField len) (sym is) (All-get_or (IsField len) cs i c lt all) in
-    differs (count ∙ length-rows c ∙ here.0)
+one_differs len n cs i c lt is count differs all = grind (arith, length-rows)
 
 pub one_more_field : (len n : ℕ) (cs : List Column) (i : ℕ) (c : Column) → i < length cs → c ≡ get_or cs i c → n ≡ length (rows c) → n ≡ len → true ≡ well_formed c → All (IsField len) (take i cs) → All (IsField len) (take (i + 1) cs)
 one_more_field len n cs i c lt is count same formed all =

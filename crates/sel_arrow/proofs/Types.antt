@@ -80,8 +80,7 @@ one_struct ss ts e = sym (list_of_shapes ss) ∙ ap fields_of e ∙ list_of_shap
 
 -- A condition for equal field types is a condition for equal struct types.
 pub by_fields : {P : Type 0} (s t : Shape) (ss ts : List Shape) → s ≡ of_struct (shapes_of ss) → t ≡ of_struct (shapes_of ts) → (P ↔ (ss ≡ ts)) → (P ↔ (s ≡ t))
-by_fields s t ss ts is of same =
-    (λ p. is ∙ ap (λ l. of_struct (shapes_of l)) (same.0 p) ∙ sym of, λ e. same.1 (one_struct ss ts (sym is ∙ e ∙ of)))
+by_fields s t ss ts is of same = grind (arith, one_struct)
 
 -- ---- two lists whose elements have the same images
 
@@ -98,8 +97,7 @@ module _ {A B C : Type 0} (f : A → C) (g : B → C) (xs : List A) (ys : List B
   same_more i x y in_xs in_ys before here = map_more f xs i x in_xs ∙ cc (before, here) ∙ sym (map_more g ys i y in_ys)
 
   pub same_all : (i : ℕ) → i ≡ length xs → i ≡ length ys → map f (take i xs) ≡ map g (take i ys) → map f xs ≡ map g ys
-  same_all i to_x to_y before =
-      sym (ap (map f) (take_all i xs (omega arith))) ∙ before ∙ ap (map g) (take_all i ys (omega arith))
+  same_all i to_x to_y before = grind (arith, take_all)
 
 pub ruleset both_lists = (same_lengths, same_at, same_more, same_all)
 

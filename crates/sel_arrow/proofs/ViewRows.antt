@@ -1,31 +1,21 @@
 -- Rows of views.
-use Rattle.std.proofs.Common.{◌≡◌, ◌≢◌, ℕ, ◌<◌, Bool, true, false, ◌&&◌, List, [], ◌∷◌, length, take, drop, Option, Some, None, is_none, refl, sym, ap, ◌∙◌, get_or, IsTrue, not}
+use Rattle.std.proofs.Common.{◌≡◌, ◌≢◌, ℕ, ◌<◌, Bool, true, false, ◌&&◌, List, [], ◌∷◌, length, take, drop, Option, None, is_none, refl, get_or, IsTrue, not, arith}
 use Rattle.sel_arrow.proofs.Common.{option_map, Bits, or_else, view_fault, views_fault, Covers, valid_at, part_of, IsValidityOf, Shape, of_null, Null, Bytes}
 use Rattle.sel_bits.specs.Faults.{first_broken}
 use Rattle.sel_bits.specs.declared.faults.Malformed.{Malformed}
 use Rattle.sel_bits.specs.declared.faults.Malformed.TheVariants.{ViewRange, ViewPrefix}
 use Rattle.sel_arrow.specs.declared.view.View.{View}
 use Rattle.sel_arrow.specs.Views.{all_placed, has_prefix, is_in_range, is_placed, view_bytes, view_rows, view_value}
-use Rattle.sel_arrow.proofs.Lists.{both, all_at, all_part}
+use Rattle.sel_arrow.proofs.Lists.{all_at, all_part}
 use Rattle.sel_arrow.proofs.Rows.{length-mapped, null_mapped, valid_mapped, tells-mapped, part-mapped, length-part, part_covers, part_within}
 
 -- ---- views that break no rule
 
-none_first : (a b : Option Malformed) → or_else a b ≡ None → a ≡ None
-none_first None b e = refl
-none_first (Some fault) b e = cc
-
 none_second : (a b : Option Malformed) → or_else a b ≡ None → b ≡ None
-none_second None b e = e
-none_second (Some fault) b e = cc
+none_second a b e = grind arith
 
 tests_placed : (range prefix : Bool) → is_none (first_broken ((ViewRange, not range) ∷ (ViewPrefix, not prefix) ∷ [])) ≡ (range && prefix)
-tests_placed true true = refl
-tests_placed true false = refl
-tests_placed false prefix = refl
-
-placed_by : (range prefix : Bool) → first_broken ((ViewRange, not range) ∷ (ViewPrefix, not prefix) ∷ []) ≡ None → (range && prefix) ≡ true
-placed_by range prefix e = sym (tests_placed range prefix) ∙ ap is_none e
+tests_placed range prefix = grind arith
 
 -- A view without a fault is in range and has the right prefix.
 pub fault_placed : (buffers : List (List ℕ)) (view : View) → is_none (view_fault buffers view) ≡ is_placed buffers view
@@ -34,9 +24,7 @@ fault_placed buffers view = tests_placed (is_in_range buffers view) (has_prefix 
 -- Views that break no rule are well-formed.
 pub faultless : (buffers : List (List ℕ)) (views : List View) → views_fault buffers views ≡ None → IsTrue (all_placed buffers views)
 faultless buffers [] e = refl
-faultless buffers (v ∷ views) e =
-    both (is_placed buffers v) (all_placed buffers views) (placed_by (is_in_range buffers v) (has_prefix buffers v) (none_first (view_fault buffers v) (views_fault buffers views) e))
-    (faultless buffers views (none_second (view_fault buffers v) (views_fault buffers views) e))
+faultless buffers (v ∷ views) e = grind (arith, (faultless buffers views (none_second (view_fault buffers v) (views_fault buffers views) e)))
 
 pub placed_at : (buffers : List (List ℕ)) (views : List View) (i : ℕ) (d : View) → IsTrue (all_placed buffers views) → i < length views → IsTrue (is_placed buffers (get_or views i d))
 placed_at buffers views i d placed h = all_at (is_placed buffers) views i d placed h
