@@ -1,8 +1,8 @@
 -- The bits that a mask selects of blocks of 56 bits.
 use Rattle.sel_filter.proofs.Common.{◌≡◌, ℕ, ◌+◌, ◌*◌, ◌≤◌, ◌∙◌, refl, ap, arith, List, [], ◌++◌, length, take, drop, Bool, count_ones, length-take}
 use Rattle.sel_filter.proofs.Common.{length-drop, bits, word_of, select, Bits}
-use Rattle.sel_bits.specs.Reading.{BlockReading, after_block, block_bits}
 use Rattle.sel_filter.proofs.Common.{length-append, pow_mono, word_of_lt}
+use Rattle.sel_bits.specs.Reading.{BlockReading, after_block, block_bits}
 use Rattle.sel_filter.proofs.WordSelects.{kept_ones, words_select}
 use Rattle.sel_filter.proofs.Selects.{few_kept, select_end, select_more}
 
@@ -29,9 +29,6 @@ module _ (vs ms : Bits) (out : List Bool) (kept : ℕ) (values mask : BlockReadi
   abbrev block : List Bool
   block = select (bits 64 v) (bits 64 m)
 
-  next : at + 56 ≡ 56 * (mask.blocks_read + 1)
-  next = omega arith
-
   few : length (take 56 (drop at marks)) ≤ 56
   few = omega (arith, length-take 56 (drop at marks))
 
@@ -53,16 +50,8 @@ module _ (vs ms : Bits) (out : List Bool) (kept : ℕ) (values mask : BlockReadi
       omega (arith, was.counts, counted, length-append out block, ap length more, few_kept (take (at + 56) xs) (take (at + 56) marks), length-take (at + 56) xs, was.lengths, ap (λ (s : Bits). length s.bits) was.mask_source)
 
   pub kept_more : IsKept vs ms (out ++ select (bits 64 v) (bits 64 m)) (kept + count_ones m) (after_block values) (after_block mask)
-  kept_more = record {
-    values_source = was.values_source;
-    mask_source = was.mask_source;
-    lengths = was.lengths;
-    in_step = omega (arith, was.in_step);
-    gives = more ∙ ap (λ k. select (take k xs) (take k marks)) next;
-    counts = omega (arith, was.counts, counted, length-append out block);
-  }
+  kept_more = grind (arith, more, counted, length-append)
 
 -- After the last block all bits are filtered.
 pub kept_all : (vs ms : Bits) (out : List Bool) (kept : ℕ) (values mask : BlockReading) → IsKept vs ms out kept values mask → length mask.source.bits ≤ 56 * mask.blocks_read → out ≡ select vs.bits ms.bits
-kept_all vs ms out kept values mask was end =
-    was.gives ∙ select_end values.source.bits mask.source.bits (56 * mask.blocks_read) was.lengths end ∙ (λ i. select (was.values_source i).bits (was.mask_source i).bits)
+kept_all vs ms out kept values mask was end = grind (arith, select_end)

@@ -1,6 +1,6 @@
 -- Compression of a word, four bits at a time.
-use Rattle.sel_filter.proofs.Common.{◌≡◌, ℕ, ◌+◌, ◌*◌, ◌/◌, ◌%◌, ◌^◌, ◌<◌, ◌≤◌, List, [], Bool, ◌++◌, length, get_or, ap, sym, ◌∙◌, arith, length-append}
-use Rattle.sel_filter.proofs.Common.{count_ones, div-one, shr-shr, bits, word_of, bits_zero, length_bits, bits_split, bit_at_mod, select}
+use Rattle.sel_filter.proofs.Common.{◌≡◌, ℕ, ◌+◌, ◌*◌, ◌/◌, ◌%◌, ◌^◌, ◌<◌, ◌≤◌, List, Bool, ◌++◌, length, get_or, ap, sym, ◌∙◌, arith, length-append}
+use Rattle.sel_filter.proofs.Common.{count_ones, shr-shr, bits, word_of, bits_zero, length_bits, bits_split, bit_at_mod, select}
 use Rattle.sel_filter.proofs.Common.{compress, NIBBLES}
 use Rattle.std.specs.Prelude.{bit_or}
 use Rattle.sel_bits.proofs.Packs.{bits_same}
@@ -23,15 +23,7 @@ pub record IsPacked (v m i values mask packed place : ℕ) : Type 0 where
   pub count : place ≡ length (kept_bits v m (4 * i))
 
 pub packed_first : (v m : ℕ) → IsPacked v m 0 v m 0 0
-packed_first v m = record {
-  values-left = sym (div-one v);
-  mask-left = sym (div-one m);
-  word = ap word_of none;
-  count = ap (λ (l : List Bool). length l) none;
-}
-  where
-    none : [] ≡ kept_bits v m 0
-    none = (λ j. select (sym (bits_zero v) j) (sym (bits_zero m) j))
+packed_first v m = grind (arith, bits_zero)
 
 four_bits : (x : ℕ) → bits 4 (x % 16) ≡ bits 4 x
 four_bits x = bits_same 4 (x % 16) x (λ i lt. bit_at_mod x 4 i lt)
@@ -54,13 +46,7 @@ module _ (v m i values mask packed place : ℕ) (below : i < 16) (was : IsPacked
   place_few = omega (arith, was.count, few_bits v m (4 * i))
 
   pub packed_next : IsPacked v m (i + 1) (values / 16) (mask / 16) (bit_or packed (get_or NIBBLES (16 * (mask % 16) + values % 16) 0 * 2 ^ place % 2 ^ 64)) (place + count_ones (mask % 16))
-  packed_next = record {
-    values-left = left v values was.values-left;
-    mask-left = left m mask was.mask-left;
-    word = word_joined (kept_bits v m (4 * i)) four packed place _ was.word was.count (entry_is (values % 16) (mask % 16) (omega arith) (omega arith)) (omega (arith, was.count, few_bits v m (4 * i), few_bits (values % 16) (mask % 16) 4))
-        ∙ sym (ap word_of grown);
-    count = omega (arith, was.count, count_is (values % 16) (mask % 16) (omega arith) (omega arith), ap (λ (l : List Bool). length l) grown, length-append (kept_bits v m (4 * i)) four);
-  }
+  packed_next = grind (arith, left, word_joined, entry_is, few_bits, grown, count_is, length-append)
     where
       left : (x now : ℕ) → now ≡ x / 2 ^ (4 * i) → now / 16 ≡ x / 2 ^ (4 * (i + 1))
       left x now is = let e : 4 * i + 4 ≡ 4 * (i + 1) = omega arith in ap (λ n. n / 16) is ∙ shr-shr x (4 * i) 4 ∙ ap (λ n. x / 2 ^ n) e

@@ -1,4 +1,5 @@
 -- The values of a block that the bits of a word keep.
+use Rattle.std.proofs.Common.{rules}
 use Rattle.sel_filter.proofs.Common.{◌≡◌, ℕ, zero, suc, ◌+◌, ◌-◌, ◌*◌, ◌/◌, ◌%◌, ◌^◌, ◌<◌, ◌≤◌, ◌∙◌, sym, refl, ap, arith, List, [], ◌∷◌, ◌++◌, length, take}
 use Rattle.sel_filter.proofs.Common.{drop, get_or, Bool, append-nil, append_assoc, length-append, bit_and, count_ones, ◌==◌, bit_at, trailing_zeros, w64}
 use Rattle.sel_filter.proofs.Common.{and_le_l, pow_mono, take-add, shr_and_one, length-take, length-drop, take_all, bits_from, bits, word_of, bits_suc}
@@ -24,8 +25,7 @@ few_within xs m some fits le = first_within (length xs) m some fits (small (leng
 -- One more set bit is processed.
 pub few_step : {A : Type 0} → (xs kept all : List A) (m : ℕ) (x : A) → 0 < m → m < 2 ^ length xs → length xs ≤ 64 → x ≡ get_or xs (trailing_zeros w64 m) x
     → kept ++ select xs (bits (length xs) m) ≡ all → (kept ++ x ∷ []) ++ select xs (bits (length xs) (bit_and m (m - 1))) ≡ all
-few_step xs kept all m x some fits le is before =
-    append_assoc kept (x ∷ []) _ ∙ ap (λ l. kept ++ l) (ap (λ y. y ∷ select xs (bits (length xs) (bit_and m (m - 1)))) is ∙ sym (first_kept xs x 64 m some fits (small (length xs) m fits le))) ∙ before
+few_step xs kept all m x some fits le is before = search (rules, append_assoc, first_kept)
 
 -- One value fewer is left.
 pub few_left : {A : Type 0} → (xs : List A) (m : ℕ) → 0 < m → m < 2 ^ length xs → length xs ≤ 64 → length (select xs (bits (length xs) (bit_and m (m - 1)))) + 1 ≡ length (select xs (bits (length xs) m))
@@ -39,15 +39,10 @@ pub record FewSoFar {A : Type 0} (xs : List A) (rest capacity : ℕ) (kept all :
   pub none : rest ≡ 0 → take (length all) kept ≡ all
 
 whole : {A : Type 0} → (xs kept all : List A) (m : ℕ) → m ≡ 0 → kept ++ select xs (bits (length xs) m) ≡ all → take (length all) kept ≡ all
-whole xs kept all m none is =
-    let same : kept ≡ all = none_more xs kept (length xs) m none ∙ is in
-    ap (take (length all)) same ∙ take_all (length all) all (omega arith)
+whole xs kept all m none is = grind (arith, none_more, take_all)
 
 pub few_begin : {A : Type 0} → (xs kept : List A) (m capacity : ℕ) → length kept + length (select xs (bits (length xs) m)) < capacity → FewSoFar xs m capacity kept (kept ++ select xs (bits (length xs) m))
-few_begin xs kept m capacity room = record {
-  some = λ h. (refl, room);
-  none = λ none. whole xs kept (kept ++ select xs (bits (length xs) m)) m none refl;
-}
+few_begin xs kept m capacity room = grind (arith, whole)
 
 -- The next two set bits are processed, or the next one and another value.
 pub few_pair : {A : Type 0} → (xs kept new all : List A) (rest capacity : ℕ) (x y : A) → 0 < rest → rest < 2 ^ 64 → length xs ≡ 64 → x ≡ get_or xs (trailing_zeros w64 rest) x → y ≡ get_or xs (trailing_zeros w64 (bit_and rest (rest - 1)) % 64) y
@@ -96,15 +91,7 @@ dense_begin xs m old = sym (append-nil old) ∙ ap (λ l. old ++ l) (sym (nil_fr
 -- The next positions, up to `end`.
 pub dense_more : {A : Type 0} → (xs : List A) (m : ℕ) (old now next : List A) (count i w end : ℕ) → end ≤ length xs → w ≡ m / 2 ^ i → end ≡ i + count
     → next ≡ now ++ select (take (end - i) (drop i xs)) (bits count w) → IsDense xs m old now i → IsDense xs m old next end
-dense_more xs m old now next count i w end within is e pushed was =
-    let wide : end - i ≡ count = omega (arith, e) in
-    pushed
-    ∙ (λ j. was j ++ select (take (wide j) (drop i xs)) (bits count (is j)))
-    ∙ append_assoc old (select (take i xs) (bits i m)) (select (take count (drop i xs)) (bits count (m / 2 ^ i)))
-    ∙ ap (λ l. old ++ l)
-    (sym (select-append (take i xs) (bits i m) (take count (drop i xs)) (bits count (m / 2 ^ i)) (omega (arith, length-take i xs, length_bits i m, within, e)))
-    ∙ sym (λ j. select (take-add i count xs j) (bits_split i count m j)))
-    ∙ ap (λ k. old ++ select (take k xs) (bits k m)) (sym e)
+dense_more xs m old now next count i w end within is e pushed was = grind (arith, append_assoc, select-append, length-take, length_bits, take-add, bits_split)
 
 -- One more position.
 pub dense_next : {A : Type 0} → (xs : List A) (m : ℕ) (old now next : List A) (i end : ℕ) (x : A) → i < length xs → x ≡ get_or xs i x → end ≡ i + 1
@@ -142,19 +129,13 @@ module _ {A : Type 0} (xs : List A) (ms : List Bool) (bytes : List ℕ) (s n : �
   long_block = omega (arith, within, long, length-take (at + count - at) (drop at xs), length-drop at xs)
 
   pub part_fits : word < 2 ^ length (take (at + count - at) (drop at xs))
-  part_fits =
-      let wide : length (take (at + count - at) (drop at xs)) ≡ length part = long_block ∙ sym long_part in
-      rw (word_is, wide) (word_of_lt part)
+  part_fits = grind (arith, long_block, long_part, word_is, word_of_lt)
 
   -- The kept values of the part follow those before it.
   pub part_kept : (front old new : List A) (end m : ℕ) → at + count ≡ end → m ≡ count → old ≡ front ++ select (take at xs) (take at ms) → new ≡ old ++ select (take (at + count - at) (drop at xs)) (bits m word)
       → new ≡ front ++ select (take end xs) (take end ms)
   unfolding part
-  part_kept front old new end m to wide was appended =
-      let back : at + count - at ≡ count = omega arith in
-      let width : m ≡ length part = wide ∙ sym long_part in
-      select_more front old new xs ms at count same was (appended ∙ (λ i. old ++ select (take (back i) (drop at xs)) (bits (width i) (word_is i))) ∙ ap (λ l. old ++ select (take count (drop at xs)) l) (bits_word_of part))
-      ∙ (λ i. front ++ select (take (to i) xs) (take (to i) ms))
+  part_kept front old new end m to wide was appended = grind (arith, long_part, select_more, same, word_is, bits_word_of)
 
 -- The values after the last whole block of 64 values.
 module _ {A : Type 0} (xs : List A) (ms : List Bool) (bytes : List ℕ) (s n : ℕ) (long : n ≡ length xs) (ms_is : ms ≡ bits_from bytes s n)

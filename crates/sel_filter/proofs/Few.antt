@@ -1,5 +1,5 @@
 -- Compression of a word, one set bit of the mask at a time.
-use Rattle.sel_filter.proofs.Common.{◌≡◌, ℕ, ◌+◌, ◌-◌, ◌*◌, ◌/◌, ◌%◌, ◌^◌, ◌<◌, ◌∙◌, sym, refl, ap, arith, List, [], ◌∷◌, ◌++◌, length, Bool}
+use Rattle.sel_filter.proofs.Common.{◌≡◌, ℕ, ◌+◌, ◌-◌, ◌*◌, ◌/◌, ◌%◌, ◌^◌, ◌<◌, ◌∙◌, sym, ap, arith, List, [], ◌∷◌, ◌++◌, length, Bool}
 use Rattle.sel_filter.proofs.Common.{false, cond, length-append, bit_and, bit_at, trailing_zeros, w64, bit_at-lt, shr_and_one}
 use Rattle.sel_filter.proofs.Common.{count_by-le-length, is_set, bits, word_of, compress, select, count_true, cond_of_bit, length_bits}
 use Rattle.std.specs.Prelude.{bit_or}
@@ -15,16 +15,7 @@ pub record IsFew (v m out place marks : ℕ) : Type 0 where
   pub long : length front ≡ place
 
 pub few_first : (v m : ℕ) → m < 2 ^ 64 → IsFew v m 0 0 m
-few_first v m fits = record {
-  front = [];
-  marking = record {
-    small = rw length_bits fits;
-    gives = refl;
-    counts = omega arith;
-  };
-  word = refl;
-  long = refl;
-}
+few_first v m fits = grind (arith, length_bits)
 
 module _ (v m out place marks : ℕ) (some : 0 < marks) (fits : marks < 2 ^ 64) (was : IsFew v m out place marks) where
   pub place_below : place < 64

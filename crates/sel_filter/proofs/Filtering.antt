@@ -30,9 +30,7 @@ module _ {A : Type 0} (xs : List A) (mask : WordReading) (at count word : ℕ) (
   -- The set bits of the word select what the part of the mask selects.
   pub word_more : (front old new : List A) → old ≡ front ++ select (take at xs) (take at mask.source.bits) → new ≡ old ++ select (drop at xs) (bits (length xs - at) word)
       → new ≡ front ++ select (take (at + count) xs) (take (at + count) mask.source.bits)
-  word_more front old new was is =
-      let selects = ap (select (drop at xs)) word_bits ∙ select_front (drop at xs) part (length xs - at - length part) ∙ ap (λ n. select (take n (drop at xs)) part) long in
-      select_more front old new xs mask.source.bits at count same was (is ∙ ap (λ l. old ++ l) selects)
+  word_more front old new was is = grind (arith, word_bits, select_front, long, select_more)
 
 -- The state of the filter: the rows up to the position of the mask reader are filtered.
 pub record IsFiltered (vs ms : Bits) (out : List Bool) (start : ℕ) (values : BitReading) (mask : WordReading) : Type 0 where
@@ -89,14 +87,7 @@ module _ (vs ms : Bits) (out : List Bool) (start : ℕ) (values : BitReading) (m
 
     pub filtered_next : (read : BitReading) → read.source ≡ values.source → read.bits_read ≡ values.bits_read + count_true (bits (length values.source.bits - at) word)
         → IsFiltered vs ms (out ++ select (drop at values.source.bits) (bits (length values.source.bits - at) word)) (at + count) read (after_word later)
-    filtered_next read kept more_reads = record {
-      values_source = kept ∙ was.values_source;
-      mask_source = was.mask_source;
-      lengths = ap (λ (s : Bits). length s.bits) kept ∙ was.lengths;
-      here = omega (arith, here, is_count);
-      gives = more ∙ ap (λ (s : Bits). select (take (at + count) s.bits) (take (at + count) marks)) (sym kept);
-      reads = omega (arith, more_reads, was.reads, counted, length-append out block);
-    }
+    filtered_next read kept more_reads = grind (arith, more, counted, length-append)
 
   -- After the last word all rows are filtered.
   module _ (end : reached later ≡ length mask.source.bits) where

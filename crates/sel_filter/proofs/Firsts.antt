@@ -1,5 +1,5 @@
 -- The entries that a mask selects, one set bit at a time from the lowest.
-use Rattle.sel_filter.proofs.Common.{◌≡◌, ℕ, zero, suc, ◌-◌, ◌*◌, ◌/◌, ◌%◌, ◌^◌, ◌<◌, ◌∙◌, sym, refl, ap, ⊎_elim, arith, List, [], ◌∷◌, length}
+use Rattle.sel_filter.proofs.Common.{◌≡◌, ℕ, suc, ◌-◌, ◌*◌, ◌/◌, ◌%◌, ◌^◌, ◌<◌, ◌∙◌, sym, refl, ap, ⊎_elim, arith, List, ◌∷◌, length}
 use Rattle.sel_filter.proofs.Common.{get_or, bit_and, cases_lt, pow-suc, bit_at_lowest, bit_at_above, bit_at-trailing_zeros, trailing_zeros, w64, bits, select}
 use Rattle.std.specs.Int.Bits.{and_self}
 use lib.Bits.{and_step}
@@ -25,8 +25,6 @@ module _ (k m : ℕ) (some : 0 < m) where
 -- The entry at the lowest set bit is the first one kept; the others are those at the other set bits.
 pub first_kept : {A : Type 0} → (xs : List A) (d : A) (k m : ℕ) → 0 < m → m < 2 ^ length xs → m < 2 ^ k
     → select xs (bits (length xs) m) ≡ get_or xs (count_trailing_zeros k m) d ∷ select xs (bits (length xs) (bit_and m (m - 1)))
-first_kept [] d k m some fits few = absurd (omega arith)
-first_kept (x ∷ xs) d zero m some fits few = absurd (omega arith)
 first_kept (x ∷ xs) d (suc k) m some fits few =
     let n = length xs in
     let rest = bit_and m (m - 1) in
@@ -43,6 +41,7 @@ first_kept (x ∷ xs) d (suc k) m some fits few =
     ap (select (x ∷ xs)) (bits_first n m 1 (m / 2) (bit_at_lowest m ∙ odd) refl)
     ∙ sym (λ i. get_or (x ∷ xs) (place_odd k m some odd i) d ∷ select (x ∷ xs) (bits_first n rest 0 (m / 2) (omega (arith, bit_at_lowest rest, left)) (omega (arith, left)) i)))
     (cases_lt (m % 2) 1)
+first_kept xs d k m some fits few = grind arith
 
 -- The lowest set bit of a word of n bits is below position n.
 pub first_within : (n m : ℕ) → 0 < m → m < 2 ^ n → m < 2 ^ 64 → trailing_zeros w64 m < n

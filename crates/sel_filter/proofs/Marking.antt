@@ -33,19 +33,11 @@ module _ (xs target : List Bool) (reads : ℕ) (out : List Bool) (marks bits_rea
   mark_room = omega (arith, was.counts, left)
 
   pub marking_next : (bit : Bool) → bit ≡ get_or xs (trailing_zeros w64 marks) false → IsMarking xs target reads (out ++ bit ∷ []) (bit_and marks (marks - 1)) (bits_read + 1)
-  marking_next bit read = record {
-    small = omega (arith, and_le_l marks (marks - 1), was.small);
-    gives = append_assoc out (bit ∷ []) (select xs (bits (length xs) rest)) ∙ ap (λ l. out ++ l) (ap (λ b. b ∷ select xs (bits (length xs) rest)) read ∙ sym first) ∙ was.gives;
-    counts = omega (arith, was.counts, left);
-  }
+  marking_next bit read = grind (arith, and_le_l, append_assoc, first, left)
 
 -- Without remaining marks, the output is the target.
 pub marking_last : (xs target : List Bool) (reads : ℕ) (out : List Bool) (marks bits_read : ℕ) → marks ≡ 0 → IsMarking xs target reads out marks bits_read → (out ≡ target) × (bits_read ≡ reads)
-marking_last xs target reads out marks bits_read none was =
-    let empty = ap (bits (length xs)) none ∙ bits_of_zero (length xs) in (
-      none_more xs out (length xs) marks none ∙ was.gives,
-      omega (arith, was.counts, ap count_true empty, count_true_none (length xs)),
-    )
+marking_last xs target reads out marks bits_read none was = grind (arith, bits_of_zero, none_more, count_true_none)
 
 -- The lowest mark is within the list.
 pub mark_place : (all target : List Bool) (reads : ℕ) (out : List Bool) (start marks bits_read : ℕ) → 0 < marks → marks < 2 ^ 64

@@ -18,9 +18,7 @@ front_dropped n m v dropped = λ i. word_of (select (bits_suc n v i) (bits_first
 
 -- If it is kept, it is the lowest bit of the word.
 front_kept : (n m v : ℕ) → bit_at m 0 ≡ 1 → packed (suc n) m v ≡ bit_at v 0 + 2 * packed n (m / 2) (v / 2)
-front_kept n m v kept =
-    (λ i. word_of (select (bits_suc n v i) (bits_first n m 1 (m / 2) kept refl i)))
-    ∙ ap (λ b. b + 2 * packed n (m / 2) (v / 2)) (cond_of_bit (bit_at v 0) (bit_at-lt v 0))
+front_kept n m v kept = grind (arith, bits_suc, bits_first, cond_of_bit, bit_at-lt)
 
 first_bit : (n m v : ℕ) → bit_at m 0 ≡ 1 → bit_at (packed (suc n) m v) 0 ≡ bit_at v 0
 first_bit n m v kept = omega (arith, front_kept n m v kept, bit_at_lowest (packed (suc n) m v), bit_at-lt v 0)
@@ -41,11 +39,9 @@ later_bit n m v k s is =
 
 -- A kept bit that is set is at the number of kept bits before it.
 there : (n m v q : ℕ) → q < n → bit_at m q ≡ 1 → bit_at v q ≡ 1 → bit_at (packed n m v) (ones_below m q) ≡ 1
-there zero m v q lt kept set = absurd (omega arith)
-there (suc n) m v zero lt kept set = ap (bit_at (packed (suc n) m v)) (ones_zero m) ∙ first_bit n m v kept ∙ set
 there (suc n) m v (suc q) lt kept set =
-    later_bit n m v (ones_below (m / 2) q) (ones_below m (suc q)) (ones_front m q)
-    ∙ there n (m / 2) (v / 2) q (omega arith) (sym (bit_at-suc m q) ∙ kept) (sym (bit_at-suc v q) ∙ set)
+    grind (arith, later_bit, ones_front, (there n (m / 2) (v / 2) q (omega arith) (sym (bit_at-suc m q) ∙ kept) (sym (bit_at-suc v q) ∙ set)))
+there n m v q lt kept set = grind (arith, ones_zero, first_bit)
 
 -- No other bit of the word is set.
 back : (n m v s : ℕ) → bit_at (packed n m v) s ≡ 1 → (q : ℕ) × (bit_at m q ≡ 1) × (bit_at v q ≡ 1) × (s ≡ ones_below m q)

@@ -1,10 +1,10 @@
 -- The invariant of the compress loop, over plain variables.
-use Rattle.sel_filter.proofs.Common.{◌≡◌, ℕ, suc, ◌+◌, ◌*◌, ◌%◌, ◌^◌, ◌<◌, ◌≤◌, refl, arith, bit_and, bit_at, w64, ones_below, compress}
+use Rattle.sel_filter.proofs.Common.{◌≡◌, ℕ, suc, ◌+◌, ◌*◌, ◌%◌, ◌^◌, ◌<◌, ◌≤◌, arith, bit_and, bit_at, w64, ones_below, compress}
 use Rattle.std.specs.Int.{bit_not}
 use Rattle.sel_bits.specs.Moving.{Moving}
 use Rattle.sel_bits.proofs.Prefix.{shift_is}
 use Rattle.sel_bits.proofs.Shifts.{moved}
-use Rattle.sel_filter.proofs.Rounds.{Standing, CountsBlocks, MarksOdd, masked, first_standing, next_standing, one_standing, first_counts, next_counts, parity_marks}
+use Rattle.sel_filter.proofs.Rounds.{Standing, CountsBlocks, MarksOdd, masked, next_standing, one_standing, first_counts, next_counts, parity_marks}
 use Rattle.sel_filter.proofs.Rounds.{one_block}
 use Rattle.sel_filter.proofs.Ranks.{compress_standing}
 
@@ -18,12 +18,7 @@ pub record RoundState (m source i k : ℕ) (word : Moving) : Type 0 where
 
 pub state_first : (m : ℕ) (w : Moving) → m < 2 ^ 64 → w.moves ≡ 0 → w.word ≡ w.source
     → RoundState m w.source 0 (bit_not w64 m) (record w { word = bit_and w.word m })
-state_first m w fits unmoved whole = record {
-  standing = rw whole (first_standing m (bit_and w.source m));
-  counts = first_counts m fits;
-  moves = unmoved;
-  same_source = refl;
-}
+state_first m w fits unmoved whole = grind (arith, first_counts)
 
 pub state_next : (m source i k marks : ℕ) (w : Moving) → m < 2 ^ 64 → i < 6 → marks < 2 ^ 64 → MarksOdd m i marks → RoundState m source i k w
     → RoundState m source (i + 1) (bit_and k marks) (record w { word = moved w.word marks (1 * 2 ^ i % 2 ^ 32); moves = w.moves + 1 })

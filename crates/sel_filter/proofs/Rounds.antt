@@ -7,19 +7,12 @@ use Rattle.std.specs.Int.{bit_not}
 use Rattle.std.proofs.lemmas.Nat.Bits.{bit_at_or, bit_at_not, same_from_bits}
 use Rattle.sel_bits.proofs.Counts.{ones_zero, ones_suc}
 use Rattle.sel_filter.proofs.Clears.{clears, clears_ones, clears_suc, clears_up}
-use Rattle.sel_filter.proofs.Spots.{spot, spot_next, spot_block, spot_first}
+use Rattle.sel_filter.proofs.Spots.{spot, spot_next, spot_block}
 use Rattle.sel_bits.proofs.Shifts.{moved}
 
 -- A set bit of a word after a move either was not moved, or was moved down.
 bit_at_moved : (word p i s : ℕ) → bit_at (moved word p i) s ≡ max (min (bit_at word s) (bit_at (bit_not w64 p) s)) (min (bit_at word (s + i)) (bit_at p (s + i)))
-bit_at_moved word p i s =
-    omega (
-      arith,
-      bit_at_or (bit_and word (bit_not w64 p)) (bit_and word p / 2 ^ i) s,
-      bit_at_and word (bit_not w64 p) s,
-      bit_at_shr (bit_and word p) i s,
-      bit_at_and word p (s + i),
-    )
+bit_at_moved word p i s = simp (bit_at_or, bit_at_and, bit_at_shr)
 
 -- The mask m keeps bit q.
 abbrev pub IsKept : ℕ → ℕ → Type 0
@@ -79,9 +72,7 @@ module _ (m w i word p : ℕ) (under : IsUnder m w) (was : Standing m w i word) 
 
   -- A set bit of the word, and where it goes.
   goes : (s : ℕ) → bit_at word s ≡ 1 → (q : ℕ) × (bit_at w q ≡ 1) × (s < 64) × (spot m (2 ^ suc i) q + bit_at p s * 2 ^ i ≡ s)
-  goes s set =
-      let o = was.back s set in
-      (o.0, o.1, omega (arith, inside o.0 o.1, o.2), ap (λ x. spot m (2 ^ suc i) o.0 + x * 2 ^ i) (ap (bit_at p) o.2 ∙ mark o.0 o.1) ∙ spot_next m i o.0 ∙ sym o.2)
+  goes s set = grind (arith, mark, spot_next)
 
   back : (s : ℕ) → bit_at (moved word p (2 ^ i)) s ≡ 1 → (q : ℕ) × (bit_at w q ≡ 1) × (s ≡ spot m (2 ^ suc i) q)
   back s set =
@@ -143,10 +134,6 @@ one_block m k counts q kept =
     omega (arith, counts q kept 64 (omega arith), clears_ones m q, clears_suc m q, kept.1, (rw up at (clears_up m (suc q) (63 - q))).1)
 
 -- ---- the first and the last word
-
--- The masked word is the word before the first round.
-pub first_standing : (m w : ℕ) → Standing m w 0 w
-first_standing m w = record { there = λ q set. ap (bit_at w) (spot_first m q) ∙ set; back = λ s set. (s, set, sym (spot_first m s)) }
 
 -- The masked word determines the word before each round.
 pub one_standing : (m w i a b : ℕ) → Standing m w i a → Standing m w i b → a ≡ b

@@ -12,9 +12,7 @@ use Rattle.sel_filter.proofs.Filtering.{word_fits, word_more, word_bits}
 -- ---- prefixes
 
 pub begins_more : {A : Type 0} (xs ys zs : List A) → IsBeginning xs ys → IsBeginning xs (ys ++ zs)
-begins_more xs ys zs is =
-    let le : length xs ≤ length ys = omega (arith, ap length is, length-take (length xs) ys) in
-    is ∙ sym (take-append-le (length xs) ys zs le)
+begins_more xs ys zs is = grind (arith, length-take, take-append-le)
 
 -- A prefix of a prefix is a prefix.
 pub begins_through : {A : Type 0} (xs more ys zs : List A) → ys ≡ xs ++ more → IsBeginning ys zs → IsBeginning xs zs
@@ -57,11 +55,7 @@ module _ {A : Type 0} (source before : List A) (ms : Bits) (start : ℕ) (values
       omega (arith, was.counts, starts, ap (starts_after false) (take-add start count marks), starts_append false (take start marks) next, starts_cut next)
 
   pub run_room : length ms.bits < 2 ^ 64 → (next : WordReading) → next ≡ after_word mask → next.words_read ≤ length next.source.bits / 64 + 2 → values.copies + starts_after false (bits (length values.source - start) word) < 2 ^ 64
-  run_room fits next is bound =
-      let read : next.words_read ≡ mask.words_read + 1 = ap (λ (r : WordReading). r.words_read) is in
-      let long_next : length next.source.bits ≡ length marks = ap (λ (r : WordReading). length r.source.bits) is in
-      let long_mask : length marks ≡ length ms.bits = ap (λ (s : Bits). length s.bits) was.mask_source in
-      omega (arith, run_copies, long_mask, read, long_next, bound, (starts_half (take end marks)).0, length-take end marks)
+  run_room fits next is bound = grind (arith, run_copies, starts_half, length-take)
 
   -- What a part of the word keeps is a prefix of all that is kept.
   pub run_begun : (items : List A) → IsBeginning items (values.items ++ select (drop start values.source) (bits (length values.source - start) word)) → IsBeginning items (before ++ select source ms.bits)
@@ -73,13 +67,6 @@ module _ {A : Type 0} (source before : List A) (ms : Bits) (start : ℕ) (values
   pub run_filtered : (next : Copying A) (later : WordReading) → later ≡ after_word mask → next.source ≡ values.source → next.items ≡ values.items ++ select (drop start values.source) (bits (length values.source - start) word)
       → next.copies ≡ values.copies + starts_after false (bits (length values.source - start) word)
       → IsRunFiltered source before ms (start + count) next later
-  run_filtered next later is kept gave counted = rw is (record {
-    values_source = kept ∙ was.values_source;
-    mask_source = was.mask_source;
-    lengths = ap length kept ∙ was.lengths;
-    here = omega (arith, was.here, is_count);
-    gives = run_gives next.items gave ∙ ap (λ l. before ++ select (take end l) (take end marks)) (sym kept);
-    counts = omega (arith, counted, run_copies);
-  })
+  run_filtered next later is kept gave counted = grind (arith, run_gives, run_copies)
 
 pub ruleset run_steps = (run_fits, run_room, run_begun)

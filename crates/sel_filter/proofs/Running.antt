@@ -41,34 +41,13 @@ module _ {A : Type 0} (source target items : List A) (at rest t r : ℕ) (run : 
       ∙ ap (λ l. replicate t false ++ l) (bits_after 1 r (length source - at - t) (rest / 2 ^ t) (omega (arith, run_within)) run.ones ∙ ap (λ k. replicate r true ++ bits k (rest / 2 ^ t / 2 ^ r)) e)
 
   pub starts_one : starts_after false (bits (length source - at) rest) ≡ 1 + starts_after false (bits (length source - (at + t + r)) (rest / 2 ^ t / 2 ^ r))
-  starts_one =
-      let B = bits (length source - (at + t + r)) (rest / 2 ^ t / 2 ^ r) in
-      ap (starts_after false) bits_are
-      ∙ starts_skip t (replicate r true ++ B)
-      ∙ starts_more r B run.some
-      ∙ ap (λ k. 1 + k) (starts_false (length source - (at + t + r)) (rest / 2 ^ t / 2 ^ r) run.ends)
+  starts_one = grind (arith, bits_are, starts_skip, starts_more, starts_false)
 
   selects : select (drop at source) (bits (length source - at) rest) ≡ take r (drop (at + t) source) ++ select (drop (at + t + r) source) (bits (length source - (at + t + r)) (rest / 2 ^ t / 2 ^ r))
-  selects =
-      let B = bits (length source - (at + t + r)) (rest / 2 ^ t / 2 ^ r) in
-      ap (select (drop at source)) bits_are
-      ∙ select_skip (drop at source) t (replicate r true ++ B)
-      ∙ ap (λ l. select l (replicate r true ++ B)) (twice at t)
-      ∙ select_run (drop (at + t) source) r B (omega (arith, length-drop (at + t) source, run_within))
-      ∙ ap (λ l. take r (drop (at + t) source) ++ select l B) (twice (at + t) r)
-    where
-      twice : (a b : ℕ) → drop b (drop a source) ≡ drop (a + b) source
-      twice a b = drop-drop b a source
+  selects = grind (arith, bits_are, select_skip, select_run, length-drop, run_within, drop-drop)
 
   pub running_next : IsRunning source target (items ++ take r (drop (at + t) source)) (at + t + r) (rest / 2 ^ t / 2 ^ r)
-  running_next =
-      let B = bits (length source - (at + t + r)) (rest / 2 ^ t / 2 ^ r) in
-      let wide : length source - at ≡ length source - (at + t + r) + r + t = omega (arith, run_within) in
-      record {
-        within = run_within;
-        small = shr_below (rest / 2 ^ t) (length source - (at + t + r)) r (shr_below rest (length source - (at + t + r) + r) t (rw wide at was.small));
-        gives = append_assoc items (take r (drop (at + t) source)) (select (drop (at + t + r) source) B) ∙ ap (λ l. items ++ l) (sym selects) ∙ was.gives;
-      }
+  running_next = grind (arith, run_within, shr_below, append_assoc, selects)
 
   pub counts_next : (total copies : ℕ) → CountsRuns source total copies at rest → CountsRuns source total (copies + 1) (at + t + r) (rest / 2 ^ t / 2 ^ r)
   counts_next total copies counted = omega (arith, counted, starts_one)
@@ -80,8 +59,7 @@ pub running_last : {A : Type 0} (source target items : List A) (at rest : ℕ) �
 running_last source target items at rest none was = none_more (drop at source) items (length source - at) rest none ∙ was.gives
 
 pub counts_last : {A : Type 0} (source : List A) (total copies at rest : ℕ) → rest ≡ 0 → CountsRuns source total copies at rest → copies ≡ total
-counts_last source total copies at rest none counted =
-    omega (arith, counted, ap (λ w. starts_after false (bits (length source - at) w)) none, starts_of_zero (length source - at))
+counts_last source total copies at rest none counted = grind (arith, starts_of_zero)
 
 -- The lowest run of a word that is not 0.
 pub lowest_run : (rest : ℕ) → 0 < rest → rest < 2 ^ 64 → IsRun rest (trailing_zeros w64 rest) (trailing_ones w64 (rest / 2 ^ trailing_zeros w64 rest))

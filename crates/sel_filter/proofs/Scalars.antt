@@ -1,6 +1,6 @@
 -- The bits of bytes, from a byte on and before a byte boundary.
-use Rattle.sel_filter.proofs.Common.{◌≡◌, ℕ, zero, suc, ◌+◌, ◌-◌, ◌*◌, ◌/◌, ◌%◌, ◌^◌, ◌<◌, ◌≤◌, min, List, [], ◌∷◌, length, take, drop, get_or, refl, ap, sym, ◌∙◌}
-use Rattle.sel_filter.proofs.Common.{⊎_elim, cases_lt, nil_from_length, arith, ◌==◌, bit_at, length-drop, is_set, bits_from, length_bits_from, bit_at_shr}
+use Rattle.sel_filter.proofs.Common.{◌≡◌, ℕ, ◌+◌, ◌-◌, ◌*◌, ◌/◌, ◌%◌, ◌^◌, ◌<◌, ◌≤◌, min, List, [], ◌∷◌, length, take, drop, get_or, refl, sym, ◌∙◌}
+use Rattle.sel_filter.proofs.Common.{⊎_elim, cases_lt, nil_from_length, arith, length-drop, bits_from, length_bits_from, bit_at_shr}
 use Rattle.sel_bits.specs.Bits.{Bits, bit_in}
 use Rattle.sel_bits.proofs.BitLists.{bits_from_part, same_bits_from}
 use Rattle.sel_bits.proofs.Loads.{from_byte}
@@ -28,18 +28,10 @@ pub first_bits : (bytes : List ℕ) (o n count : ℕ) → o < 8 → count ≤ n 
 first_bits bytes o n count place le within some = same_bits_from (get_or bytes 0 0 / 2 ^ o ∷ []) bytes 0 o count same ∙ bits_part bytes o n 0 0 count refl (omega arith)
   where
     same : (i : ℕ) → i < count → bit_in (get_or bytes 0 0 / 2 ^ o ∷ []) (0 + i) ≡ bit_in bytes (o + i)
-    same i lt =
-        let here : (0 + i) / 8 ≡ 0 = omega arith in
-        let there : (o + i) / 8 ≡ 0 = omega arith in
-        let place_here : (0 + i) % 8 ≡ i = omega arith in
-        let place_there : i + o ≡ (o + i) % 8 = omega arith in
-        (λ j. is_set (get_or (get_or bytes 0 0 / 2 ^ o ∷ []) (here j) 0) (place_here j))
-        ∙ ap (λ b. b == 1) (bit_at_shr (get_or bytes 0 0) o i ∙ ap (bit_at (get_or bytes 0 0)) place_there)
-        ∙ ap (λ j. is_set (get_or bytes j 0) ((o + i) % 8)) (sym there)
+    same i lt = grind (arith, bit_at_shr)
 
 boundary_some : (o n : ℕ) → 0 < o → up_to_boundary o n ≡ min n (8 - o)
-boundary_some zero n some = absurd (omega arith)
-boundary_some (suc o) n some = refl
+boundary_some o n some = grind arith
 
 -- The rows before the boundary of a mask that does not begin at one.
 pub boundary_rows : (mask : Bits) (o n count : ℕ) → 0 < o → o ≡ mask.offset % 8 → n ≡ length mask.bits → count ≡ min n (8 - o) → rows_to_boundary mask ≡ count

@@ -1,4 +1,5 @@
 -- The elements that a mask selects.
+use Rattle.std.proofs.lemmas.Grind.{common_steps}
 use Rattle.sel_filter.proofs.Common.{◌≡◌, ℕ, zero, suc, ◌+◌, ◌≤◌, Bool, true, false, List, [], ◌∷◌, ◌++◌, length, take, drop, replicate, refl, ap, sym, ◌∙◌}
 use Rattle.sel_filter.proofs.Common.{arith, cond, length-take, take-add, take_all, append_assoc, count_by-le-length, count_true, select, nil_from_length}
 use Rattle.std.proofs.lemmas.List.{take-append-drop}
@@ -8,31 +9,25 @@ use Rattle.std.proofs.lemmas.List.Sums.{sum_by-cons, sum_by-append}
 -- ---- the number of selected elements
 
 pub length-select : {A : Type 0} → (xs : List A) (ms : List Bool) → length xs ≡ length ms → length (select xs ms) ≡ count_by (λ b. b) ms
-length-select [] [] h = refl
 length-select (x ∷ xs) (true ∷ ms) h = omega (arith, length-select xs ms (omega arith), sum_by-cons (λ b. cond b 1 0) true ms)
 length-select (x ∷ xs) (false ∷ ms) h = omega (arith, length-select xs ms (omega arith), sum_by-cons (λ b. cond b 1 0) false ms)
-length-select xs ms h = absurd (omega arith)
+length-select xs ms h = grind (arith, common_steps)
 
 pub few_kept : {A : Type 0} → (xs : List A) (ms : List Bool) → length (select xs ms) ≤ length xs
-few_kept [] ms = omega arith
-few_kept (x ∷ xs) [] = omega arith
 few_kept (x ∷ xs) (true ∷ ms) = omega (arith, few_kept xs ms)
 few_kept (x ∷ xs) (false ∷ ms) = omega (arith, few_kept xs ms)
+few_kept xs ms = omega arith
 
 -- A mask selects equally many elements of lists of equal length.
 pub as_many_kept : {A B : Type 0} → (xs : List A) (ys : List B) (ms : List Bool) → length xs ≡ length ys → length (select xs ms) ≡ length (select ys ms)
-as_many_kept [] [] ms h = refl
-as_many_kept (x ∷ xs) (y ∷ ys) [] h = refl
 as_many_kept (x ∷ xs) (y ∷ ys) (true ∷ ms) h = ap suc (as_many_kept xs ys ms (omega arith))
 as_many_kept (x ∷ xs) (y ∷ ys) (false ∷ ms) h = as_many_kept xs ys ms (omega arith)
-as_many_kept xs ys ms h = absurd (omega arith)
+as_many_kept xs ys ms h = grind (arith, common_steps)
 
 -- A mask with only true entries selects all elements.
 pub all_kept : {A : Type 0} → (xs : List A) (ms : List Bool) → length xs ≡ length ms → count_by (λ b. b) ms ≡ length ms → select xs ms ≡ xs
-all_kept [] ms h count = refl
-all_kept (x ∷ xs) [] h count = absurd (omega arith)
 all_kept (x ∷ xs) (true ∷ ms) h count = ap (λ l. x ∷ l) (all_kept xs ms (omega arith) (omega (arith, count, sum_by-cons (λ b. cond b 1 0) true ms)))
-all_kept (x ∷ xs) (false ∷ ms) h count = absurd (omega (arith, count, sum_by-cons (λ b. cond b 1 0) false ms, count_by-le-length (λ (b : Bool). b) ms))
+all_kept xs ms h count = grind (arith, count_by-le-length)
 
 -- A mask without a true entry selects no element.
 pub none_kept : {A : Type 0} → (xs : List A) (ms : List Bool) → length xs ≡ length ms → count_by (λ b. b) ms ≡ 0 → [] ≡ select xs ms
@@ -51,15 +46,13 @@ count_true_none zero = refl
 count_true_none (suc k) = omega (arith, count_cons false (replicate k false), count_true_none k)
 
 pub select-append : {A : Type 0} → (xs : List A) (ms : List Bool) (ys : List A) (ns : List Bool) → length xs ≡ length ms → select (xs ++ ys) (ms ++ ns) ≡ select xs ms ++ select ys ns
-select-append [] [] ys ns long = refl
 select-append (x ∷ xs) (true ∷ ms) ys ns long = ap (λ l. x ∷ l) (select-append xs ms ys ns (omega arith))
 select-append (x ∷ xs) (false ∷ ms) ys ns long = select-append xs ms ys ns (omega arith)
-select-append xs ms ys ns long = absurd (omega arith)
+select-append xs ms ys ns long = grind (arith, common_steps)
 
 pub select_none : {A : Type 0} → (xs : List A) (k : ℕ) → select xs (replicate k false) ≡ []
-select_none [] k = refl
-select_none (x ∷ xs) zero = refl
 select_none (x ∷ xs) (suc k) = select_none xs k
+select_none xs k = cc
 
 -- False entries at the end of a mask select nothing.
 pub select_front : {A : Type 0} → (xs : List A) (ms : List Bool) (k : ℕ) → select xs (ms ++ replicate k false) ≡ select (take (length ms) xs) ms
@@ -77,15 +70,12 @@ select_split xs ms k long =
 -- The selected elements of a part follow those before it.
 pub select_part : {A : Type 0} (xs : List A) (ms : List Bool) (at count : ℕ) → length xs ≡ length ms
     → select (take (at + count) xs) (take (at + count) ms) ≡ select (take at xs) (take at ms) ++ select (take count (drop at xs)) (take count (drop at ms))
-select_part xs ms at count long =
-    (λ i. select (take-add at count xs i) (take-add at count ms i))
-    ∙ select-append (take at xs) (take at ms) (take count (drop at xs)) (take count (drop at ms)) (omega (arith, length-take at xs, length-take at ms))
+select_part xs ms at count long = grind (arith, take-add, select-append, length-take)
 
 -- The same after the elements of another list.
 pub select_more : {A : Type 0} (front old new xs : List A) (ms : List Bool) (at count : ℕ) → length xs ≡ length ms → old ≡ front ++ select (take at xs) (take at ms)
     → new ≡ old ++ select (take count (drop at xs)) (take count (drop at ms)) → new ≡ front ++ select (take (at + count) xs) (take (at + count) ms)
-select_more front old new xs ms at count long was is =
-    is ∙ ap (λ l. l ++ select (take count (drop at xs)) (take count (drop at ms))) was ∙ append_assoc front _ _ ∙ ap (λ l. front ++ l) (sym (select_part xs ms at count long))
+select_more front old new xs ms at count long was is = grind (arith, append_assoc, select_part)
 
 -- At the end of the mask all elements are selected.
 pub select_end : {A : Type 0} (xs : List A) (ms : List Bool) (n : ℕ) → length xs ≡ length ms → length ms ≤ n → select (take n xs) (take n ms) ≡ select xs ms

@@ -9,24 +9,15 @@ module _ (vb mb : List ℕ) (vs s n block width : ℕ) (within : 64 * block + wi
     (word_is : word ≡ word_of (bits_from (drop (8 * block) vb) vs width)) (marks_is : marks ≡ word_of (bits_from (drop (8 * block) mb) s width)) where
   -- The bits of a word are those of a part of the rows.
   pub words_kept : select (bits 64 word) (bits 64 marks) ≡ select (take width (drop (64 * block) (bits_from vb vs n))) (take width (drop (64 * block) (bits_from mb s n)))
-  words_kept =
-      (λ i. select (bits 64 (word_is i)) (bits 64 (marks_is i)))
-      ∙ words_select _ _ width (length_bits_from (drop (8 * block) vb) vs width) (length_bits_from (drop (8 * block) mb) s width) few
-      ∙ (λ i. select (part vb vs i) (part mb s i))
-    where
-      part : (bytes : List ℕ) (o : ℕ) → bits_from (drop (8 * block) bytes) o width ≡ take width (drop (64 * block) (bits_from bytes o n))
-      part bytes o = bits_part bytes o n (8 * block) (64 * block) width (omega arith) within
+  words_kept = grind (arith, words_select, length_bits_from, bits_part)
 
   pub word_more : (front kept more : List Bool) (end : ℕ) → kept ≡ front ++ select (take (64 * block) (bits_from vb vs n)) (take (64 * block) (bits_from mb s n)) → more ≡ kept ++ select (bits 64 word) (bits 64 marks)
       → 64 * block + width ≡ end → more ≡ front ++ select (take end (bits_from vb vs n)) (take end (bits_from mb s n))
-  word_more front kept more end was is to =
-      select_more front kept more (bits_from vb vs n) (bits_from mb s n) (64 * block) width (length_bits_from vb vs n ∙ sym (length_bits_from mb s n)) was (is ∙ ap (λ l. kept ++ l) words_kept)
-      ∙ (λ i. front ++ select (take (to i) (bits_from vb vs n)) (take (to i) (bits_from mb s n)))
+  word_more front kept more end was is to = grind (arith, select_more, length_bits_from, words_kept)
 
 -- After the last word all bits are filtered.
 pub words_all : (vb mb : List ℕ) (vs s n : ℕ) (front kept : List Bool) → kept ≡ front ++ select (take n (bits_from vb vs n)) (take n (bits_from mb s n)) → kept ≡ front ++ select (bits_from vb vs n) (bits_from mb s n)
-words_all vb mb vs s n front kept was =
-    was ∙ ap (λ l. front ++ l) (select_end (bits_from vb vs n) (bits_from mb s n) n (length_bits_from vb vs n ∙ sym (length_bits_from mb s n)) (omega (arith, length_bits_from mb s n)))
+words_all vb mb vs s n front kept was = grind (arith, select_end, length_bits_from)
 
 -- The bits of the rows before a byte boundary of the mask, then those of the others.
 pub rows_kept : (vb mb : List ℕ) (vs s n head : ℕ) (xs ms kept first last : List Bool) (word marks : ℕ) → s < 8 → head ≡ min n ((8 - s) % 8) → xs ≡ bits_from vb vs n → ms ≡ bits_from mb s n → kept ≡ []

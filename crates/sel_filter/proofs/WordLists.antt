@@ -1,13 +1,14 @@
 -- The bits of the word of a list.
+use Rattle.std.proofs.lemmas.Grind.{common_steps}
 use Rattle.sel_filter.proofs.Common.{◌≡◌, ℕ, zero, suc, ◌+◌, ◌-◌, ◌*◌, ◌/◌, ◌^◌, ◌<◌, ◌≤◌, ◌∙◌, sym, ap, arith, List, [], ◌∷◌, ◌++◌, length, replicate, Bool}
-use Rattle.sel_filter.proofs.Common.{true, false, count_ones, ◌==◌, bit_at, pow-suc, bit_at-lt, bit_at_lowest, is_set, bits, word_of, count_true, bits_suc}
-use Rattle.sel_filter.proofs.Common.{bits_zero, bits_split, length_bits, word_of_lt, append-nil, cond_of_bit, select}
+use Rattle.sel_filter.proofs.Common.{true, false, count_ones, ◌==◌, bit_at, pow-suc, bits, word_of, count_true, bits_suc}
+use Rattle.sel_filter.proofs.Common.{bits_zero, bits_split, length_bits, word_of_lt, append-nil, select}
 use Rattle.std.proofs.Math.Nat.{div-eq_of_lt}
 use Rattle.std.specs.Prelude.{◌%◌, bit_or}
 use Rattle.std.proofs.lemmas.Nat.{or_comm, or_shifted, shl_whole}
 use lib.Count.{ones_step}
 use Rattle.sel_bits.proofs.Packed.{bits_word_of as listed}
-use Rattle.sel_filter.proofs.Selects.{count_cons, select_none, all_kept}
+use Rattle.sel_filter.proofs.Selects.{select_none, all_kept}
 
 pub bits_of_zero : (n : ℕ) → bits n 0 ≡ replicate n false
 bits_of_zero zero = bits_zero 0
@@ -27,23 +28,13 @@ bits_word_of l n le =
 
 -- Without a set bit, nothing is selected.
 pub none_more : {A : Type 0} → (xs kept : List A) (n m : ℕ) → m ≡ 0 → kept ≡ kept ++ select xs (bits n m)
-none_more xs kept n m none =
-    sym (append-nil kept) ∙ ap (λ l. kept ++ l) (sym (ap (λ w. select xs (bits n w)) none ∙ ap (select xs) (bits_of_zero n) ∙ select_none xs n))
+none_more xs kept n m none = grind (arith, append-nil, bits_of_zero, select_none)
 
 -- The number of set bits of a word.
 pub ones_is : (n m : ℕ) → m < 2 ^ n → count_ones m ≡ count_true (bits n m)
 unfolding lib.Count.ones
 ones_is zero m fits = let none : m ≡ 0 = omega arith in ap count_ones none ∙ sym (ap count_true (bits_zero m))
-ones_is (suc n) m fits =
-    omega (
-      arith,
-      ones_step m,
-      ones_is n (m / 2) (omega (arith, pow-suc 2 n)),
-      ap count_true (bits_suc n m),
-      count_cons (is_set m 0) (bits n (m / 2)),
-      cond_of_bit (bit_at m 0) (bit_at-lt m 0),
-      bit_at_lowest m,
-    )
+ones_is (suc n) m fits = grind (arith, common_steps, ones_step, bits_suc, (ones_is n (m / 2) (omega (arith, pow-suc 2 n))))
 
 -- The number of set bits of the word of a list.
 pub count_word : (l : List Bool) → count_ones (word_of l) ≡ count_true l

@@ -1,4 +1,5 @@
 -- Runs of set bits in a word.
+use Rattle.std.proofs.lemmas.Grind.{common_steps}
 use Rattle.sel_filter.proofs.Common.{◌≡◌, ℕ, zero, suc, ◌+◌, ◌-◌, ◌*◌, ◌/◌, ◌^◌, ◌<◌, ◌≤◌, ◌∙◌, sym, refl, ap, arith, List, [], ◌∷◌, ◌++◌, length, take, drop}
 use Rattle.sel_filter.proofs.Common.{replicate, Bool, true, false, ◌==◌, bit_at, bit_at-suc, bits, select, starts_after, bits_suc, bits_zero, bits_split}
 use Rattle.sel_filter.proofs.WordLists.{bits_of_zero}
@@ -18,14 +19,12 @@ bits_after b t n w le same =
 
 module _ {A : Type 0} where
   pub select_skip : (xs : List A) (t : ℕ) (ms : List Bool) → select xs (replicate t false ++ ms) ≡ select (drop t xs) ms
-  select_skip xs zero ms = refl
-  select_skip [] (suc t) ms = refl
   select_skip (x ∷ xs) (suc t) ms = select_skip xs t ms
+  select_skip xs t ms = grind (arith, common_steps)
 
   pub select_run : (xs : List A) (r : ℕ) (ms : List Bool) → r ≤ length xs → select xs (replicate r true ++ ms) ≡ take r xs ++ select (drop r xs) ms
-  select_run xs zero ms le = refl
-  select_run [] (suc r) ms le = absurd (omega arith)
   select_run (x ∷ xs) (suc r) ms le = ap (λ l. x ∷ l) (select_run xs r ms (omega arith))
+  select_run xs r ms le = grind arith
 
 pub starts_skip : (t : ℕ) (ms : List Bool) → starts_after false (replicate t false ++ ms) ≡ starts_after false ms
 starts_skip zero ms = refl
@@ -37,15 +36,12 @@ starts_run (suc r) ms = starts_run r ms
 
 -- A run of any length is one start.
 pub starts_more : (r : ℕ) (ms : List Bool) → 0 < r → starts_after false (replicate r true ++ ms) ≡ 1 + starts_after true ms
-starts_more zero ms some = absurd (omega arith)
-starts_more (suc r) ms some = ap (λ n. 1 + n) (starts_run r ms)
+starts_more r ms some = grind (arith, starts_run)
 
 -- Before a false bit, or at the end, the preceding bit does not matter.
 pub starts_false : (n w : ℕ) → bit_at w 0 ≡ 0 → starts_after true (bits n w) ≡ starts_after false (bits n w)
 starts_false zero w low = ap (starts_after true) (bits_zero w) ∙ sym (ap (starts_after false) (bits_zero w))
-starts_false (suc n) w low =
-    let e : bits (suc n) w ≡ false ∷ bits n (w / 2) = bits_suc n w ∙ ap (λ x. (x == 1) ∷ bits n (w / 2)) low in
-    ap (starts_after true) e ∙ sym (ap (starts_after false) e)
+starts_false (suc n) w low = grind (arith, bits_suc)
 
 -- A run that is cut at a boundary adds at most one start.
 pub starts_cut : (ms : List Bool) → starts_after false ms ≤ starts_after true ms + 1

@@ -22,10 +22,7 @@ module _ (v m : ℕ) (m_fits : m < 2 ^ 64) where
 
   pub compress_bits : bits (count_ones m) (compress v m) ≡ select (bits 64 v) (bits 64 m)
   unfolding compress
-  compress_bits =
-      let s = select (bits 64 v) (bits 64 m) in
-      let none : count_ones m - length s ≡ 0 = omega (arith, kept_ones) in
-      bits_word_of s (count_ones m) (omega (arith, kept_ones)) ∙ ap (λ k. s ++ replicate k false) none ∙ append-nil s
+  compress_bits = grind (arith, kept_ones, bits_word_of, append-nil)
 
 full_count : count_ones 18446744073709551615 ≡ 64
 full_count = count_word (replicate 64 true)
@@ -60,9 +57,6 @@ select_one word marks t lt is =
 
 -- The words of two lists.
 pub words_select : (a b : List Bool) (n : ℕ) → length a ≡ n → length b ≡ n → n ≤ 64 → select (bits 64 (word_of a)) (bits 64 (word_of b)) ≡ select a b
-words_select a b n la lb few =
-    (λ i. select (bits_word_of a 64 (omega (arith, la)) i) (bits_word_of b 64 (omega (arith, lb)) i))
-    ∙ select_front (a ++ replicate (64 - length a) false) b (64 - length b)
-    ∙ ap (λ l. select l b) (take-append-le (length b) a (replicate (64 - length a) false) (omega (arith, la, lb)) ∙ take_all (length b) a (omega (arith, la, lb)))
+words_select a b n la lb few = grind (arith, bits_word_of, select_front, take-append-le, take_all)
 
 pub ruleset selected_bits = (few_ones, compress_fits, compress_bits, select_full, none_more)

@@ -1,6 +1,6 @@
 use Rattle.sel_filter.proofs.Common.{◌≡◌, ◌+◌, ◌-◌, ◌*◌, ◌∷◌, [], ◌++◌, ◌∙◌, ap, sym, length, refl, arith, append-nil, append_assoc, bit_and, flat_map}
 use Rattle.sel_filter.proofs.Common.{ℕ, List, ◌<◌, ◌≤◌, ◌^◌, and_le_l, bits, select}
-use Rattle.std.proofs.Common.{add-one, rules}
+use Rattle.std.proofs.Common.{add-one}
 use Rattle.std.proofs.Math.Nat.{suc-mul}
 use Rattle.sel_filter.proofs.Dense.{few_left, few_step}
 use Rattle.sel_filter.proofs.WordLists.{none_more}
@@ -12,8 +12,7 @@ fewer : {A : Type 0} → (block : List A) (rest N : ℕ) → 0 < rest → rest <
 fewer block rest N some fits few = ap (λ n. n * N) (sym (few_left block rest some fits few) ∙ add-one _) ∙ suc-mul _ N
 
 pub push_array-requires : goal.push_array-requires
-push_array-requires g c =
-    (search rules, omega (arith, c.loop-rest.invariant.room, fewer c.args.block.now c.loop-rest.rest g.row.N (omega arith) c.loop-rest.invariant.fits c.requires.block))
+push_array-requires g c = grind (arith, fewer)
 
 pub loop-rest-preserved : goal.loop-rest-preserved
 loop-rest-preserved g c =

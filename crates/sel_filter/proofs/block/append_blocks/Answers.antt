@@ -6,9 +6,7 @@ use Rattle.sel_filter.proofs.RunFiltering.{begins_through}
 use Rattle.sel_filter.proofs.block.append_blocks.Goals as goal
 
 pub returns-in_err-append_block-clause-begun : goal.returns-in_err-append_block-clause-begun
-returns-in_err-append_block-clause-begun g c =
-    let p = err_from_is_err_and c.from_residual.result c.from_residual.ensures.1 in
-    rw p.1 (begins_through c.args.out.now.items _ c.loop-block.out.items c.append_block.new.out.items c.loop-block.invariant c.in_err-append_block.ensures.begun)
+returns-in_err-append_block-clause-begun g c = grind (arith, err_from_is_err_and, begins_through)
 
 pub loop-block-preserved-then-word-eq0 : goal.loop-block-preserved-then-word-eq0
 loop-block-preserved-then-word-eq0 g c =
@@ -26,9 +24,7 @@ append_few-requires-clause-fits g c =
     last_fits c.args.values.now _ c.args.bytes.now 0 _ refl refl c.first_word-word.result (rw take_rest at c.first_word-word.ensures)
 
 pub returns-in_err-append_few-clause-begun : goal.returns-in_err-append_few-clause-begun
-returns-in_err-append_few-clause-begun g c =
-    let p = err_from_is_err_and c.from_residual-in_err-append_few.result c.from_residual-in_err-append_few.ensures.1 in
-    rw p.1 (begins_through c.args.out.now.items _ c.loop-block.out.items c.append_few.new.out.items c.loop-block.invariant c.in_err-append_few.ensures.begun)
+returns-in_err-append_few-clause-begun g c = grind (arith, err_from_is_err_and, begins_through)
 
 pub returns-clause-appended : goal.returns-clause-appended
 returns-clause-appended g c =

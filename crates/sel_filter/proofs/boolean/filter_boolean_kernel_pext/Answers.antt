@@ -8,8 +8,4 @@ overflow_add-count c =
     record { fits = omega (arith, c.len-whole.ensures, more_kept _ _ _ _ _ _ c.loop-marks.invariant c.unwrap-block.result c.in-Some.marks block c.in-Some.ensures.block) }
 
 pub loop-marks-preserved : goal.loop-marks-preserved
-loop-marks-preserved c =
-    let block = rw c.unwrap-block.ensures at c.next-in-Some.ensures.block in
-    let after = rw c.unwrap-block.ensures at c.next-in-Some.ensures.after in
-    rw (c.in_ok-append_kept.ensures.appended, c.in-Some.ensures.after, after)
-    (kept_more _ _ _ _ _ _ c.loop-marks.invariant c.unwrap-block.result c.in-Some.marks block c.in-Some.ensures.block)
+loop-marks-preserved c = grind (arith, kept_more)

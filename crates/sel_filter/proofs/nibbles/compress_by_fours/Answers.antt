@@ -1,4 +1,5 @@
-use Rattle.sel_filter.proofs.Common.{◌+◌, ◌*◌, arith}
+use Rattle.std.proofs.lemmas.Grind.{common_steps}
+use Rattle.sel_filter.proofs.Common.{arith}
 use Rattle.sel_filter.proofs.ByFours.{packed_first, packed_next, few_bits}
 use Rattle.sel_filter.proofs.nibbles.compress_by_fours.Goals as goal
 
@@ -6,9 +7,7 @@ pub loop-i-init : goal.loop-i-init
 loop-i-init c = packed_first c.args.v c.args.m
 
 pub overflow_add-place : goal.overflow_add-place
-overflow_add-place c =
-    let next = packed_next _ _ _ _ _ _ _ c.loop-i-test.true c.loop-i.invariant in
-    record { fits = omega (arith, next.count, few_bits c.args.v c.args.m (4 * (c.loop-i._i + 1))) }
+overflow_add-place c = grind (arith, common_steps, packed_next, few_bits)
 
 pub loop-i-preserved : goal.loop-i-preserved
 loop-i-preserved c = rw c.from.ensures (packed_next _ _ _ _ _ _ _ c.loop-i-test.true c.loop-i.invariant)

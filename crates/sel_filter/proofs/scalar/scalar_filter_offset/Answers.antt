@@ -1,22 +1,10 @@
-use Rattle.sel_filter.proofs.Common.{◌≡◌, ◌-◌, ◌/◌, ◌^◌, ◌++◌, ◌∷◌, [], ◌∙◌, length, take, drop, get_or, ap, sym, arith, take_all, length-take}
-use Rattle.sel_filter.proofs.Common.{length-drop, bits_from, select}
+use Rattle.sel_filter.proofs.Common.{◌≡◌, ◌-◌, ◌∙◌, length, take, drop, ap, sym, arith, take_all, length-take}
+use Rattle.sel_filter.proofs.Common.{length-drop, bits_from}
 use Rattle.sel_filter.proofs.Scalars.{first_bits, bits_rest, boundary_rows}
 use Rattle.sel_filter.proofs.scalar.scalar_filter_offset.Goals as goal
 
 pub returns-clause-appended : goal.returns-clause-appended
-returns-clause-appended g c =
-    let slice = c.as_slice-offset.ensures in
-    let bytes = c.as_slice-offset.result.0.now in
-    let o = c.as_slice-offset.result.1 in
-    let mask = c.args.mask.now in
-    let values = c.args.values.now in
-    let old = c.args.out.now.items in
-    let count = c.min-count.result in
-    let boundary = boundary_rows mask o _ count (omega arith) slice.offset slice.len c.min-count.ensures in
-    let long : length (take count values) ≡ count = omega (arith, length-take count values, c.min-count.ensures, slice.len, c.requires) in
-    let bits = ap (bits_from (get_or bytes 0 0 / 2 ^ o ∷ []) 0) long
-    ∙ first_bits bytes o _ count (omega (arith, slice.offset)) (omega (arith, c.min-count.ensures)) (omega (arith, c.min-count.ensures)) (omega (arith, slice.bytes)) ∙ ap (take count) (sym slice.bits) in
-    c.in_ok-scalar_filter.ensures.appended ∙ ap (λ bs. old ++ select (take count values) bs) bits ∙ ap (λ k. old ++ select (take k values) (take k mask.bits)) (sym boundary)
+returns-clause-appended g c = grind (arith, boundary_rows, length-take, first_bits)
 
 pub returns-clause-bits : goal.returns-clause-bits
 returns-clause-bits g c =
