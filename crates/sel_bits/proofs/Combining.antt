@@ -1,7 +1,7 @@
 -- Functions applied bit by bit to lists and to words.
 use Rattle.std.proofs.lemmas.Grind.{common_steps}
-use Rattle.std.proofs.Common.{◌≡◌, ℕ, suc, ◌+◌, ◌-◌, ◌%◌, ◌^◌, ◌<◌, ◌≤◌, ◌∙◌, sym, refl, ap, subst, arith, min, max, List, [], ◌∷◌, ◌++◌, length, get_or, take, drop, map, Bool, false, cond, not, ◌&&◌, ◌||◌}
-use Rattle.std.specs.Prelude.{bit_and, bit_or, ◌==◌, if◌then◌else◌}
+use Rattle.std.proofs.Common.{◌≡◌, ℕ, suc, ◌+◌, ◌%◌, ◌^◌, ◌<◌, ◌≤◌, ◌∙◌, sym, refl, ap, subst, arith, List, [], ◌∷◌, ◌++◌, length, get_or, take, drop, map, Bool, false, cond, not, ◌&&◌, ◌||◌}
+use Rattle.std.specs.Prelude.{bit_and, bit_or, if◌then◌else◌}
 use Rattle.std.specs.Int.{bit_at, bit_not, w64}
 use Rattle.std.proofs.Math.Seq.{take-add}
 use Rattle.std.proofs.lemmas.Bool.Decides.{nat_tests}
@@ -59,32 +59,20 @@ of_choice ms ts fs = cc
 number_of_is_set : (w i : ℕ) → bit_at w i ≡ cond (is_set w i) 1 0
 number_of_is_set w i = sym (cond_of_bit (bit_at w i) (bit_at-lt w i))
 
-test_min : (a b : ℕ) → a < 2 → b < 2 → (min a b == 1) ≡ ((a == 1) && (b == 1))
-test_min a b la lb = grind (arith, nat_tests)
-
-test_max : (a b : ℕ) → a < 2 → b < 2 → (max a b == 1) ≡ ((a == 1) || (b == 1))
-test_max a b la lb = grind (arith, nat_tests)
-
-test_less : (a : ℕ) → a < 2 → (1 - a == 1) ≡ not (a == 1)
-test_less a la = grind (arith, nat_tests)
-
 pub set_and : (a b i : ℕ) → is_set (bit_and a b) i ≡ (is_set a i && is_set b i)
-set_and a b i = ap (λ x. x == 1) (bit_at_and a b i) ∙ test_min (bit_at a i) (bit_at b i) (bit_at-lt a i) (bit_at-lt b i)
+set_and a b i = grind (arith, nat_tests, bit_at_and, bit_at-lt a i, bit_at-lt b i)
 
 pub set_or : (a b i : ℕ) → is_set (bit_or a b) i ≡ (is_set a i || is_set b i)
-set_or a b i = ap (λ x. x == 1) (bit_at_or a b i) ∙ test_max (bit_at a i) (bit_at b i) (bit_at-lt a i) (bit_at-lt b i)
+set_or a b i = grind (arith, nat_tests, bit_at_or, bit_at-lt a i, bit_at-lt b i)
 
 pub set_not : (a i : ℕ) → a < 2 ^ 64 → i < 64 → is_set (bit_not w64 a) i ≡ not (is_set a i)
-set_not a i fits lt = ap (λ x. x == 1) (bit_at_not w64 a i fits lt) ∙ test_less (bit_at a i) (bit_at-lt a i)
+set_not a i fits lt = grind (arith, nat_tests, bit_at_not w64 a i fits lt, bit_at-lt a i)
 
 pub set_and_not : (a b i : ℕ) → b < 2 ^ 64 → i < 64 → is_set (bit_and a (bit_not w64 b)) i ≡ (is_set a i && not (is_set b i))
 set_and_not a b i fits lt = set_and a (bit_not w64 b) i ∙ ap (λ t. is_set a i && t) (set_not b i fits lt)
 
 pub set_or_not : (a b i : ℕ) → b < 2 ^ 64 → i < 64 → is_set (bit_or a (bit_not w64 b)) i ≡ (is_set a i || not (is_set b i))
 set_or_not a b i fits lt = set_or a (bit_not w64 b) i ∙ ap (λ t. is_set a i || t) (set_not b i fits lt)
-
-chosen : (m t f : Bool) → ((t && m) || (f && not m)) ≡ (if m then t else f)
-chosen m t f = grind (arith, nat_tests)
 
 pub set_choice : (m t f i : ℕ) → m < 2 ^ 64 → i < 64 → is_set (bit_or (bit_and t m) (bit_and f (bit_not w64 m))) i ≡ (if is_set m i then is_set t i else is_set f i)
 set_choice m t f i fits lt = grind (arith, set_or, set_and, set_and_not)

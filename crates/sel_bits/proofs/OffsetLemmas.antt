@@ -18,9 +18,6 @@ neg_parts number x xs h = or_parts (is_negative (number x)) (has_negative number
 fall_parts : {T : Type 0} (number : T → ℤ) → (x y : T) (xs : List T) → has_fall number (x ∷ (y ∷ xs)) ≡ false → (is_below (number y) (number x) ≡ false) × (has_fall number (y ∷ xs) ≡ false)
 fall_parts number x y xs h = or_parts (is_below (number y) (number x)) (falls_after number y xs) h
 
-shown : (z : ℤ) → is_negative z ≡ false → z ≡ pos (magnitude z)
-shown z h = grind arith
-
 pub positive : {T : Type 0} (number : T → ℤ) → (xs : List T) → has_negative number xs ≡ false → map number xs ≡ map pos (magnitudes number xs)
 positive number [] h = refl
 positive number (x ∷ xs) h = grind (arith, (positive number xs (neg_parts number x xs h).1))
