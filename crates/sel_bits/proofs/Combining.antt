@@ -11,10 +11,7 @@ use Rattle.std.proofs.lemmas.List.{get_or-take, get_or-drop}
 use Rattle.sel_bits.specs.Bits.{zip_with, zip_three}
 use Rattle.sel_bits.specs.Choose.{choose}
 use Rattle.sel_bits.specs.Words.{is_set, bits, word_of}
-use Rattle.sel_bits.proofs.Lists.{cond_of_bit}
-use Rattle.sel_bits.proofs.Padded.{word_of_lt}
-use Rattle.sel_bits.proofs.Packed.{bits_word_of, is_set_word_of}
-use Rattle.sel_bits.proofs.Shifts.{bit_at_mod}
+use Rattle.sel_bits.proofs.{Lists.cond_of_bit, Padded.word_of_lt, Packed.bits_word_of, Packed.is_set_word_of, Shifts.bit_at_mod}
 use Rattle.sel_bits.proofs.WordsOf.{length_part, is_word_of}
 
 pub length-zip_three : {A B C D : Type 0} (f : A → B → C → D) (xs : List A) (ys : List B) (zs : List C) → length xs ≡ length ys → length xs ≡ length zs → length (zip_three f xs ys zs) ≡ length xs

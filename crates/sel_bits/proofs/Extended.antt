@@ -11,8 +11,7 @@ use Rattle.std.proofs.lemmas.List.Sums.{sum_by-append}
 use Rattle.std.proofs.lemmas.Simd.{ones-mask_l}
 use Rattle.sel_bits.specs.Bits.{count_true}
 use Rattle.sel_bits.specs.Words.{bits, word_of}
-use Rattle.sel_bits.proofs.Combining.{packed_more}
-use Rattle.sel_bits.proofs.Packed.{bits_word_of}
+use Rattle.sel_bits.proofs.{Combining.packed_more, Packed.bits_word_of}
 
 -- The word of bits that are all false, and of bits that are all true.
 pub word_of_false : (n : ℕ) → word_of (replicate n false) ≡ 0

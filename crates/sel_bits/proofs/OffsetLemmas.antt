@@ -1,7 +1,6 @@
 -- Offsets that break no rule.
-use Rattle.std.proofs.lemmas.Grind.{elements}
+use Rattle.std.proofs.lemmas.Grind.{elements, common_steps}
 use Rattle.std.proofs.Common.{◌≡◌, ℕ, zero, suc, ◌+◌, ◌≤◌, ◌<◌, ℤ, pos, Bool, false, ◌||◌, List, [], ◌∷◌, length, take, drop, map, None, refl, ap, sym, ◌∙◌, arith, get_or}
-use Rattle.std.proofs.lemmas.Grind.{common_steps}
 use Rattle.std.proofs.lemmas.List.{length-map, get_or-map, take-map, drop-map}
 use Rattle.sel_bits.specs.Signs.{is_negative, is_below, magnitude}
 use Rattle.sel_bits.specs.Offsets.{magnitudes, has_negative, has_fall, falls_after, IsOffsets, IsRising, offsets_fault}

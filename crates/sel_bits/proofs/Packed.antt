@@ -11,9 +11,7 @@ use Rattle.std.proofs.lemmas.List.{get_or_default, same_lists, length-take, leng
 use Rattle.std.proofs.lemmas.List.Sums.{sum_by-cons}
 use Rattle.sel_bits.specs.Words.{is_set, bits, word_of}
 use Rattle.sel_bits.specs.Bits.{bits_from}
-use Rattle.sel_bits.proofs.BitLists.{length_bits_from, get_bits_from}
-use Rattle.sel_bits.proofs.Packs.{length_bits, get_bits}
-use Rattle.sel_bits.proofs.Padded.{bit_at_word_of, word_of_lt}
+use Rattle.sel_bits.proofs.{BitLists.length_bits_from, BitLists.get_bits_from, Packs.length_bits, Packs.get_bits, Padded.bit_at_word_of, Padded.word_of_lt}
 
 test_of_cond : (b : Bool) → (cond b 1 0 == 1) ≡ b
 test_of_cond b = grind (arith, nat_tests)

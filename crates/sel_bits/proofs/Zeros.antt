@@ -6,8 +6,7 @@ use Rattle.std.proofs.lemmas.Nat.Bits.{bit_at-trailing_zeros, bit_at_cat_high, b
 use Rattle.std.proofs.lemmas.List.{length-take, length-drop, length-reverse, get_or-take, get_or-drop, get_or_past, get_or-reverse, take_all}
 use Rattle.sel_bits.specs.Words.{word_of}
 use Rattle.sel_bits.specs.Bits.{bits_from, leading_zeros, trailing_zeros}
-use Rattle.sel_bits.proofs.BitLists.{length_bits_from, bits_from_part}
-use Rattle.sel_bits.proofs.Padded.{bit_at_word_of}
+use Rattle.sel_bits.proofs.{BitLists.length_bits_from, BitLists.bits_from_part, Padded.bit_at_word_of}
 
 -- All entries of a range are false.
 abbrev pub AreFalse : List Bool → ℕ → ℕ → Type 0

@@ -2,8 +2,7 @@ use Rattle.std.proofs.Common.{◌≡◌, ◌+◌, ◌*◌, ◌≤◌, ◌∙◌,
 use Rattle.std.proofs.Math.Nat.{mod-eq_of_lt}
 use Rattle.sel_bits.specs.Bits.{bits_from, zip_three}
 use Rattle.sel_bits.specs.Words.{word_of}
-use Rattle.sel_bits.proofs.Combining.{length-zip_three, masked_made, packed_more}
-use Rattle.sel_bits.proofs.Loads.{block_word}
+use Rattle.sel_bits.proofs.{Combining.length-zip_three, Combining.masked_made, Combining.packed_more, Loads.block_word}
 use Rattle.sel_bits.proofs.operations.whole_words_by.Goals as goal
 
 -- The word of a block of a bitmap's bits, by its bytes.

@@ -4,8 +4,7 @@ use Rattle.std.proofs.lemmas.List.{length-take, take_all, take_rest}
 use Rattle.std.proofs.lemmas.List.Sums.{count_by-le-length}
 use Rattle.sel_bits.specs.Bits.{bits_from, count_true}
 use Rattle.sel_bits.specs.Words.{word_of}
-use Rattle.sel_bits.proofs.BitLists.{length_bits_from}
-use Rattle.sel_bits.proofs.Loads.{block_counted}
+use Rattle.sel_bits.proofs.{BitLists.length_bits_from, Loads.block_counted}
 use Rattle.sel_bits.proofs.words.count_set.Goals as goal
 
 next : (c : goal.After-whole_word) → c.loop-block.count + count_ones c.whole_word.result ≡ count_true (take (64 * (c.loop-block.block + 1)) (bits_from c.args.bytes.now c.args.shift c.args.len))

@@ -4,8 +4,7 @@ use Rattle.std.specs.Int.{w64, trailing_zeros as lowest_place}
 use Rattle.std.proofs.lemmas.List.{length-map, drop-map}
 use Rattle.sel_bits.specs.Bits.{leading_zeros, leading_ones}
 use Rattle.sel_bits.specs.Words.{word_of}
-use Rattle.sel_bits.proofs.Combining.{of_not}
-use Rattle.sel_bits.proofs.Zeros.{lowest_set, leading_rest}
+use Rattle.sel_bits.proofs.{Combining.of_not, Zeros.lowest_set, Zeros.leading_rest}
 use Rattle.sel_bits.proofs.bitmap.Bitmap.ones_from.Goals as goal
 
 found : (c : goal.Then-word-ne0)

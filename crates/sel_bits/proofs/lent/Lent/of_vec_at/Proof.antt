@@ -35,10 +35,9 @@ use Rattle.std_alloc.proofs.VecSteps.El.{El, vec_val, vec_typed}
 use Rattle.std_alloc.proofs.VecSteps.Opens.{vec_had, vec_made}
 use Rattle.std_alloc.proofs.OfLodged.{lodging}
 use Rattle.sel_bits.specs.contracts.lent.Lent as lent
-use Rattle.sel_bits.proofs.LentSteps.{three, Listed, memory_in}
+use Rattle.sel_bits.proofs.{LentSteps.three, LentSteps.Listed, LentSteps.memory_in, lent.Lent.of_vec_at.Statement.statement}
 use Rattle.sel_bits.specs.contracts.lent.Lent.of_vec_at as F
 use Rattle.sel_bits.specs.contracts.lent.Lent.of_vec_at.Key.{name as #self}
-use Rattle.sel_bits.proofs.lent.Lent.of_vec_at.Statement.{statement}
 use Rattle.sel_bits.proofs.lent.Lent.of_vec_at.Code as code
 
 pub of_vec_at_spec : {M : Type 1} → statement M
