@@ -1,8 +1,7 @@
 -- Columns with children, from parts that break no rule, and with a replaced validity.
 use Rattle.std.proofs.Common.{◌≡◌, ◌≢◌, ℕ, Bool, true, false, ◌==◌, List, length, map, Option, None, is_some, All, Vec, Box, Global, refl, ap, sym, subst, ◌∙◌, arith}
 use Rattle.sel_arrow.proofs.Common.{list_all, nat_tests, Bits, IsRising, list_fault, block_fault, struct_length_fault, Covers, IsValidityOf, rows, row_count, type_of, well_formed, IsField, IsWellFormed, Column, LargeList, FixedSizeList, Struct}
-use Rattle.sel_arrow.proofs.Lists.{all_at}
-use Rattle.sel_arrow.proofs.NestedFaults.{list_test, block_test, tuple_fit}
+use Rattle.sel_arrow.proofs.{Lists.all_at, NestedFaults.list_test, NestedFaults.block_test, NestedFaults.tuple_fit}
 use Rattle.sel_arrow.proofs.NestedRows.{length-rows, length-list_rows, length-block_rows, length-tuple_rows, has_blocks, blocks_formed, list_tells, block_tells, struct_tells}
 use Rattle.sel_arrow.proofs.Trees.{rows-Struct, struct_test, has_fields, fields_make}
 

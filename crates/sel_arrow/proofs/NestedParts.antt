@@ -7,8 +7,7 @@ use Rattle.std.proofs.lemmas.Nat.{mul-le}
 use Rattle.sel_arrow.proofs.ByteRows.{part-pieces, part_rising, part_few, part_last, part_covered}
 use Rattle.sel_arrow.proofs.NestedRows.{length-rows, length-list_rows, length-block_rows, length-tuple_rows, has_lists, lists_formed, has_blocks, blocks_formed}
 use Rattle.sel_arrow.proofs.Rows.{part-mapped, part-masked, length-part, part_covers, part_within}
-use Rattle.sel_arrow.proofs.Trees.{rows-Struct, has_fields, fields_make}
-use Rattle.sel_arrow.proofs.Types.{type_of-Struct, buffers_held-Struct, same_at}
+use Rattle.sel_arrow.proofs.{Trees.rows-Struct, Trees.has_fields, Trees.fields_make, Types.type_of-Struct, Types.buffers_held-Struct, Types.same_at}
 
 -- A part of a list that is defined by position.
 part_by_place : {A : Type 0} (f g : ℕ → A) (n off len : ℕ) (d : A) → off + len ≤ n → ((i : ℕ) → i < len → g i ≡ f (off + i)) → map g (range_with_len 0 len) ≡ take len (drop off (map f (range_with_len 0 n)))

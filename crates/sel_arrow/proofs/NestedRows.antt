@@ -4,10 +4,8 @@ use Rattle.sel_arrow.proofs.Common.{range_with_len, slice_range, nat_tests, leng
 use Rattle.std.proofs.lemmas.List.FromFn.{length-map-range_with_len, length-range_with_len}
 use mathlib.Core.Former.{Count}
 use Rattle.sel_arrow.specs.declared.column.Column.TheVariants.{Struct'}
-use Rattle.sel_arrow.proofs.ByteRows.{covers_pieces, length-pieces, length-byte_rows}
-use Rattle.sel_arrow.proofs.Lists.{both, and_second}
+use Rattle.sel_arrow.proofs.{ByteRows.covers_pieces, ByteRows.length-pieces, ByteRows.length-byte_rows, Lists.both, Lists.and_second, ViewRows.length-view_rows}
 use Rattle.sel_arrow.proofs.Rows.{length-mapped, tells-mapped, length-truth_rows, length-number_rows}
-use Rattle.sel_arrow.proofs.ViewRows.{length-view_rows}
 
 -- ---- the number of rows
 

@@ -2,9 +2,7 @@
 use Rattle.std.proofs.Common.{◌≡◌, ℕ, pos, ◌≤◌, ◌*◌, true, ◌&&◌, ◌==◌, List, [], ◌∷◌, map, length, None, Vec, Global, refl, ap, sym, ◌∙◌, arith}
 use Rattle.sel_arrow.proofs.Common.{All, list_all, max_rows, IsOffsets, IsRising, widths_fit, covers, is_few, rows, row_count, well_formed, IsField, Column, Struct as StructColumn}
 use Rattle.sel_arrow.specs.declared.datatype.ArrowDataType.{ArrowDataType, Struct}
-use Rattle.sel_arrow.proofs.NestedRows.{length-rows}
-use Rattle.sel_arrow.proofs.Trees.{fields_make}
-use Rattle.sel_arrow.proofs.Types.{type_of-Struct, widths_fit_struct}
+use Rattle.sel_arrow.proofs.{NestedRows.length-rows, Trees.fields_make, Types.type_of-Struct, Types.widths_fit_struct}
 
 -- ---- the only offset of a column without rows
 

@@ -4,8 +4,7 @@ use Rattle.std.specs.Str.{IsUtf8, is_utf8}
 use Rattle.std.proofs.lemmas.Str.{IsUtf8-from_is_utf8, is_utf8-from_IsUtf8}
 use Rattle.sel_arrow.specs.Texts.{all_text, is_text}
 use Rattle.sel_arrow.specs.Value.{Value, Null, Bytes}
-use Rattle.sel_arrow.proofs.ViewRows.{length-view_rows}
-use Rattle.sel_arrow.proofs.Lists.{false_unless, all_at, all_of_them, all_part}
+use Rattle.sel_arrow.proofs.{ViewRows.length-view_rows, Lists.false_unless, Lists.all_at, Lists.all_of_them, Lists.all_part}
 
 -- ---- whether bytes are UTF-8
 

@@ -2,8 +2,7 @@
 use Rattle.std.proofs.lemmas.Grind.{common_steps}
 use Rattle.std.proofs.Common.{◌≡◌, ◌≢◌, ℕ, ◌+◌, ◌≤◌, ◌<◌, Bool, true, false, ◌&&◌, ◌==◌, not, All, List, [], ◌∷◌, length, take, get_or, map, Option, is_some, Vec, Global, refl, ap, sym, subst, ◌∙◌, arith, take_all, rules}
 use Rattle.sel_arrow.proofs.Common.{All-nil, All-head, All-tail, All-more, max_rows, Bits, struct_length_fault, Covers, covers, is_few, struct_rows, rows, rows_of_each, row_count, well_formed, all_well_formed, IsField, Column, Struct, Row_of-Column, end_of-Column, more_of-Column, items-the_row-Column, items_hidden-the_row-Column-0}
-use Rattle.sel_arrow.proofs.Lists.{false_unless, and_first, and_second}
-use Rattle.sel_arrow.proofs.NestedRows.{row_of, length-rows, struct_covered}
+use Rattle.sel_arrow.proofs.{Lists.false_unless, Lists.and_first, Lists.and_second, NestedRows.row_of, NestedRows.length-rows, NestedRows.struct_covered}
 
 each_rows : (n : _) (row : Row_of-Column n) → rows_of_each row ≡ map rows (items-the_row-Column n row)
 each_rows n end_of-Column = refl

@@ -4,9 +4,7 @@ use Rattle.sel_arrow.specs.DataType.{shape_of}
 use Rattle.sel_arrow.specs.Rows.{IsField, type_of}
 use Rattle.sel_arrow.specs.Shape.{of_struct, shapes_of}
 use Rattle.sel_arrow.specs.declared.datatype.ArrowDataType.{the_lemmas}
-use Rattle.sel_arrow.proofs.NoRows.{field_of_none, fields_fit}
-use Rattle.sel_arrow.proofs.NestedParts.{mapped_more}
-use Rattle.sel_arrow.proofs.Types.{struct_shape}
+use Rattle.sel_arrow.proofs.{NoRows.field_of_none, NoRows.fields_fit, NestedParts.mapped_more, Types.struct_shape}
 use Rattle.sel_arrow.proofs.empty.+empty_column.Goals as goal
 
 pub empty_column-returns-in_ok-empty_columns-in-Struct :

@@ -1,7 +1,6 @@
 use Rattle.std.proofs.Common.{◌≡◌, ◌==◌, ◌∙◌, ap, sym, length, arith}
 use Rattle.sel_arrow.proofs.Common.{row_count, ArrayRef}
-use Rattle.sel_arrow.proofs.Lists.{all_more, all_of_them, none_at}
-use Rattle.sel_arrow.proofs.NestedMakers.{count_fits, count_differs}
+use Rattle.sel_arrow.proofs.{Lists.all_more, Lists.all_of_them, Lists.none_at, NestedMakers.count_fits, NestedMakers.count_differs}
 use Rattle.sel_arrow.proofs.structure.have_rows.Goals as goal
 
 pub returns-then-len : goal.returns-then-len
