@@ -1,10 +1,8 @@
 -- The bits that a mask selects of blocks of 56 bits.
 use Rattle.sel_filter.proofs.Common.{◌≡◌, ℕ, ◌+◌, ◌*◌, ◌≤◌, ◌∙◌, refl, ap, arith, List, [], ◌++◌, length, take, drop, Bool, count_ones, length-take}
-use Rattle.sel_filter.proofs.Common.{length-drop, bits, word_of, select, Bits}
-use Rattle.sel_filter.proofs.Common.{length-append, pow_mono, word_of_lt}
+use Rattle.sel_filter.proofs.Common.{length-drop, bits, word_of, select, Bits, length-append, pow_mono, word_of_lt}
 use Rattle.sel_bits.specs.Reading.{BlockReading, after_block, block_bits}
-use Rattle.sel_filter.proofs.WordSelects.{kept_ones, words_select}
-use Rattle.sel_filter.proofs.Selects.{few_kept, select_end, select_more}
+use Rattle.sel_filter.proofs.{WordSelects.kept_ones, WordSelects.words_select, Selects.few_kept, Selects.select_end, Selects.select_more}
 
 -- The state of the kernel: the bits of the blocks read so far are filtered.
 pub record IsKept (vs ms : Bits) (out : List Bool) (kept : ℕ) (values mask : BlockReading) : Type 0 where

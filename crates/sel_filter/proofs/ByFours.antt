@@ -1,12 +1,9 @@
 -- Compression of a word, four bits at a time.
 use Rattle.sel_filter.proofs.Common.{◌≡◌, ℕ, ◌+◌, ◌*◌, ◌/◌, ◌%◌, ◌^◌, ◌<◌, ◌≤◌, List, Bool, ◌++◌, length, get_or, ap, sym, ◌∙◌, arith, length-append}
-use Rattle.sel_filter.proofs.Common.{count_ones, shr-shr, bits, word_of, bits_zero, length_bits, bits_split, bit_at_mod, select}
-use Rattle.sel_filter.proofs.Common.{compress, NIBBLES}
+use Rattle.sel_filter.proofs.Common.{count_ones, shr-shr, bits, word_of, bits_zero, length_bits, bits_split, bit_at_mod, select, compress, NIBBLES}
 use Rattle.std.specs.Prelude.{bit_or}
 use Rattle.sel_bits.proofs.Packs.{bits_same}
-use Rattle.sel_filter.proofs.Selects.{select-append, few_kept}
-use Rattle.sel_filter.proofs.WordLists.{word_joined}
-use Rattle.sel_filter.proofs.FourBits.{kept_four, entry_is, count_is}
+use Rattle.sel_filter.proofs.{Selects.select-append, Selects.few_kept, WordLists.word_joined, FourBits.kept_four, FourBits.entry_is, FourBits.count_is}
 
 -- The bits of v that m keeps, of the n lowest ones.
 abbrev pub kept_bits : ℕ → ℕ → ℕ → List Bool

@@ -1,16 +1,13 @@
 -- The values of a block that the bits of a word keep.
-use Rattle.std.proofs.Common.{rules}
+use Rattle.std.proofs.Common.{rules, zero-add, drop-cons}
 use Rattle.sel_filter.proofs.Common.{◌≡◌, ℕ, zero, suc, ◌+◌, ◌-◌, ◌*◌, ◌/◌, ◌%◌, ◌^◌, ◌<◌, ◌≤◌, ◌∙◌, sym, refl, ap, arith, List, [], ◌∷◌, ◌++◌, length, take}
 use Rattle.sel_filter.proofs.Common.{drop, get_or, Bool, append-nil, append_assoc, length-append, bit_and, count_ones, ◌==◌, bit_at, trailing_zeros, w64}
 use Rattle.sel_filter.proofs.Common.{and_le_l, pow_mono, take-add, shr_and_one, length-take, length-drop, take_all, bits_from, bits, word_of, bits_suc}
 use Rattle.sel_filter.proofs.Common.{bits_zero, length_bits_from, length_bits, bits_split, word_of_lt, bit_at_shr, select, nil_from_length}
-use Rattle.std.proofs.Common.{zero-add, drop-cons}
 use Rattle.std.proofs.lemmas.List.{take_at}
 use Rattle.sel_bits.proofs.Packed.{bits_word_of}
-use Rattle.sel_filter.proofs.Firsts.{first_kept, first_within}
-use Rattle.sel_filter.proofs.Scalars.{bits_part}
+use Rattle.sel_filter.proofs.{Firsts.first_kept, Firsts.first_within, Scalars.bits_part, WordLists.all_set, WordLists.none_more, WordLists.ones_is}
 use Rattle.sel_filter.proofs.Selects.{few_kept, length-select, select-append, select_end, select_more}
-use Rattle.sel_filter.proofs.WordLists.{all_set, none_more, ones_is}
 
 -- The number of kept values is the number of set bits.
 pub kept_count : {A : Type 0} → (xs : List A) (m : ℕ) → m < 2 ^ length xs → length (select xs (bits (length xs) m)) ≡ count_ones m

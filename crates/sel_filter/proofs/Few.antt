@@ -4,8 +4,7 @@ use Rattle.sel_filter.proofs.Common.{false, cond, length-append, bit_and, bit_at
 use Rattle.sel_filter.proofs.Common.{count_by-le-length, is_set, bits, word_of, compress, select, count_true, cond_of_bit, length_bits}
 use Rattle.std.specs.Prelude.{bit_or}
 use Rattle.sel_bits.proofs.Packs.{get_bits}
-use Rattle.sel_filter.proofs.Marking.{IsMarking, mark_within, mark_room, marking_next, marking_last}
-use Rattle.sel_filter.proofs.WordLists.{word_joined}
+use Rattle.sel_filter.proofs.{Marking.IsMarking, Marking.mark_within, Marking.mark_room, Marking.marking_next, Marking.marking_last, WordLists.word_joined}
 
 -- The state: the bits so far are the word `out`.
 pub record IsFew (v m out place marks : ℕ) : Type 0 where

@@ -2,8 +2,7 @@
 use Rattle.sel_filter.proofs.Common.{◌≡◌, ℕ, ◌+◌, ◌-◌, ◌^◌, ◌<◌, ◌∙◌, sym, ap, arith, List, [], ◌∷◌, ◌++◌, length, get_or, drop, Bool, false}
 use Rattle.sel_filter.proofs.Common.{append_assoc, bit_and, trailing_zeros, w64, length-drop, and_le_l, bits, length_bits, select, count_true}
 use Rattle.std.proofs.lemmas.List.{get_or-drop}
-use Rattle.sel_filter.proofs.Firsts.{first_kept, first_within}
-use Rattle.sel_filter.proofs.WordLists.{bits_of_zero, none_more}
+use Rattle.sel_filter.proofs.{Firsts.first_kept, Firsts.first_within, WordLists.bits_of_zero, WordLists.none_more}
 use Rattle.sel_filter.proofs.Selects.{count_true_none, length-select}
 
 -- The output and what the remaining marks select are the target.

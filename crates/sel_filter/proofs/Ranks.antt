@@ -3,10 +3,7 @@ use Rattle.sel_filter.proofs.Common.{◌≡◌, ℕ, zero, suc, ◌+◌, ◌-◌
 use Rattle.sel_filter.proofs.Common.{bit_at-lt, bit_at-suc, bit_at_lowest, bit_at-zero, bit_at_and, cases_lt, bits, word_of, compress, select, bits_suc}
 use Rattle.sel_filter.proofs.Common.{bits_zero, cond_of_bit, ones_below}
 use Rattle.sel_bits.proofs.Counts.{ones_zero}
-use Rattle.sel_filter.proofs.Clears.{ones_front}
-use Rattle.sel_filter.proofs.Spots.{spot_last}
-use Rattle.sel_filter.proofs.Rounds.{Standing, masked}
-use Rattle.sel_filter.proofs.WordLists.{bits_first}
+use Rattle.sel_filter.proofs.{Clears.ones_front, Spots.spot_last, Rounds.Standing, Rounds.masked, WordLists.bits_first}
 
 -- The n lowest bits of v that m keeps, packed.
 abbrev packed : ℕ → ℕ → ℕ → ℕ

@@ -2,10 +2,8 @@
 use Rattle.sel_filter.proofs.Common.{◌≡◌, ℕ, suc, ◌+◌, ◌*◌, ◌%◌, ◌^◌, ◌<◌, ◌≤◌, arith, bit_and, bit_at, w64, ones_below, compress}
 use Rattle.std.specs.Int.{bit_not}
 use Rattle.sel_bits.specs.Moving.{Moving}
-use Rattle.sel_bits.proofs.Prefix.{shift_is}
-use Rattle.sel_bits.proofs.Shifts.{moved}
-use Rattle.sel_filter.proofs.Rounds.{Standing, CountsBlocks, MarksOdd, masked, next_standing, one_standing, first_counts, next_counts, parity_marks}
-use Rattle.sel_filter.proofs.Rounds.{one_block}
+use Rattle.sel_bits.proofs.{Prefix.shift_is, Shifts.moved}
+use Rattle.sel_filter.proofs.Rounds.{Standing, CountsBlocks, MarksOdd, masked, next_standing, one_standing, first_counts, next_counts, parity_marks, one_block}
 use Rattle.sel_filter.proofs.Ranks.{compress_standing}
 
 -- ---- the invariant

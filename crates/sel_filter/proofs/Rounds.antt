@@ -5,10 +5,8 @@ use Rattle.sel_filter.proofs.Common.{shr-shr, bit_at-lt, bit_at_and, bit_at_abov
 use Rattle.std.proofs.Common.{max, ◌⊎◌}
 use Rattle.std.specs.Int.{bit_not}
 use Rattle.std.proofs.lemmas.Nat.Bits.{bit_at_or, bit_at_not, same_from_bits}
-use Rattle.sel_bits.proofs.Counts.{ones_zero, ones_suc}
-use Rattle.sel_filter.proofs.Clears.{clears, clears_ones, clears_suc, clears_up}
-use Rattle.sel_filter.proofs.Spots.{spot, spot_next, spot_block}
-use Rattle.sel_bits.proofs.Shifts.{moved}
+use Rattle.sel_bits.proofs.{Counts.ones_zero, Counts.ones_suc, Shifts.moved}
+use Rattle.sel_filter.proofs.{Clears.clears, Clears.clears_ones, Clears.clears_suc, Clears.clears_up, Spots.spot, Spots.spot_next, Spots.spot_block}
 
 -- A set bit of a word after a move either was not moved, or was moved down.
 bit_at_moved : (word p i s : ℕ) → bit_at (moved word p i) s ≡ max (min (bit_at word s) (bit_at (bit_not w64 p) s)) (min (bit_at word (s + i)) (bit_at p (s + i)))

@@ -5,8 +5,7 @@ use Rattle.sel_bits.specs.Reading.{WordReading, next_bits, next_count}
 use Rattle.std.proofs.lemmas.List.{take-append-le, take-take}
 use Rattle.std.proofs.Math.Seq.{take-append_seam}
 use Rattle.sel_bits.specs.Copying.{Copying, IsBeginning}
-use Rattle.sel_filter.proofs.WordRuns.{starts_append, starts_cut, starts_padded, starts_half}
-use Rattle.sel_filter.proofs.Selects.{select_split}
+use Rattle.sel_filter.proofs.{WordRuns.starts_append, WordRuns.starts_cut, WordRuns.starts_padded, WordRuns.starts_half, Selects.select_split}
 use Rattle.sel_filter.proofs.Filtering.{word_fits, word_more, word_bits}
 
 -- ---- prefixes

@@ -2,9 +2,7 @@
 use Rattle.sel_filter.proofs.Common.{◌≡◌, ℕ, ◌+◌, ◌-◌, ◌*◌, ◌/◌, ◌%◌, ◌^◌, ◌<◌, ◌≤◌, min, List, [], ◌∷◌, length, take, drop, get_or, refl, sym, ◌∙◌}
 use Rattle.sel_filter.proofs.Common.{⊎_elim, cases_lt, nil_from_length, arith, length-drop, bits_from, length_bits_from, bit_at_shr}
 use Rattle.sel_bits.specs.Bits.{Bits, bit_in}
-use Rattle.sel_bits.proofs.BitLists.{bits_from_part, same_bits_from}
-use Rattle.sel_bits.proofs.Loads.{from_byte}
-use Rattle.sel_bits.proofs.Zeros.{bits_from_dropped}
+use Rattle.sel_bits.proofs.{BitLists.bits_from_part, BitLists.same_bits_from, Loads.from_byte, Zeros.bits_from_dropped}
 use Rattle.sel_filter.specs.Scalar.{rows_to_boundary, up_to_boundary}
 
 -- The bits from byte k on are a part of all bits.

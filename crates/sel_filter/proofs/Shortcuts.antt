@@ -4,10 +4,7 @@ use Rattle.sel_filter.proofs.Common.{bit_and, count_ones, pow-suc, pow_pos, bit_
 use Rattle.sel_filter.proofs.Common.{compress, select, count_true, length_bits}
 use Rattle.std.proofs.lemmas.Nat.Bits.{ones_shr}
 use Rattle.std.specs.Int.Bits.{and_self}
-use Rattle.sel_filter.proofs.Rounds.{one_standing}
-use Rattle.sel_filter.proofs.Ranks.{compress_standing}
-use Rattle.sel_filter.proofs.Selects.{count_cons}
-use Rattle.sel_filter.proofs.WordLists.{ones_is}
+use Rattle.sel_filter.proofs.{Rounds.one_standing, Ranks.compress_standing, Selects.count_cons, WordLists.ones_is}
 
 -- No kept bit is set.
 pub compress_none : (v m : ℕ) → m < 2 ^ 64 → bit_and v m ≡ 0 → 0 ≡ compress v m

@@ -1,9 +1,7 @@
 -- The bits that a mask keeps, word by word at multiples of 64, over plain variables.
 use Rattle.sel_filter.proofs.Common.{◌≡◌, ℕ, ◌+◌, ◌-◌, ◌*◌, ◌/◌, ◌%◌, ◌<◌, ◌≤◌, min, ◌∙◌, sym, ap, arith, List, [], ◌++◌, take, drop}
 use Rattle.sel_filter.proofs.Common.{Bool, bits_from, bits, word_of, length_bits_from, select}
-use Rattle.sel_filter.proofs.Scalars.{bits_part, bits_rest}
-use Rattle.sel_filter.proofs.Selects.{select_end, select_more, select_split}
-use Rattle.sel_filter.proofs.WordSelects.{words_select}
+use Rattle.sel_filter.proofs.{Scalars.bits_part, Scalars.bits_rest, Selects.select_end, Selects.select_more, Selects.select_split, WordSelects.words_select}
 
 module _ (vb mb : List ℕ) (vs s n block width : ℕ) (within : 64 * block + width ≤ n) (few : width ≤ 64) (word marks : ℕ)
     (word_is : word ≡ word_of (bits_from (drop (8 * block) vb) vs width)) (marks_is : marks ≡ word_of (bits_from (drop (8 * block) mb) s width)) where

@@ -2,8 +2,7 @@ use Rattle.sel_filter.proofs.Common.{◌≡◌, ◌+◌, ◌-◌, ◌*◌, ◌�
 use Rattle.sel_filter.proofs.Common.{ℕ, List, ◌<◌, ◌≤◌, ◌^◌, and_le_l, bits, select}
 use Rattle.std.proofs.Common.{add-one}
 use Rattle.std.proofs.Math.Nat.{suc-mul}
-use Rattle.sel_filter.proofs.Dense.{few_left, few_step}
-use Rattle.sel_filter.proofs.WordLists.{none_more}
+use Rattle.sel_filter.proofs.{Dense.few_left, Dense.few_step, WordLists.none_more}
 use Rattle.sel_filter.proofs.arrays.push_arrays.Goals as goal
 
 -- The items of one array fewer are left.

@@ -1,8 +1,6 @@
 use Rattle.sel_filter.proofs.Common.{◌*◌, refl, arith, take_rest}
 use Rattle.std.proofs.lemmas.Result.{err_from_is_err_and}
-use Rattle.sel_filter.proofs.Dense.{last_fits, last_kept, part_kept}
-use Rattle.sel_filter.proofs.WordLists.{none_more}
-use Rattle.sel_filter.proofs.RunFiltering.{begins_through}
+use Rattle.sel_filter.proofs.{Dense.last_fits, Dense.last_kept, Dense.part_kept, WordLists.none_more, RunFiltering.begins_through}
 use Rattle.sel_filter.proofs.block.append_blocks.Goals as goal
 
 pub returns-in_err-append_block-clause-begun : goal.returns-in_err-append_block-clause-begun

@@ -1,6 +1,5 @@
 use Rattle.sel_filter.proofs.Common.{◌≡◌, ◌+◌, ◌-◌, ◌/◌, ◌^◌, ◌++◌, ◌∙◌, take, drop, ap, arith, trailing_zeros, w64}
-use Rattle.sel_filter.proofs.Running.{run_of, running_next, shifted_away}
-use Rattle.sel_filter.proofs.RunFiltering.{begins_more}
+use Rattle.sel_filter.proofs.{Running.run_of, Running.running_next, Running.shifted_away, RunFiltering.begins_more}
 use Rattle.sel_filter.proofs.block.append_runs.Goals as goal
 
 pub loop-rest-preserved : goal.loop-rest-preserved

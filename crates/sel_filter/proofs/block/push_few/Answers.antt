@@ -1,6 +1,5 @@
 use Rattle.sel_filter.proofs.Common.{◌<◌, ◌^◌, length, length-append, arith}
-use Rattle.sel_filter.proofs.Dense.{few_begin, few_left, few_pair, kept_count}
-use Rattle.sel_filter.proofs.Selects.{few_kept}
+use Rattle.sel_filter.proofs.{Dense.few_begin, Dense.few_left, Dense.few_pair, Dense.kept_count, Selects.few_kept}
 use Rattle.sel_filter.proofs.block.push_few.Goals as goal
 
 pub loop-rest-init : goal.loop-rest-init

@@ -1,7 +1,6 @@
 use Rattle.sel_filter.proofs.Common.{◌≡◌, ◌*◌, ◌/◌, ◌%◌, refl, drop, arith, take_rest, bits, bits_from, word_of}
 use Rattle.std.proofs.lemmas.Result.{on_ok_weaker}
-use Rattle.sel_filter.proofs.WordFiltering.{word_more, words_all}
-use Rattle.sel_filter.proofs.WordLists.{none_more}
+use Rattle.sel_filter.proofs.{WordFiltering.word_more, WordFiltering.words_all, WordLists.none_more}
 use Rattle.sel_filter.proofs.boolean.append_words.Goals as goal
 
 pub loop-block-preserved-then-marks-eq0 : goal.loop-block-preserved-then-marks-eq0

@@ -1,6 +1,5 @@
 use Rattle.sel_filter.proofs.Common.{◌≡◌, ◌∙◌, ap, sym, List, Bool, length, arith, take_rest, IfOk-weaker, Bits, bits_from}
-use Rattle.sel_filter.proofs.Selects.{length-select}
-use Rattle.sel_filter.proofs.WordFiltering.{rows_kept}
+use Rattle.sel_filter.proofs.{Selects.length-select, WordFiltering.rows_kept}
 use Rattle.sel_filter.proofs.boolean.keep_words.Goals as goal
 
 pub into_bitmap-requires : goal.into_bitmap-requires

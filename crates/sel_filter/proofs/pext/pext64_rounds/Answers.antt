@@ -1,7 +1,6 @@
 use Rattle.sel_filter.proofs.Common.{◌≡◌, ◌<◌, ◌^◌, subst, sym, arith}
 use Rattle.sel_bits.proofs.Prefix.{shift_fits}
-use Rattle.sel_filter.proofs.Rounds.{MarksOdd, parity_marks}
-use Rattle.sel_filter.proofs.RoundState.{state_first, state_next, state_last, last_marks}
+use Rattle.sel_filter.proofs.{Rounds.MarksOdd, Rounds.parity_marks, RoundState.state_first, RoundState.state_next, RoundState.state_last, RoundState.last_marks}
 use Rattle.sel_filter.proofs.pext.pext64_rounds.Goals as goal
 use Rattle.sel_filter.proofs.pext.pext64_rounds.Goals.{then-i-lt5, else-i-lt5}
 

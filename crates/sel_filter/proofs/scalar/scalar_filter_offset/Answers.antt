@@ -1,5 +1,4 @@
-use Rattle.sel_filter.proofs.Common.{◌≡◌, ◌-◌, ◌∙◌, length, take, drop, ap, sym, arith, take_all, length-take}
-use Rattle.sel_filter.proofs.Common.{length-drop, bits_from}
+use Rattle.sel_filter.proofs.Common.{◌≡◌, ◌-◌, ◌∙◌, length, take, drop, ap, sym, arith, take_all, length-take, length-drop, bits_from}
 use Rattle.sel_filter.proofs.Scalars.{first_bits, bits_rest, boundary_rows}
 use Rattle.sel_filter.proofs.scalar.scalar_filter_offset.Goals as goal
 
