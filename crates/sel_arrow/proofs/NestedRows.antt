@@ -26,8 +26,17 @@ length-tuple_rows n fields validity = length-mapped (struct_at fields) (range_wi
 
 pub length-rows : (c : Column) → length (rows c) ≡ row_count c
 length-rows c =
-    grind (arith, length-replicate, length-truth_rows, length-number_rows, length-byte_rows, length-view_rows, length-list_rows, length-block_rows,
-    length-tuple_rows)
+    grind (
+      arith,
+      length-replicate,
+      length-truth_rows,
+      length-number_rows,
+      length-byte_rows,
+      length-view_rows,
+      length-list_rows,
+      length-block_rows,
+      length-tuple_rows,
+    )
 
 -- ---- the validity agrees with the rows
 
