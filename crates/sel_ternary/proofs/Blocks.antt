@@ -2,7 +2,6 @@
 use Rattle.sel_ternary.proofs.Common.{common_steps, ◌≡◌, ℕ, ◌+◌, ◌<◌, ◌≤◌, ◌∙◌, sym, ap, arith, List, ◌++◌, length, take, drop, append_assoc, Bits, WordReading}
 use Rattle.sel_ternary.proofs.Common.{reached, bits, length_part, choose}
 use borrow.Rule.Slice.PartMut.{put_mid}
-use Rattle.std.proofs.lemmas.{List.take-append-drop, Slice.take-put_mid, Slice.drop-put_mid}
 use Rattle.sel_bits.{specs.Reading.after_word, specs.Reading.next_bits, specs.Reading.next_count, specs.Words.word_of, proofs.Packed.bits_word_of}
 use Rattle.sel_ternary.proofs.Chosen.{AsLong, IsChosen, chosen_block, length-choose}
 

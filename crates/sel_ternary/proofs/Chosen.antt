@@ -5,8 +5,8 @@ use Rattle.sel_ternary.proofs.Common.{bits, is_set, length_bits, get_bits, choos
 use Rattle.sel_ternary.proofs.Common.{chosen_rows, first_row}
 use Rattle.sel_ternary.specs.Chosen.{SideFits, spread_rows}
 use Rattle.std.proofs.lemmas.{List.length-take, List.drop-drop, List.set_split, List.take-append-le, List.get_or_default, Bool.ne_eqb, Nat.Bits.shr_and_one}
-use Rattle.std.{proofs.Common.◌≢◌, proofs.Common.bit_and, specs.Int.bit_at}
-use Rattle.std.proofs.Math.{ListN.set, ListN.drop_of_length-le, ListN.get_or-map, Seq.take-add, Seq.drop-cons, Seq.drop-append-add}
+use Rattle.std.proofs.{Common.◌≢◌, Common.bit_and, Math.ListN.set, Math.ListN.get_or-map, Math.Seq.take-add, Math.Seq.drop-cons, Math.Seq.drop-append-add}
+use Rattle.std.specs.Int.{bit_at}
 
 -- ---- a broadcast value equals the list that repeats it
 

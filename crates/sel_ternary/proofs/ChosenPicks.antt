@@ -1,6 +1,6 @@
 -- The row references of an if-then-else, and the rows that they give.
 use Rattle.sel_ternary.proofs.Common.{common_steps, ◌≡◌, ℕ, zero, suc, ◌+◌, ◌<◌, Bool, true, false, All, List, [], ◌∷◌, length, get_or, refl, sym, ap, ◌∙◌}
-use Rattle.sel_ternary.proofs.Common.{arith, Option, Some, get_or-replicate, rows, Value, Null, pick, chosen_rows, first_row, choose}
+use Rattle.sel_ternary.proofs.Common.{arith, Option, get_or-replicate, rows, Value, Null, pick, chosen_rows, first_row, choose}
 use Rattle.sel_ternary.specs.{ChosenPicks.chosen_picks, ChosenPicks.bit_pick, ChosenPicks.place_on, Chosen.SideFits, Chosen.spread_rows}
 use Rattle.std.proofs.lemmas.List.Elements.{All-nil, All-cons}
 use Rattle.sel_gather.specs.{Picks.PickFits, Plans.IsPicked}

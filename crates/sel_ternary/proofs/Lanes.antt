@@ -20,14 +20,18 @@ at_power (suc (suc b)) k lt = absurd (omega arith)
 marked : (m k : ℕ) → nat_eq (bit_and m (2 ^ k)) (2 ^ k) ≡ is_set m k
 marked m k = ap (λ x. nat_eq x (2 ^ k)) (and_pow m k) ∙ at_power (bit_at m k) k (bit_at-lt m k)
 
--- The lanes for the bits of a word, which it has in common with the powers of two.
-pub lanes_marked : (n m : ℕ) (f : Bool → ℤ) → f true ≡ all_ones true → f false ≡ all_ones false → map (λ k. f (nat_eq (bit_and m (2 ^ k)) (2 ^ k))) (range_with_len 0 n) ≡ map all_ones (bits n m)
-unfolding bits
-lanes_marked n m f high low = (λ i. map (λ k. (same (nat_eq (bit_and m (2 ^ k)) (2 ^ k)) ∙ ap all_ones (marked m k)) i) (range_with_len 0 n)) ∙ sym (map-map all_ones (is_set m) (range_with_len 0 n))
+-- The lane for a bit of a word, which it has in common with a power of two.
+pub lane_marked : (m k : ℕ) (f : Bool → ℤ) → f true ≡ all_ones true → f false ≡ all_ones false → f (nat_eq (bit_and m (2 ^ k)) (2 ^ k)) ≡ all_ones (is_set m k)
+lane_marked m k f high low = same (nat_eq (bit_and m (2 ^ k)) (2 ^ k)) ∙ ap all_ones (marked m k)
   where
     same : (b : Bool) → f b ≡ all_ones b
     same true = high
     same false = low
+
+-- The lanes for the bits of a word.
+pub lanes_marked : (n m : ℕ) (f : Bool → ℤ) → f true ≡ all_ones true → f false ≡ all_ones false → map (λ k. f (nat_eq (bit_and m (2 ^ k)) (2 ^ k))) (range_with_len 0 n) ≡ map all_ones (bits n m)
+unfolding bits
+lanes_marked n m f high low = (λ i. map (λ k. lane_marked m k f high low i) (range_with_len 0 n)) ∙ sym (map-map all_ones (is_set m) (range_with_len 0 n))
 
 -- The bits of the two bytes of a word.
 pub two_bytes : (m : ℕ) → bits 8 (m % 256) ++ bits 8 (m / 256) ≡ bits 16 m

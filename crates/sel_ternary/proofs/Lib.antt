@@ -8,6 +8,7 @@ pub mod JoinedViews
 pub mod Lanes
 pub mod ListChoices
 pub mod OneList
+pub mod PairLanes
 pub mod Parts
 pub mod Placed
 pub mod SameNeeds

@@ -1,9 +1,9 @@
 -- If-then-else of list columns: the limits that the rows exceed, with the columns that are gathered and with the values that are given.
-use Rattle.sel_ternary.proofs.Common.{common_steps, ◌≡◌, ℕ, ◌≤◌, true, List, [], ◌∷◌, length, inl, sym, subst, ◌∙◌, arith, rows, type_of, well_formed, Shape}
-use Rattle.sel_ternary.proofs.Common.{Value, Column, length-rows, joined_items, exceeded_taken, refused_more, passes_neither, IsLimitOrMemory, ExceedsNone}
+use Rattle.sel_ternary.proofs.Common.{common_steps, ◌≡◌, ℕ, ◌≤◌, true, List, [], ◌∷◌, length, inl, sym, subst, arith, rows, type_of, well_formed, Shape, Value}
+use Rattle.sel_ternary.proofs.Common.{Column, length-rows, joined_items, exceeded_taken, refused_more, passes_neither, IsLimitOrMemory, ExceedsNone}
 use Rattle.sel_ternary.proofs.Common.{IfOk-weaker}
 use Rattle.sel_bits.specs.{declared.faults.Limit.Limit, declared.faults.PolarsError.PolarsError, Limits.max_rows}
-use Rattle.std.{specs.Prelude.IfOk, specs.Prelude.IfErr, proofs.Common.Result, proofs.Common.inr, proofs.lemmas.Result.IfErr-weaker}
+use Rattle.std.{specs.Prelude.IfOk, specs.Prelude.IfErr, proofs.Common.Result, proofs.Common.inr}
 use Rattle.sel_arrow.specs.{Shape.of_large_list, Shape.of_fixed_size_list, declared.array_ref.ArrayRef.ArrayRef}
 use Rattle.sel_gather.{specs.Children.child, proofs.ListParts.few_rows}
 use Rattle.sel_ternary.specs.ListSides.{below, exceeded_below, exceeded_lists, exceeded_held}

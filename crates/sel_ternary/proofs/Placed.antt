@@ -1,14 +1,13 @@
 -- If-then-else of views into the data buffers of the true and false values.
 use Rattle.sel_ternary.proofs.Common.{common_steps, ◌≡◌, ℕ, zero, suc, ◌+◌, ◌-◌, ◌≤◌, ◌<◌, ◌∙◌, sym, refl, ap, arith, List, [], ◌∷◌, ◌++◌, length, map, get_or}
-use Rattle.sel_ternary.proofs.Common.{take, drop, replicate, Bool, true, false, ◌&&◌, ◌==◌, list_all, eq-eqb, length-append, take_all, Bytes, is_placed}
-use Rattle.sel_ternary.proofs.Common.{view_value, View, choose, broadcast_true, broadcast_false, broadcast_both, can_rise, raised, scalar_buffers}
+use Rattle.sel_ternary.proofs.Common.{take, drop, replicate, Bool, true, false, list_all, eq-eqb, length-append, take_all, Bytes, is_placed, view_value, View}
+use Rattle.sel_ternary.proofs.Common.{choose, broadcast_true, broadcast_false, broadcast_both, can_rise, raised, scalar_buffers}
 use Rattle.sel_arrow.{specs.Views.view_of, specs.Views.inline_bytes, specs.Views.is_inline, specs.Views.word_at, proofs.Texts.utf8_passes}
-use Rattle.std.specs.{Prelude.leb, Prelude.ltb, List.slice_range}
-use Rattle.std.proofs.lemmas.Bool.{leb-false, leb-true, le-leb, lt-leb, lt-ltb, cases_Bool}
-use Rattle.std.proofs.{lemmas.List.get_or_append_left, lemmas.List.get_or-append-add, lemmas.List.take-map, lemmas.List.drop-map, Common.⊎_elim}
+use Rattle.std.{specs.Prelude.leb, specs.List.slice_range, proofs.Common.⊎_elim}
+use Rattle.std.proofs.lemmas.{Bool.leb-false, Bool.le-leb, Bool.lt-leb, Bool.cases_Bool, List.take-map, List.drop-map}
 use Rattle.sel_bits.specs.Limits.{max_buffers}
 use Rattle.sel_arrow.proofs.Lists.{all_at, all_more, all_of_them, none_at, all_part, both, and_first, and_second}
-use Rattle.sel_gather.proofs.Raising.{Behind, all_raised, raised_values, inline_placed, far_value, far_placed, room_to_raise}
+use Rattle.sel_gather.proofs.Raising.{Behind, all_raised, raised_values}
 use Rattle.sel_ternary.{specs.ViewSides.all_rise, proofs.Chosen.repeated_then, proofs.Chosen.repeated_otherwise, proofs.Chosen.repeated_both}
 
 pub ruleset all_views = (all_at, all_more, all_of_them, none_at, all_part)

@@ -1,11 +1,11 @@
 -- The limits that rows exceed depend only on the types and the data buffers of their columns.
-use Rattle.sel_ternary.proofs.Common.{common_steps, ◌≡◌, inl, ℕ, zero, suc, ◌+◌, ◌<◌, true, All, List, [], ◌∷◌, ◌++◌, length, take, drop, map, refl, sym, ap}
-use Rattle.sel_ternary.proofs.Common.{subst, ◌∙◌, arith, get_or, length-append, type_of, Shape, of_null, of_struct, shape_list, Value, Column, field}
-use Rattle.sel_ternary.proofs.Common.{joined_items, part_at, exceeded_taken}
+use Rattle.sel_ternary.proofs.Common.{common_steps, ◌≡◌, inl, ℕ, zero, suc, ◌+◌, ◌<◌, true, All, List, [], ◌∷◌, length, take, drop, map, refl, sym, ap, subst}
+use Rattle.sel_ternary.proofs.Common.{◌∙◌, arith, get_or, length-append, type_of, Shape, of_null, of_struct, shape_list, Value, Column, field, joined_items}
+use Rattle.sel_ternary.proofs.Common.{part_at, exceeded_taken}
 use Rattle.sel_bits.specs.declared.faults.Limit.{Limit}
 use Rattle.sel_arrow.specs.Rows.{buffers_held, types_of_each, buffers_of_each}
 use Rattle.sel_arrow.specs.declared.column.Column.TheVariants.{Struct', LargeList', FixedSizeList'}
-use Rattle.std.{proofs.Common.inr, proofs.Math.Seq.take-append_seam, proofs.Math.Seq.drop-append_seam, specs.Bool.⊤}
+use Rattle.std.{proofs.Common.inr, specs.Bool.⊤}
 use Rattle.sel_arrow.specs.Shape.{Shapes, no_shapes, next_shape, of_large_binary, of_binary_view, of_utf8_view, of_large_list, of_fixed_size_list}
 use Rattle.sel_arrow.specs.declared.column.Column.{Row_of-Column, end_of-Column, more_of-Column}
 use Rattle.sel_gather.specs.{Children.child, Children.columns_in, Need.buffer_count, Need.buffers_joined, Need.ExceedsBuffers, Need.exceeded_in_fields}

@@ -5,7 +5,7 @@ use Rattle.sel_ternary.proofs.Common.{Bytes, View, pick, choose, first_row}
 use Rattle.sel_ternary.specs.Chosen.{chosen_rows, spread_rows, SideFits}
 use Rattle.sel_arrow.specs.{Texts.is_text, Value.is_null, Masked.valid_at, Views.view_bytes, Views.view_rows}
 use Rattle.std.{proofs.Common.◌≢◌, proofs.Common.⊎_elim, proofs.lemmas.Bool.cases_Bool, specs.Prelude.count_by}
-use Rattle.sel_arrow.proofs.{Lists.both, Lists.and_first, Lists.and_second, ViewRows.length-view_rows, ViewRows.null_view, ViewRows.valid_view}
+use Rattle.sel_arrow.proofs.{Lists.and_first, Lists.and_second, ViewRows.length-view_rows, ViewRows.null_view, ViewRows.valid_view}
 use Rattle.sel_gather.{specs.Runs.expand, specs.Runs.unrolled, proofs.RunLists.map_nulls}
 use Rattle.sel_ternary.proofs.{SameNeeds.held_count, Placed.texts, Chosen.chosen_spread, Chosen.length-spread, Chosen.two_equal}
 

@@ -1,4 +1,4 @@
-//! If-then-else over columns of integers, 16 values at a time.
+//! If-then-else over columns of integers or views, 16 values at a time.
 
 ghost use Rattle.std.specs.Prelude.{◌≡◌, ◌≤◌, ◌+◌, ◌/◌, ◌++◌, List, length, take, drop, replicate, IfOk, IfErr, OnOk};
 ghost use Rattle.std.specs.Vec.{vec_len, vec_capacity};

@@ -1,4 +1,4 @@
-//! If-then-else for 16 integers at a time by vector operations, without a branch for each bit.
+//! If-then-else for 16 values at a time by vector operations, without a branch for each bit.
 
 ghost use Rattle.std.specs.Prelude.{◌≡◌, ◌≤◌, ◌+◌, ◌++◌, length, map};
 ghost use Rattle.std.specs.Int.{cast_signed, cast_unsigned, w8, w16, w32, w64};
@@ -8,11 +8,10 @@ ghost use Rattle.sel_bits.specs.Words.{bits};
 ghost use Rattle.sel_ternary.specs.Choose.{choose};
 ghost use Rattle.sel_ternary.specs.Lanes.{all_ones};
 
-use sel_bits::native::NativeType;
 use std::simd::prelude::*;
 
-/// An integer type of columns with an if-then-else for 16 values.
-pub trait ChooseLanes: NativeType {
+/// A type of the values of a column with an if-then-else for 16 values: an integer, or a view.
+pub trait ChooseLanes: Copy + Drop {
     /// Appends for each `i` below 16 the value `if_true[i]` if bit `i` of `mask` is set, else
     /// `if_false[i]`.
     ///

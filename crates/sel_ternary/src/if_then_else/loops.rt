@@ -1,16 +1,12 @@
 //! If-then-else over slices of any length, block by block over the words of a mask.
 
-ghost use Rattle.std.specs.Prelude.{◌≡◌, ◌≤◌, ◌<◌, ◌+◌, ◌/◌, List, length, take, drop, replicate, IfOk, IfErr, OnOk};
+ghost use Rattle.std.specs.Prelude.{◌≡◌, ◌≤◌, ◌<◌, ◌+◌, ◌/◌, List, length, take, drop, IfOk, IfErr, OnOk};
 ghost use Rattle.sel_bits.specs.Faults.{IsOutOfMemory};
 ghost use Rattle.sel_bits.specs.Words.{bits};
-ghost use Rattle.sel_ternary.specs.Choose.{choose, broadcast_both, broadcast_false, broadcast_true};
+ghost use Rattle.sel_ternary.specs.Choose.{choose};
 
-use crate::if_then_else::scalar::{
-    if_then_else_broadcast_both_scalar_rest, if_then_else_broadcast_false_scalar_rest,
-    if_then_else_scalar_rest,
-};
+use crate::if_then_else::scalar::if_then_else_scalar_rest;
 use sel_bits::aligned_words::AlignedWords;
-use sel_bits::bitmap::Bitmap;
 use sel_bits::faults::PolarsResult;
 use std::alloc::Global;
 
@@ -51,75 +47,6 @@ impl<T: Copy> BlockChoice for Between<'_, T> {
         let if_true = &self.if_true[at..at + out.len()];
         let if_false = &self.if_false[at..at + out.len()];
         if_then_else_scalar_rest(mask, if_true, if_false, out)
-    }
-}
-
-/// A scalar for set bits, a slice for unset bits.
-#[derive(Drop)]
-struct OneTrue<'a, T> {
-    if_true: T,
-    if_false: &'a [T],
-}
-
-#[tactic(auto, using(crate::proofs::Parts::parts))]
-impl<T: Copy> BlockChoice for OneTrue<'_, T> {
-    ghost use Rattle.std.specs.Prelude.{length, replicate};
-
-    type Item = T;
-
-    ghost trues = { λ c. replicate (length c.if_false.now) c.if_true };
-
-    ghost falses = { λ c. c.if_false.now };
-
-    fn choose_block(&self, mask: u64, at: usize, out: &mut [T]) {
-        let if_false = &self.if_false[at..at + out.len()];
-        if_then_else_broadcast_false_scalar_rest(!mask, if_false, self.if_true, out)
-    }
-}
-
-/// A slice for set bits, a scalar for unset bits.
-#[derive(Drop)]
-struct OneFalse<'a, T> {
-    if_true: &'a [T],
-    if_false: T,
-}
-
-#[tactic(auto, using(crate::proofs::Parts::parts))]
-impl<T: Copy> BlockChoice for OneFalse<'_, T> {
-    ghost use Rattle.std.specs.Prelude.{length, replicate};
-
-    type Item = T;
-
-    ghost trues = { λ c. c.if_true.now };
-
-    ghost falses = { λ c. replicate (length c.if_true.now) c.if_false };
-
-    fn choose_block(&self, mask: u64, at: usize, out: &mut [T]) {
-        let if_true = &self.if_true[at..at + out.len()];
-        if_then_else_broadcast_false_scalar_rest(mask, if_true, self.if_false, out)
-    }
-}
-
-/// Two scalars, for `len` rows.
-#[derive(Drop)]
-struct OfTwo<T> {
-    if_true: T,
-    if_false: T,
-    len: usize,
-}
-
-#[tactic(auto, using(crate::proofs::Parts::parts))]
-impl<T: Copy> BlockChoice for OfTwo<T> {
-    ghost use Rattle.std.specs.Prelude.{replicate};
-
-    type Item = T;
-
-    ghost trues = { λ c. replicate c.len c.if_true };
-
-    ghost falses = { λ c. replicate c.len c.if_false };
-
-    fn choose_block(&self, mask: u64, _at: usize, out: &mut [T]) {
-        if_then_else_broadcast_both_scalar_rest(mask, self.if_true, self.if_false, out)
     }
 }
 
@@ -172,66 +99,5 @@ pub fn if_then_else_words<T: Copy>(
     let mut out = Vec::from_slice(alloc, if_false)?;
     let choice = Between { if_true, if_false };
     choose_blocks(&choice, mask, &mut out);
-    Ok(out)
-}
-
-/// Returns if-then-else of a scalar and a slice, or `OutOfMemory`.
-#[tactic(auto, using(crate::proofs::Parts::broadcasts))]
-pub(crate) fn choose_one_true<T: Copy>(
-    alloc: Global,
-    mask: &Bitmap,
-    if_true: T,
-    if_false: &[T],
-) -> PolarsResult<Vec<T>>
-    requires { length if_false.now ≡ length mask.now.bits }
-    ensures items { IfOk result (λ out. out.items ≡ broadcast_true mask.now.bits if_true
-        if_false.now) }
-    ensures refusal { IfErr result IsOutOfMemory }
-{
-    let mut out = Vec::from_slice(alloc, if_false)?;
-    let choice = OneTrue { if_true, if_false };
-    choose_blocks(&choice, &mut AlignedWords::new(mask), &mut out);
-    Ok(out)
-}
-
-/// Returns if-then-else of a slice and a scalar, or `OutOfMemory`.
-#[tactic(auto, using(crate::proofs::Parts::broadcasts))]
-pub(crate) fn choose_one_false<T: Copy>(
-    alloc: Global,
-    mask: &Bitmap,
-    if_true: &[T],
-    if_false: T,
-) -> PolarsResult<Vec<T>>
-    requires { length if_true.now ≡ length mask.now.bits }
-    ensures items { IfOk result (λ out. out.items ≡
-        broadcast_false mask.now.bits if_true.now if_false) }
-    ensures refusal { IfErr result IsOutOfMemory }
-{
-    let mut out = Vec::from_slice(alloc, if_true)?;
-    let choice = OneFalse { if_true, if_false };
-    choose_blocks(&choice, &mut AlignedWords::new(mask), &mut out);
-    Ok(out)
-}
-
-/// Returns if-then-else of two scalars, or `OutOfMemory`.
-#[tactic(auto, using(crate::proofs::Parts::broadcasts))]
-pub(crate) fn choose_two<T: Copy>(
-    alloc: Global,
-    mask: &Bitmap,
-    if_true: T,
-    if_false: T,
-) -> PolarsResult<Vec<T>>
-    ensures items { IfOk result (λ out. out.items ≡ broadcast_both mask.now.bits if_true
-        if_false) }
-    ensures refusal { IfErr result IsOutOfMemory }
-{
-    let len = mask.len();
-    let mut out = vec![in alloc; if_false; len]?;
-    let choice = OfTwo {
-        if_true,
-        if_false,
-        len,
-    };
-    choose_blocks(&choice, &mut AlignedWords::new(mask), &mut out);
     Ok(out)
 }

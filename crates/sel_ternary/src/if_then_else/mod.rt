@@ -29,6 +29,7 @@ mod utf8view;
 mod validity;
 pub mod view;
 mod view_columns;
+mod view_lanes;
 mod word_kernels;
 
 pub use lanes::ChooseLanes;

@@ -9,7 +9,9 @@ ghost use Rattle.sel_ternary.specs.Choose.{choose, broadcast_both, broadcast_tru
 ghost use Rattle.sel_ternary.specs.Sides.{IsLimitOrMemory, ExceedsNone};
 ghost use Rattle.sel_ternary.specs.ViewSides.{scalar_buffers, ExceedsViews};
 
-use crate::if_then_else::loops::{choose_one_false, choose_one_true, choose_two};
+use crate::if_then_else::by_lanes::{
+    choose_column_or_scalar, choose_scalar_or_column, choose_scalars,
+};
 use crate::if_then_else::validity::if_then_else_validity;
 use crate::if_then_else::view::choose_views;
 use sel_arrow::binview::{BinaryViewArray, MOST_BUFFERS};
@@ -88,7 +90,7 @@ pub(crate) fn choose_bytes_true(
     check_limits(count_of_scalar(if_true) + before, if_true.len())?;
     let validity = if_then_else_validity(alloc, mask, None, if_false.validity.as_ref())?;
     let view = View::new_from_bytes(if_true, before as u32, 0);
-    let views = choose_one_true(alloc, mask, view, if_false.views.as_slice())?;
+    let views = choose_scalar_or_column(alloc, mask, view, if_false.views.as_slice())?;
     let views = Buffer::from_vec(views)?;
     let scalar = buffers_of_scalar(alloc, if_true)?;
     let buffers = joined_buffers(alloc, if_false.buffers.as_slice(), &scalar)?;
@@ -125,7 +127,7 @@ pub(crate) fn choose_bytes_false(
     check_limits(before + count_of_scalar(if_false), if_false.len())?;
     let validity = if_then_else_validity(alloc, mask, if_true.validity.as_ref(), None)?;
     let view = View::new_from_bytes(if_false, before as u32, 0);
-    let views = choose_one_false(alloc, mask, if_true.views.as_slice(), view)?;
+    let views = choose_column_or_scalar(alloc, mask, if_true.views.as_slice(), view)?;
     let views = Buffer::from_vec(views)?;
     let scalar = buffers_of_scalar(alloc, if_false)?;
     let buffers = joined_buffers(alloc, if_true.buffers.as_slice(), &scalar)?;
@@ -165,7 +167,7 @@ pub(crate) fn choose_bytes(
     )?;
     let first = View::new_from_bytes(if_true, 0, 0);
     let second = View::new_from_bytes(if_false, before as u32, 0);
-    let views = Buffer::from_vec(choose_two(alloc, mask, first, second)?)?;
+    let views = Buffer::from_vec(choose_scalars(alloc, mask, first, second)?)?;
     let trues = buffers_of_scalar(alloc, if_true)?;
     let falses = buffers_of_scalar(alloc, if_false)?;
     let buffers = joined_buffers(alloc, &trues, &falses)?;
