@@ -8,6 +8,7 @@ ghost use Rattle.sel_ternary.specs.ViewSides.{all_rise, can_rise, raised};
 
 use crate::if_then_else::loops::{BlockChoice, choose_blocks};
 use crate::if_then_else::scalar::if_then_else_broadcast_false_scalar_64;
+use crate::if_then_else::view_lanes::{added, chosen_pair, pair_lanes, raised_lanes};
 use sel_arrow::view::{INLINE_BYTES, View};
 use sel_bits::aligned_words::AlignedWords;
 use sel_bits::bitmap::Bitmap;
@@ -36,20 +37,34 @@ pub fn if_then_else_view_rest(
     ensures { out.new ≡ choose (bits (length out.old) mask) if_true.now
         (map (λ view. raised view false_buffer_idx_offset) if_false.now) }
 {
-    for i in 0..out.len() {
-        let (one, other) = (if_true[i], if_false[i]);
-        out[i] = if (mask >> i) & 1 == 1 {
-            one
-        } else if other.length <= INLINE_BYTES {
-            other
+    let len = out.len();
+    for k in 0..len / 2 {
+        let at = 2 * k;
+        let trues = pair_lanes(if_true[at], if_true[at + 1]);
+        let falses = raised_lanes(if_false[at], if_false[at + 1], false_buffer_idx_offset);
+        let pair = chosen_pair(((mask >> at) % 4) as u16, trues, falses);
+        out[at] = pair[0];
+        out[at + 1] = pair[1];
+    }
+    if len % 2 == 1 {
+        let at = len - 1;
+        let other = raise(if_false[at], false_buffer_idx_offset);
+        out[at] = if (mask >> at) & 1 == 1 {
+            if_true[at]
         } else {
-            let buffer_idx = other.buffer_idx + false_buffer_idx_offset;
-            View {
-                buffer_idx,
-                ..other
-            }
+            other
         };
     }
+}
+
+/// Returns the view with `by` added to its data buffer index, unless it is inline.
+#[inline(always)]
+fn raise(view: View, by: u32) -> View
+    requires { IsTrue (can_rise by view) }
+    ensures { result ≡ raised view by }
+{
+    let buffer_idx = view.buffer_idx + added(view, by);
+    View { buffer_idx, ..view }
 }
 
 /// Applies `if_then_else_view_rest` to 64 views.

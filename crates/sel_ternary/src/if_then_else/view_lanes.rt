@@ -1,14 +1,15 @@
 //! If-then-else for 16 views at a time, two in a vector, without a branch for each bit.
 
-ghost use Rattle.std.specs.Prelude.{◌≡◌, ◌≤◌, ◌+◌, ◌++◌, ◌∷◌, [], length, map};
+ghost use Rattle.std.specs.Prelude.{◌≡◌, ◌≤◌, ◌+◌, ◌++◌, ◌∷◌, [], length, map, IsTrue, if◌then◌else◌};
 ghost use Rattle.std.specs.Vec.{vec_len, vec_capacity};
 ghost use Rattle.sel_bits.specs.Words.{bits, is_set};
 ghost use Rattle.sel_ternary.specs.Choose.{choose};
-ghost use Rattle.sel_ternary.specs.Lanes.{all_ones};
+ghost use Rattle.sel_ternary.specs.Lanes.{all_ones, pair_fields};
+ghost use Rattle.sel_ternary.specs.ViewSides.{can_rise, raised};
 ghost use Rattle.sel_arrow.specs.declared.view.View.{View};
 
 use crate::if_then_else::lanes::ChooseLanes;
-use sel_arrow::view::View;
+use sel_arrow::view::{INLINE_BYTES, View};
 use std::simd::prelude::*;
 
 impl ChooseLanes for View {
@@ -36,21 +37,20 @@ fn push_pair(mask: u16, if_true: &[View], if_false: &[View], out: &mut Vec<View>
         if_false.now }
     ensures capacity { vec_capacity out.new ≡ vec_capacity out.old }
 {
-    let [one, other] = chosen_pair(mask, if_true, if_false);
+    let trues = pair_lanes(if_true[0], if_true[1]);
+    let falses = pair_lanes(if_false[0], if_false[1]);
+    let [one, other] = chosen_pair(mask, trues, falses);
     out.push_reserved(one);
     out.push_reserved(other);
 }
 
-/// Returns the two views that the lowest bits of `mask` choose.
+/// Returns the views that the two lowest bits of `mask` choose between the views with these fields.
 #[inline(always)]
-fn chosen_pair(mask: u16, if_true: &[View], if_false: &[View]) -> [View; 2]
-    requires true_side { length if_true.now ≡ 2 }
-    requires false_side { length if_false.now ≡ 2 }
-    ensures { result ≡ choose (bits 2 mask) if_true.now if_false.now }
+pub(crate) fn chosen_pair(mask: u16, if_true: u32x8, if_false: u32x8) -> [View; 2]
+    ensures { (a b c d : View) → if_true ≡ pair_fields a b → if_false ≡ pair_fields c d →
+        result ≡ (if is_set mask 0 then a else c) ∷ (if is_set mask 1 then b else d) ∷ [] }
 {
-    let one = pair_lanes(if_true[0], if_true[1]);
-    let other = pair_lanes(if_false[0], if_false[1]);
-    views_of(set_pair(mask).select(one, other))
+    views_of(set_pair(mask).select(if_true, if_false))
 }
 
 /// Returns the lanes of two views, four each, whose bit of `mask` is set.
@@ -65,9 +65,8 @@ fn set_pair(mask: u16) -> mask32x8
 
 /// Returns the fields of two views.
 #[inline(always)]
-fn pair_lanes(one: View, other: View) -> u32x8
-    ensures { result ≡ one.length ∷ one.prefix ∷ one.buffer_idx ∷ one.offset ∷
-        other.length ∷ other.prefix ∷ other.buffer_idx ∷ other.offset ∷ [] }
+pub(crate) fn pair_lanes(one: View, other: View) -> u32x8
+    ensures { result ≡ pair_fields one other }
 {
     u32x8::from_array([
         one.length,
@@ -81,12 +80,37 @@ fn pair_lanes(one: View, other: View) -> u32x8
     ])
 }
 
+/// Returns the fields of two views with `by` added to the data buffer index of each, unless it is
+/// inline.
+#[inline(always)]
+pub(crate) fn raised_lanes(one: View, other: View, by: u32) -> u32x8
+    requires one { IsTrue (can_rise by one) }
+    requires other { IsTrue (can_rise by other) }
+    ensures { result ≡ pair_fields (raised one by) (raised other by) }
+{
+    let (first, second) = (added(one, by), added(other, by));
+    pair_lanes(one, other) + u32x8::from_array([0, 0, first, 0, 0, 0, second, 0])
+}
+
+/// Returns what is added to the data buffer index of a view: `by`, or 0 if it is inline.
+#[inline(always)]
+pub(crate) fn added(view: View, by: u32) -> u32
+    requires { IsTrue (can_rise by view) }
+    ensures sum { (record {
+      length = view.length;
+      prefix = view.prefix;
+      buffer_idx = view.buffer_idx + result;
+      offset = view.offset;
+    }) ≡ raised view by }
+    ensures few { view.buffer_idx + result ≤ 4294967295 }
+{
+    if view.length <= INLINE_BYTES { 0 } else { by }
+}
+
 /// Returns the two views with these fields.
 #[inline(always)]
 fn views_of(fields: u32x8) -> [View; 2]
-    ensures { (one other : View) → fields ≡ one.length ∷ one.prefix ∷ one.buffer_idx ∷
-        one.offset ∷ other.length ∷ other.prefix ∷ other.buffer_idx ∷ other.offset ∷ [] →
-        result ≡ one ∷ other ∷ [] }
+    ensures { (one other : View) → fields ≡ pair_fields one other → result ≡ one ∷ other ∷ [] }
 {
     let lanes = fields.to_array();
     [
