@@ -9,7 +9,7 @@ ghost use Rattle.sel_gather.specs.Plans.{HasBit, bits_found};
 ghost use Rattle.sel_gather.specs.Runs.{unrolled};
 
 use crate::bits::push_validity;
-use crate::gather_values::Part;
+use crate::part::Part;
 use crate::repeat::push_values;
 use crate::row_refs::Plan;
 use crate::runs::Run;

@@ -11,19 +11,12 @@ ghost use Rattle.sel_gather.specs.Validity.{bits_for};
 
 use crate::bits::validity_from;
 use crate::copy_values::{copy_bits, copy_plan};
+use crate::part::Part;
 use crate::row_refs::Plan;
 use sel_bits::bitmap::Bitmap;
 use sel_bits::faults::PolarsResult;
 use sel_bits::packer::{BitPacker, MOST_BITS};
 use std::alloc::Global;
-
-/// The values and the validity of a source.
-#[derive(Drop)]
-pub(crate) struct Part<'a, T: Copy> {
-    pub values: &'a [T],
-    pub validity: Option<&'a Bitmap>,
-    pub ghost covers: { Covers (option_copied validity) (length values.now) },
-}
 
 /// Returns the value at each row reference, and `zero` for null references. Errors: `OutOfMemory`.
 #[inline(always)]

@@ -24,6 +24,7 @@ mod live_runs;
 mod nested;
 mod null;
 pub mod one_source;
+mod part;
 mod primitive;
 mod repeat;
 pub mod row_refs;

@@ -9,7 +9,8 @@ ghost use Rattle.sel_arrow.specs.Value.{Null};
 ghost use Rattle.sel_gather.specs.Picks.{pick, PickFits};
 ghost use Rattle.sel_gather.specs.Sources.{rows_of};
 
-use crate::gather_values::{Part, gather_parts};
+use crate::gather_values::gather_parts;
+use crate::part::Part;
 use crate::row_refs::Plan;
 use sel_arrow::column::Column;
 use sel_arrow::primitive::ArrowPrimitive;
