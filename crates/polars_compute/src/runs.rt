@@ -65,7 +65,8 @@ impl Runs for MaskRuns<'_> {
 
 /// An iterator over the true bits in `mask`, each a run of one row of source 0, from bit `at` on.
 ///
-/// Where runs are short, this is faster than [`MaskRuns`]: no branch depends on the length of a run.
+/// Where runs are short, this is faster than [`MaskRuns`], since no branch depends on the length of
+/// a run.
 #[derive(Clone, Copy, Drop)]
 pub(crate) struct MaskRows<'a> {
     pub(crate) mask: &'a Bitmap,
@@ -100,7 +101,7 @@ impl Runs for MaskRows<'_> {
         false
     }
 
-    // (rows that follow one another are counted once, since they become one run where runs are listed)
+    // (rows that follow one another are counted once: they become one run where runs are listed)
     #[inline(always)]
     fn run_count(&self) -> usize {
         count_runs(self.mask)

@@ -303,8 +303,9 @@ fn filter_runs(
 
 /// Returns the rows of `column` whose bit is set, as `filter_runs` does.
 ///
-/// If most runs are short, no run is listed, and lists are read one by one, by the bits of the mask.
-/// Long runs are few, so they are listed, and the items of all lists of a run are copied at once.
+/// Lists are read one by one, by the bits of the mask, if most runs are short. If most are long, the
+/// items of all lists of a run are copied at once. The runs of the mask are not listed for lists,
+/// since they would take memory beside the runs of the items.
 fn collect_kept(alloc: Global, column: &Column, mask: &Bitmap, count: usize) -> PolarsResult<Column>
     requires formed { IsWellFormed column.now }
     requires long { length (rows column.now) ≡ length mask.now.bits }
@@ -314,8 +315,9 @@ fn collect_kept(alloc: Global, column: &Column, mask: &Bitmap, count: usize) -> 
         (pick Null (rows column.now ∷ []) (map place_pick (kept mask.now.bits))) }
 {
     let sources = [column];
-    let in_runs = count_runs(mask) < count / LONG_RUN;
-    if !in_runs && is_list(column) {
+    let are_long = count_runs(mask) < count / LONG_RUN;
+    let is_list = is_list(column);
+    if is_list && !are_long {
         let plan = RunRefs {
             first: NO_ROWS,
             rest: MaskRows { mask, at: 0 },
@@ -328,7 +330,7 @@ fn collect_kept(alloc: Global, column: &Column, mask: &Bitmap, count: usize) -> 
         rest: MaskRuns { mask, at: 0 },
         left: count,
     };
-    collect_plan(alloc, &sources, &plan, in_runs)
+    collect_plan(alloc, &sources, &plan, are_long && !is_list)
 }
 
 /// Returns whether `column` has lists with offsets. No contract depends on the result.

@@ -3,8 +3,8 @@ use Rattle.polars_compute.proofs.filter.collect_kept.Goals as goal
 
 -- ---- the bits of the mask
 
-pub invariant_of-plan-then-is_list : goal.invariant_of-plan-then-is_list
-invariant_of-plan-then-is_list c =
+pub invariant_of-plan-then-not-are_long : goal.invariant_of-plan-then-not-are_long
+invariant_of-plan-then-not-are_long c =
     let mask = c.args.mask.now.bits in
     record { count = kept_long mask ∙ sym c.requires.count; few = omega (arith, c.requires.count, kept_few mask, c.requires.few); near = kept_near mask c.requires.few }
 
