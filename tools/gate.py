@@ -51,8 +51,8 @@ SETUP = {
 
 # the number of checks of mutants that run at once while the proofs run; afterwards each processor runs one
 AT_ONCE = 2
-# the most mutants of one check, which uses one processor; each check also proves what its functions call
-MUTANTS_OF_CHECK = 40
+# the most mutants of one check, which uses one processor; each check also proves the lemmas and the functions that its functions use
+MUTANTS_OF_CHECK = 60
 # the number of checks of the C library that run at once
 LIBRARY_AT_ONCE = 2
 
