@@ -7,7 +7,7 @@ use sel_text::print::print_rows;
 use std::alloc::{AllocError, AllocFailed, Global};
 
 /// The error of a step.
-#[derive(Debug, Clone, Copy)]
+#[derive(Clone, Copy)]
 pub enum Stop {
     /// A kernel returned an error.
     Refused(PolarsError),
