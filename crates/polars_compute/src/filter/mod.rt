@@ -265,10 +265,10 @@ fn filter_lists(
     ensures dtype { IfOk result (λ kept. type_of kept.column ≡ type_of column.now) }
     ensures refusal { IfErr result IsOutOfMemory }
 {
+    let validity = filter_validity(alloc, validity.as_ref(), mask, count)?;
     let Some(child) = filter_child(alloc, values, size, mask, count)? else {
         return filter_runs(alloc, column, mask, count);
     };
-    let validity = filter_validity(alloc, validity.as_ref(), mask, count)?;
     let values = Box::new(alloc, child)?;
     let column = Column::FixedSizeList {
         size,
