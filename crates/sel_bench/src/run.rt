@@ -18,14 +18,14 @@ use std::io::{Read, Write};
 pub const LAST_LINE: u64 = 4_294_967_295;
 
 /// The end of a run: the end of the input, or the number of the first bad line.
-#[derive(Debug, Clone, Copy, PartialEq, Eq)]
+#[derive(Clone, Copy, PartialEq, Eq)]
 pub enum Done {
     End,
     BadLine(u64),
 }
 
 /// The error of a run: out of memory, or a failed read or write.
-#[derive(Debug, Clone, Copy, PartialEq, Eq)]
+#[derive(Clone, Copy, PartialEq, Eq)]
 pub enum RunError {
     OutOfMemory,
     Input,

@@ -132,48 +132,67 @@ fn each_read_fails(rt: HostRuntime) -> Result<(), Fail> {
     Ok(())
 }
 
+// Returns whether a run over the two lines, into a writer of one byte per write with a fault at write
+// `at`, fails at this write only, after the bytes before it and without a flush.
+fn fails_by_output(alloc: Global, at: u64, fault: Fault) -> bool {
+    let (result, failures, fake) = run_into(alloc, 1, fault);
+    (result == Err(RunError::Output))
+        & (failures == 1)
+        & (fake.taken.len() as u64 + 1 == at)
+        & (fake.flushes == 0)
+}
+
 #[test]
-fn each_write_fails(rt: HostRuntime) -> Result<(), Fail> {
+fn each_write_fails(rt: HostRuntime) {
     for at in 1..13 {
         for fault in [Fault::Error(at), Fault::TakesNone(at)] {
-            let (result, failures, fake) = run_into(rt.alloc(), 1, fault);
-            assert_eq!(rt; result, Err(RunError::Output));
-            assert_eq!(rt; failures, 1);
-            assert_eq!(rt; fake.taken.len() as u64 + 1, at);
-            assert_eq!(rt; fake.flushes, 0);
+            assert!(rt; fails_by_output(rt.alloc(), at, fault));
         }
     }
-    Ok(())
+}
+
+// Returns whether a run over the two lines ends so, with so many failures of the writer, after both
+// answers and one flush.
+fn flushes_once(
+    alloc: Global,
+    piece: usize,
+    fault: Fault,
+    end: Result<Done, RunError>,
+    failed: u64,
+) -> bool {
+    let (result, failures, fake) = run_into(alloc, piece, fault);
+    (result == end)
+        & (failures == failed)
+        & (fake.taken.as_slice() == TWO_ANSWERS)
+        & (fake.flushes == 1)
 }
 
 #[test]
-fn a_run_flushes_once(rt: HostRuntime) -> Result<(), Fail> {
-    for (piece, fault, end) in [
-        (1, Fault::None, Ok(Done::End)),
-        (100, Fault::None, Ok(Done::End)),
-        (100, Fault::Flush, Err(RunError::Output)),
-    ] {
-        let (result, failures, fake) = run_into(rt.alloc(), piece, fault);
-        assert_eq!(rt; result, end);
-        assert_eq!(rt; failures, if fault == Fault::Flush { 1 } else { 0 });
-        assert!(rt; fake.taken.as_slice() == TWO_ANSWERS);
-        assert_eq!(rt; fake.flushes, 1);
-    }
-    Ok(())
+fn a_run_flushes_once(rt: HostRuntime) {
+    assert!(rt; flushes_once(rt.alloc(), 1, Fault::None, Ok(Done::End), 0));
+    assert!(rt; flushes_once(rt.alloc(), 100, Fault::None, Ok(Done::End), 0));
+    assert!(rt; flushes_once(rt.alloc(), 100, Fault::Flush, Err(RunError::Output), 1));
 }
 
-#[test]
-fn one_line_read_and_sent(rt: HostRuntime) -> Result<(), Fail> {
+// Returns whether `read_line` reads the first of the two lines, and nothing of the second.
+fn reads_one_line(alloc: Global) -> bool {
     let mut reader = Counted::new(TWO_LINES);
-    let mut line = Vec::new(rt.alloc());
-    assert!(rt; read_line(&mut reader, &mut line) == Ok(LineEnd::Feed));
-    assert!(rt; line.as_slice() == &TWO_LINES[..26]);
-    assert!(rt; reader.into_inner() == &TWO_LINES[27..]);
-    let mut writer = Counted::new(FakeWriter::new(rt.alloc(), 4, Fault::None));
-    assert_eq!(rt; send(&mut writer, &line), Ok(()));
-    assert_eq!(rt; flush(&mut writer), Ok(()));
+    let mut line = Vec::new(alloc);
+    (read_line(&mut reader, &mut line) == Ok(LineEnd::Feed))
+        & (line.as_slice() == &TWO_LINES[..26])
+        & (reader.into_inner() == &TWO_LINES[27..])
+}
+
+// Returns whether `send` and `flush` write this line in pieces of four bytes, and flush once.
+fn sends_line(alloc: Global, line: &[u8]) -> bool {
+    let mut writer = Counted::new(FakeWriter::new(alloc, 4, Fault::None));
+    let is_sent = (send(&mut writer, line) == Ok(())) & (flush(&mut writer) == Ok(()));
     let fake = writer.into_inner();
-    assert!(rt; fake.taken.as_slice() == line.as_slice());
-    assert_eq!(rt; fake.flushes, 1);
-    Ok(())
+    is_sent & (fake.taken.as_slice() == line) & (fake.flushes == 1)
+}
+
+#[test]
+fn one_line_read_and_sent(rt: HostRuntime) {
+    assert!(rt; reads_one_line(rt.alloc()));
+    assert!(rt; sends_line(rt.alloc(), &TWO_LINES[..26]));
 }
