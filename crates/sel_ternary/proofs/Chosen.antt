@@ -60,8 +60,8 @@ pub record AsLong {A : Type 0} (n : ℕ) (ms : List Bool) (ts fs : List A) : Typ
   pub falses : length fs ≡ n
 
 -- Lists that are as long as the bits of a word.
-pub word_long : {A : Type 0} → (mask : ℕ) (ts fs : List A) → length fs ≡ length ts → AsLong (length ts) (bits (length ts) mask) ts fs
-word_long mask ts fs alike = record { mask = length_bits (length ts) mask; trues = refl; falses = alike }
+pub word_long : {A : Type 0} → (n mask : ℕ) (ts fs : List A) → length ts ≡ n → length fs ≡ n → AsLong n (bits n mask) ts fs
+word_long n mask ts fs trues falses = record { mask = length_bits n mask; trues = trues; falses = falses }
 
 -- The if-then-else of the first entries.
 abbrev pub chosen_to : {A : Type 0} → List Bool → List A → List A → ℕ → List A
@@ -133,7 +133,7 @@ pub chosen_row : {A : Type 0} → (n mask : ℕ) (ts fs base out : List A) (i : 
 chosen_row n mask ts fs base out i t f x rows lt was t_is f_is x_is =
     let block = row_block n mask ts fs i t f x rows.trues rows.falses lt t_is f_is x_is in
     let next : suc i ≡ i + 1 = omega arith in
-    chosen_block n (bits n mask) ts fs base (record { mask = length_bits n mask; trues = rows.trues; falses = rows.falses }) i out was 1 (set out i x) (omega arith)
+    chosen_block n (bits n mask) ts fs base (word_long n mask ts fs rows.trues rows.falses) i out was 1 (set out i x) (omega arith)
     (set_split out i x (omega (arith, rows.places)) ∙ ap (λ k. take i out ++ (x ∷ drop k out)) next ∙ ap (λ l. take i out ++ (l ++ drop (i + 1) out)) (sym block))
 
 -- The entry for a bit that a shift moves to the lowest position of its word.
@@ -150,7 +150,7 @@ repeated_at n i x lt = sym (get_or-replicate n i x x lt)
 -- All entries are written, by the bits of a word.
 module _ {A : Type 0} (n mask : ℕ) (base out : List A) (i : ℕ) (size : length base ≡ n) (all : i ≡ n) where
   pub all_rows : (ts fs : List A) → length ts ≡ n → length fs ≡ n → IsChosen (bits n mask) ts fs base i out → out ≡ choose (bits n mask) ts fs
-  all_rows ts fs trues falses was = chosen_all n (bits n mask) ts fs base (record { mask = length_bits n mask; trues = trues; falses = falses }) i out was size all
+  all_rows ts fs trues falses was = chosen_all n (bits n mask) ts fs base (word_long n mask ts fs trues falses) i out was size all
 
   pub all_rows_or_one : (ts : List A) (y : A) → length ts ≡ n → IsChosen (bits n mask) ts (replicate n y) base i out → out ≡ broadcast_false (bits n mask) ts y
   all_rows_or_one ts y trues was = grind (arith, common_steps, all_rows, length-replicate, repeated_otherwise, mask, length_bits)

@@ -3,6 +3,7 @@ pub mod Chosen
 pub mod ChosenPicks
 pub mod Lanes
 pub mod ListSides
+pub mod SideValues
 pub mod Sides
 pub mod Steps
 pub mod Structs

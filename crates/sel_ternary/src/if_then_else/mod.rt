@@ -25,6 +25,7 @@ mod lists;
 mod loops;
 mod primitive;
 pub mod scalar;
+mod side;
 mod utf8view;
 mod validity;
 pub mod view;

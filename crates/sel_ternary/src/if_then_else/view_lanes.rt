@@ -1,47 +1,61 @@
 //! If-then-else for 16 views at a time, two in a vector, without a branch for each bit.
 
-ghost use Rattle.std.specs.Prelude.{◌≡◌, ◌≤◌, ◌+◌, ◌++◌, ◌∷◌, [], length, map, IsTrue, if◌then◌else◌};
+ghost use Rattle.std.specs.Prelude.{◌≡◌, ◌≤◌, ◌+◌, ◌++◌, ◌∷◌, [], length, get_or, map, IsTrue, if◌then◌else◌};
 ghost use Rattle.std.specs.Vec.{vec_len, vec_capacity};
 ghost use Rattle.sel_bits.specs.Words.{bits, is_set};
 ghost use Rattle.sel_ternary.specs.Choose.{choose};
 ghost use Rattle.sel_ternary.specs.Lanes.{all_ones, pair_fields};
+ghost use Rattle.sel_ternary.specs.SideValues.{side_values};
 ghost use Rattle.sel_ternary.specs.ViewSides.{can_rise, raised};
 ghost use Rattle.sel_arrow.specs.declared.view.View.{View};
 
 use crate::if_then_else::lanes::ChooseLanes;
+use crate::if_then_else::side::Side;
 use sel_arrow::view::{INLINE_BYTES, View};
 use std::simd::prelude::*;
 
 impl ChooseLanes for View {
     #[inline(always)]
     #[tactic(auto, using(crate::proofs::Lanes::filling))]
-    fn push_16(mask: u16, if_true: &[View], if_false: &[View], out: &mut Vec<View>) {
+    fn push_sides(mask: u16, if_true: &Side<View>, if_false: &Side<View>, out: &mut Vec<View>) {
         for k in 0..8 {
             let at = 2 * k;
-            push_pair(mask >> at, &if_true[at..at + 2], &if_false[at..at + 2], out);
+            let (trues, falses) = (if_true.part(at, 2), if_false.part(at, 2));
+            push_pair(mask >> at, &trues, &falses, out);
         }
     }
 }
 
-/// Appends for each `i` below 2 the view `if_true[i]` if bit `i` of `mask` is set, else
-/// `if_false[i]`.
+/// Appends for each `i` below 2 the view of row `i` of `if_true` if bit `i` of `mask` is set, else
+/// that of `if_false`.
 ///
 /// # Requires
-/// Both slices have two views, and `out` has spare capacity for as many.
+/// Both sides have two rows, and `out` has spare capacity for as many views.
 #[inline(always)]
-fn push_pair(mask: u16, if_true: &[View], if_false: &[View], out: &mut Vec<View>)
-    requires true_side { length if_true.now ≡ 2 }
-    requires false_side { length if_false.now ≡ 2 }
+fn push_pair(mask: u16, if_true: &Side<View>, if_false: &Side<View>, out: &mut Vec<View>)
+    requires true_side { length (side_values if_true.now) ≡ 2 }
+    requires false_side { length (side_values if_false.now) ≡ 2 }
     requires room { vec_len out.old + 2 ≤ vec_capacity out.old }
-    ensures items { out.new.items ≡ out.old.items ++ choose (bits 2 mask) if_true.now
-        if_false.now }
+    ensures items { out.new.items ≡ out.old.items ++
+        choose (bits 2 mask) (side_values if_true.now) (side_values if_false.now) }
     ensures capacity { vec_capacity out.new ≡ vec_capacity out.old }
 {
-    let trues = pair_lanes(if_true[0], if_true[1]);
-    let falses = pair_lanes(if_false[0], if_false[1]);
-    let [one, other] = chosen_pair(mask, trues, falses);
+    let [one, other] = chosen_pair(mask, lanes_of(if_true), lanes_of(if_false));
     out.push_reserved(one);
     out.push_reserved(other);
+}
+
+/// Returns the fields of the views of two rows.
+#[inline(always)]
+fn lanes_of(side: &Side<View>) -> u32x8
+    requires { length (side_values side.now) ≡ 2 }
+    ensures { (d : View) → result ≡ pair_fields (get_or (side_values side.now) 0 d)
+        (get_or (side_values side.now) 1 d) }
+{
+    match side {
+        Side::Rows(views) => pair_lanes(views[0], views[1]),
+        Side::Scalar(view, _) => pair_lanes(*view, *view),
+    }
 }
 
 /// Returns the views that the two lowest bits of `mask` choose between the views with these fields.

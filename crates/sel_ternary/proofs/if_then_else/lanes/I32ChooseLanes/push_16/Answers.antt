@@ -1,8 +1,0 @@
-use Rattle.sel_ternary.proofs.{Common.refl, Common.w32, Common.cast_signed, Common.cast_unsigned, Common.top, Lanes.signed_lanes}
-use Rattle.sel_ternary.proofs.if_then_else.lanes.I32ChooseLanes.push_16.Goals as goal
-
-pub returns-clause-items : goal.returns-clause-items
-returns-clause-items c =
-    signed_lanes (top 31) (cast_unsigned w32) refl refl c.args.mask c.set_lanes_32.result c.set_lanes_32.ensures
-    (cast_unsigned w32) (cast_signed w32) c.args.if_true.now c.args.if_false.now _ _ c.requires.true_side c.requires.false_side
-    c.show_range_32.ensures c.show_range_32-2.ensures c.push_lanes.ensures.items

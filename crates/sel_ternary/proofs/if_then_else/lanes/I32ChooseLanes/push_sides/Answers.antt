@@ -1,0 +1,17 @@
+use Rattle.sel_ternary.proofs.Common.{◌+◌, ◌*◌, ◌/◌, ◌^◌, refl, arith, bits, w32, cast_signed, cast_unsigned, top}
+use Rattle.sel_ternary.proofs.{Lanes.signed_lanes, Lanes.word_all, Lanes.word_next}
+use Rattle.sel_ternary.proofs.if_then_else.lanes.I32ChooseLanes.push_sides.Goals as goal
+
+pub loop-k-preserved : goal.loop-k-preserved
+loop-k-preserved c =
+    let at = 8 * c.loop-k.k in
+    word_next 16 c.args.mask _ _ c.requires.true_side c.requires.false_side _ _ at c.loop-k.out c.loop-k.invariant 8 (8 * (c.loop-k.k + 1)) c.push_lanes.new.out _ _
+    (omega (arith, c.loop-k-test.true)) (omega arith) c.part-trues.ensures c.part-falses.ensures
+    (signed_lanes (top 31) (cast_unsigned w32) refl refl (bits 8 (c.args.mask / 2 ^ at)) c.set_lanes_32.result c.set_lanes_32.ensures
+    (cast_unsigned w32) (cast_signed w32) _ _ _ _ _ _ c.lanes_i32-one.ensures.values c.lanes_i32-other.ensures.values
+    c.lanes_i32-one.ensures.range c.lanes_i32-other.ensures.range c.push_lanes.ensures.items)
+    c.push_lanes.ensures.capacity
+
+pub returns-clause-items : goal.returns-clause-items
+returns-clause-items c =
+    word_all 16 c.args.mask _ _ c.requires.true_side c.requires.false_side _ _ (8 * c.loop-k.k) c.loop-k.out c.loop-k.invariant (omega (arith, c.loop-k-test.false, c.loop-k.auto.k-end))
