@@ -1,7 +1,10 @@
 //! Bitmaps, buffers and offsets with failing allocations: their constructors, their operations and
 //! the packer.
 
-use crate::fixtures::has_bits;
+ghost use Rattle.std.specs.Prelude.{◌≡◌, length};
+
+use crate::column_fixtures::offsets;
+use crate::fixtures::{has_bits, same};
 use crate::marks::{begins, begins_free, ends, ends_answered, ends_by};
 use sel_bits::bitmap::Bitmap;
 use sel_bits::buffer::Buffer;
@@ -81,6 +84,25 @@ const OPERATIONS: [(&str, Operation, [bool; 4]); 6] = [
     ("choose", Operation::Choose, [true, true, true, false]),
 ];
 
+/// Returns the result of an operation.
+fn joined(
+    alloc: Global,
+    operation: Operation,
+    first: &Bitmap,
+    second: &Bitmap,
+) -> PolarsResult<Bitmap>
+    requires { length first.now.bits ≡ length second.now.bits }
+{
+    match operation {
+        Operation::And => first.and(alloc, second),
+        Operation::Or => first.or(alloc, second),
+        Operation::AndNot => first.and_not(alloc, second),
+        Operation::OrNot => first.or_not(alloc, second),
+        Operation::Not => first.not(alloc),
+        Operation::Choose => Bitmap::choose(alloc, first, first, second),
+    }
+}
+
 /// Returns whether an operation returns these bits or is out of memory, and leaves both bitmaps
 /// unchanged.
 fn operates(
@@ -94,16 +116,9 @@ fn operates(
         return false;
     }
     begins(alloc);
-    let answer = match operation {
-        Operation::And => first.and(alloc, second),
-        Operation::Or => first.or(alloc, second),
-        Operation::AndNot => first.and_not(alloc, second),
-        Operation::OrNot => first.or_not(alloc, second),
-        Operation::Not => first.not(alloc),
-        Operation::Choose => Bitmap::choose(alloc, first, first, second),
-    };
+    let answer = joined(alloc, operation, first, second);
     ends_by(alloc, &answer);
-    are_bits(answer, bits) && has_bits(first, &FIRST) && has_bits(second, &SECOND)
+    are_bits(answer, bits) & has_bits(first, &FIRST) & has_bits(second, &SECOND)
 }
 
 /// Returns the name of the first operation that returns other bits, or nothing.
@@ -128,7 +143,7 @@ fn bitmap_operations(rt: HostRuntime) -> Result<(), Fail> {
 /// Returns whether a call returned these values, or is out of memory.
 fn are_values(answer: PolarsResult<Buffer<u16>>, values: &[u16]) -> bool {
     match answer {
-        Ok(buffer) => buffer.as_slice() == values,
+        Ok(buffer) => same(buffer.as_slice(), values),
         Err(fault) => fault == PolarsError::OutOfMemory,
     }
 }
@@ -147,7 +162,7 @@ fn buffer_from_vec(rt: HostRuntime) -> Result<(), Fail> {
 /// Returns whether a call returned these offsets, or is out of memory.
 fn are_offsets(answer: Result<OffsetsBuffer<i64>, MakeError>, offsets: &[i64]) -> bool {
     match answer {
-        Ok(made) => made.as_slice() == offsets,
+        Ok(made) => same(made.as_slice(), offsets),
         Err(fault) => fault == MakeError::OutOfMemory,
     }
 }
@@ -166,7 +181,7 @@ fn offsets_from_vec(rt: HostRuntime) -> Result<(), Fail> {
 /// Returns whether a call returned the offsets 0, 0 and 7, or is out of memory.
 fn are_rising(answer: PolarsResult<OffsetsBuffer<i64>>) -> bool {
     match answer {
-        Ok(made) => made.as_slice() == [0, 0, 7].as_slice(),
+        Ok(made) => same(made.as_slice(), &[0, 0, 7]),
         Err(fault) => fault == PolarsError::OutOfMemory,
     }
 }
@@ -188,7 +203,7 @@ fn copies_freely(alloc: Global, bitmap: &Bitmap, buffer: &Buffer<u16>) -> bool {
     let bits = bitmap.try_clone();
     let values = buffer.try_clone();
     ends_answered(alloc);
-    bits.is_ok() && values.is_ok() && are_bits(bits, &FIRST) && are_values(values, &[7, 8])
+    bits.is_ok() & values.is_ok() & are_bits(bits, &FIRST) & are_values(values, &[7, 8])
 }
 
 /// Returns whether offsets are cloned without an allocation.
@@ -197,7 +212,7 @@ fn copies_offsets(alloc: Global, offsets: &OffsetsBuffer<i64>) -> bool {
     let copy = offsets.try_clone();
     ends_answered(alloc);
     match copy {
-        Ok(copy) => copy.as_slice() == [0, 2].as_slice(),
+        Ok(copy) => same(copy.as_slice(), &[0, 2]),
         Err(_) => false,
     }
 }
@@ -212,7 +227,7 @@ fn bitmap_and_buffer_clones_do_not_allocate(rt: HostRuntime) -> Result<(), Fail>
 
 #[test]
 fn offsets_clone_does_not_allocate(rt: HostRuntime) -> Result<(), Fail> {
-    let offsets = OffsetsBuffer::try_from(vec![in rt.alloc(); 0i64, 2]?)?;
+    let offsets = offsets(rt.alloc(), &[0, 2])?;
     assert!(rt; copies_offsets(rt.alloc(), &offsets));
     Ok(())
 }

@@ -1,7 +1,7 @@
 //! Filters of bits and of values with failing allocations, which the filters of columns call.
 
 use crate::alloc_bitmaps::are_bits;
-use crate::fixtures::has_bits;
+use crate::fixtures::{has_bits, same};
 use crate::marks::{begins, begins_free, ends_answered, ends_by};
 use sel_bits::aligned_words::AlignedWords;
 use sel_bits::bitmap::Bitmap;
@@ -52,7 +52,7 @@ fn keeps_bits(alloc: Global, kernel: Kernel, values: &Bitmap, mask: &Bitmap) -> 
         ),
     };
     ends_by(alloc, &answer);
-    are_bits(answer, &KEPT) && has_bits(values, &VALUES) && has_bits(mask, &MASK)
+    are_bits(answer, &KEPT) & has_bits(values, &VALUES) & has_bits(mask, &MASK)
 }
 
 #[test]
@@ -75,7 +75,7 @@ const KEPT_NUMBERS: [u32; 3] = [20, 30, 50];
 /// Returns whether a call returned the selected numbers, or is out of memory.
 fn are_numbers(answer: PolarsResult<Vec<u32>>) -> bool {
     match answer {
-        Ok(kept) => kept.as_slice() == KEPT_NUMBERS.as_slice(),
+        Ok(kept) => same(kept.as_slice(), &KEPT_NUMBERS),
         Err(fault) => fault == PolarsError::OutOfMemory,
     }
 }
@@ -87,7 +87,7 @@ fn keeps_numbers(alloc: Global, mask: &Bitmap) -> bool {
     begins(alloc);
     let answer = filter_values(alloc, &NUMBERS, mask);
     ends_by(alloc, &answer);
-    are_numbers(answer) && has_bits(mask, &MASK)
+    are_numbers(answer) & has_bits(mask, &MASK)
 }
 
 #[test]
@@ -110,13 +110,14 @@ fn copies_runs(alloc: Global, mask: &Bitmap) -> bool {
     ends_by(alloc, &answer);
     let items = out.into_vec();
     match answer {
-        Ok(()) => items.as_slice() == KEPT_NUMBERS.as_slice(),
-        Err(fault) => {
-            fault == PolarsError::OutOfMemory
-                && items.len() < 3
-                && items.as_slice() == &KEPT_NUMBERS[..items.len()]
-        }
+        Ok(()) => same(items.as_slice(), &KEPT_NUMBERS),
+        Err(fault) => (fault == PolarsError::OutOfMemory) & begins_numbers(items.as_slice()),
     }
+}
+
+/// Returns whether these are fewer numbers, and a prefix of the selected ones.
+fn begins_numbers(numbers: &[u32]) -> bool {
+    numbers.len() < 3 && same(numbers, &KEPT_NUMBERS[..numbers.len()])
 }
 
 #[test]
@@ -126,20 +127,21 @@ fn filter_by_runs(rt: HostRuntime) -> Result<(), Fail> {
     Ok(())
 }
 
-#[test]
-fn scalar_filter_appends(rt: HostRuntime) -> Result<(), Fail> {
-    let mut out = vec![in rt.alloc(); 7u32]?;
-    begins(rt.alloc());
+/// Returns whether the selected numbers are appended to 7, or none if the call is out of memory.
+fn appends_numbers(alloc: Global) -> PolarsResult<bool> {
+    let mut out = vec![in alloc; 7u32]?;
+    begins(alloc);
     let answer = scalar_filter(&NUMBERS, &[0b10110], &mut out);
-    ends_by(rt.alloc(), &answer);
-    match answer {
-        Ok(()) => assert!(rt; out.as_slice() == [7, 20, 30, 50].as_slice()),
-        Err(fault) => {
-            assert_eq!(rt; fault, PolarsError::OutOfMemory);
-            assert!(rt; out.as_slice() == [7].as_slice());
-        }
-    }
-    Ok(())
+    ends_by(alloc, &answer);
+    Ok(match answer {
+        Ok(()) => same(out.as_slice(), &[7, 20, 30, 50]),
+        Err(fault) => (fault == PolarsError::OutOfMemory) & same(out.as_slice(), &[7]),
+    })
+}
+
+#[test]
+fn scalar_filter_appends(rt: HostRuntime) {
+    assert!(rt; appends_numbers(rt.alloc()) == Ok(true));
 }
 
 /// Returns the bits of a byte from the sixth on, and two more: three bits before a byte boundary
@@ -157,49 +159,47 @@ fn late_mask(alloc: Global) -> Result<Bitmap, Fail> {
 
 /// Returns whether the numbers before a byte boundary are appended to 7, or none if the call is out
 /// of memory.
-fn keeps_first(alloc: Global, mask: &Bitmap, out: &mut Vec<u32>) -> Result<bool, Fail> {
+fn keeps_first(alloc: Global, mask: &Bitmap) -> PolarsResult<bool> {
     if mask.len() != 5 {
-        return Err(Fail::from("another length"));
+        return Ok(false);
     }
+    let mut out = vec![in alloc; 7u32]?;
     begins(alloc);
-    let answer = scalar_filter_offset(&NUMBERS, mask, out);
+    let answer = scalar_filter_offset(&NUMBERS, mask, &mut out);
     ends_by(alloc, &answer);
     Ok(match answer {
         Ok((values, bytes)) => {
-            out.as_slice() == [7, 20, 30].as_slice()
-                && values == [40, 50].as_slice()
-                && bytes == [0b10].as_slice()
+            same(out.as_slice(), &[7, 20, 30]) & same(values, &[40, 50]) & same(bytes, &[0b10])
         }
-        Err(fault) => fault == PolarsError::OutOfMemory && out.as_slice() == [7].as_slice(),
+        Err(fault) => (fault == PolarsError::OutOfMemory) & same(out.as_slice(), &[7]),
     })
 }
 
 #[test]
 fn scalar_filter_offset_appends(rt: HostRuntime) -> Result<(), Fail> {
     let mask = late_mask(rt.alloc())?;
-    let mut out = vec![in rt.alloc(); 7u32]?;
-    assert!(rt; keeps_first(rt.alloc(), &mask, &mut out)?);
+    assert!(rt; keeps_first(rt.alloc(), &mask) == Ok(true));
     Ok(())
 }
 
 /// Returns whether a mask that begins at a byte boundary leaves all numbers, without an allocation.
-fn keeps_none_first(alloc: Global, mask: &Bitmap) -> Result<bool, Fail> {
+fn keeps_none_first(alloc: Global, mask: &Bitmap) -> bool {
     if mask.len() != 5 {
-        return Err(Fail::from("another length"));
+        return false;
     }
     let mut out = Vec::new(alloc);
     begins_free(alloc);
     let answer = scalar_filter_offset(&NUMBERS, mask, &mut out);
     ends_answered(alloc);
-    Ok(match answer {
-        Ok((values, _)) => out.is_empty() && values == NUMBERS.as_slice(),
+    match answer {
+        Ok((values, _)) => out.is_empty() & same(values, &NUMBERS),
         Err(_) => false,
-    })
+    }
 }
 
 #[test]
 fn scalar_filter_offset_at_byte_boundary_does_not_allocate(rt: HostRuntime) -> Result<(), Fail> {
     let mask = Bitmap::from_bools(rt.alloc(), &MASK)?;
-    assert!(rt; keeps_none_first(rt.alloc(), &mask)?);
+    assert!(rt; keeps_none_first(rt.alloc(), &mask));
     Ok(())
 }

@@ -1,6 +1,7 @@
 //! Functions on bitmaps, buffers, words and readers that must not allocate: each allocation fails.
 
-use crate::fixtures::{buffer, has_bits};
+use crate::column_fixtures::offsets;
+use crate::fixtures::{buffer, has_bits, same};
 use crate::marks::{begins_free, ends_answered};
 use sel_bits::aligned_words::AlignedWords;
 use sel_bits::bitmap::Bitmap;
@@ -36,11 +37,11 @@ fn parts_bits(alloc: Global, bits: Bitmap) -> bool {
     let zeros = (part.take_leading_zeros(), part.take_trailing_zeros());
     let ones = part.take_leading_ones();
     ends_answered(alloc);
-    told == (3, 3, false, true)
-        && bytes
-        && zeros == (1, 1)
-        && ones == 2
-        && has_bits(&part, &[false, true])
+    (told == (3, 3, false, true))
+        & bytes
+        & (zeros == (1, 1))
+        & (ones == 2)
+        & has_bits(&part, &[false, true])
 }
 
 /// Returns whether a slice of a bitmap has its bits.
@@ -71,13 +72,13 @@ fn parts_values(alloc: Global, values: Buffer<u8>, ends: OffsetsBuffer<i64>) -> 
     let part = values.sliced(1, 2);
     let rest = ends.sliced(1, 1);
     ends_answered(alloc);
-    first == (0, 5) && part.as_slice() == [2, 3].as_slice() && rest.as_slice() == [2, 5].as_slice()
+    (first == (0, 5)) & same(part.as_slice(), &[2, 3]) & same(rest.as_slice(), &[2, 5])
 }
 
 #[test]
 fn buffer_slices_do_not_allocate(rt: HostRuntime) -> Result<(), Fail> {
     let values = buffer(rt.alloc(), &[1u8, 2, 3])?;
-    let ends = OffsetsBuffer::try_from(Vec::from_slice(rt.alloc(), &[0i64, 2, 5])?)?;
+    let ends = offsets(rt.alloc(), &[0, 2, 5])?;
     assert!(rt; parts_values(rt.alloc(), values, ends));
     Ok(())
 }
@@ -93,7 +94,7 @@ fn reads(alloc: Global, bits: &Bitmap) -> bool {
     let given = (blocks.next(), words.next(), single.get(1));
     let counts = (blocks.blocks_read(), words.words_read(), single.bits_read());
     ends_answered(alloc);
-    given == (Some(0b10110), Some((0b10110, 6)), true) && counts == (1, 1, 1)
+    (given == (Some(0b10110), Some((0b10110, 6)), true)) & (counts == (1, 1, 1))
 }
 
 #[test]
@@ -116,13 +117,13 @@ fn works_on_words(alloc: Global) -> bool {
     let number = (i8::from_usize(127), i8::from_usize(128));
     let place_of = 7i8.try_usize();
     ends_answered(alloc);
-    packed == 0b1001
-        && word.word() == 0b1001
-        && sums == 0b110
-        && loaded == 257
-        && place == Some(2)
-        && number == (Some(127), None)
-        && place_of == Some(7)
+    (packed == 0b1001)
+        & (word.word() == 0b1001)
+        & (sums == 0b110)
+        & (loaded == 257)
+        & (place == Some(2))
+        & (number == (Some(127), None))
+        & (place_of == Some(7))
 }
 
 /// Returns whether a moving word keeps and moves the bits under its masks.
@@ -142,7 +143,7 @@ fn converts_numbers(alloc: Global) -> bool {
     let signs = ((-1i64).is_negative(), 3i32.is_below(5));
     let places = (5i64.to_position(), 7u8.to_usize());
     ends_answered(alloc);
-    signs == (true, true) && places == (5, 7)
+    (signs == (true, true)) & (places == (5, 7))
 }
 
 /// Returns whether a copy without items is empty.
@@ -153,7 +154,7 @@ fn copies_nothing(alloc: Global) -> bool {
     let told = (out.source_len(), out.copies());
     let items = out.into_vec();
     ends_answered(alloc);
-    told == (3, 0) && items.is_empty()
+    (told == (3, 0)) & items.is_empty()
 }
 
 #[test]

@@ -1,8 +1,9 @@
 //! Each public function once, against values that are worked out by hand or bit by bit.
 
+use crate::column_fixtures::offsets;
 use crate::fixtures::{begins_with, has_bits};
 use sel_bits::bitmap::Bitmap;
-use sel_bits::faults::{Limit, MakeError, Malformed, PolarsError};
+use sel_bits::faults::{Limit, MakeError, Malformed, PolarsError, PolarsResult};
 use sel_bits::native::{Index, NativeType, Offset};
 use sel_bits::number::{load_padded_le_u64, negative_to_usize, prefix_xorsum};
 use sel_bits::offsets::OffsetsBuffer;
@@ -14,8 +15,7 @@ use std::test::Fail;
 
 /// Returns whether the bytes of the bits 11 to 15 are the second byte, from its fourth bit on.
 fn lends_bytes(part: &Bitmap) -> bool {
-    let (bytes, offset, len) = part.as_slice();
-    bytes == [0x0Fu8].as_slice() && offset == 3 && len == 5
+    part.as_slice() == ([0x0Fu8].as_slice(), 3, 5)
 }
 
 #[test]
@@ -43,6 +43,19 @@ fn take_leading_and_trailing_zeros_of_bitmap(rt: HostRuntime) -> Result<(), Fail
     Ok(())
 }
 
+/// Returns whether this number of bits have the value, from a bit on.
+fn has_equal(bitmap: &Bitmap, value: bool, at: usize, count: usize) -> bool {
+    if at > bitmap.len() {
+        return false;
+    }
+    let counted = if value {
+        bitmap.ones_from(at)
+    } else {
+        bitmap.zeros_from(at)
+    };
+    counted == count
+}
+
 #[test]
 fn count_equal_bits_from_a_bit(rt: HostRuntime) -> Result<(), Fail> {
     let mut bits = [false; 200];
@@ -50,10 +63,18 @@ fn count_equal_bits_from_a_bit(rt: HostRuntime) -> Result<(), Fail> {
         bits[k] = true;
     }
     let bitmap = Bitmap::from_bools(rt.alloc(), &bits)?.sliced(1, 199);
-    assert!(rt; bitmap.zeros_from(0) == 60 && bitmap.zeros_from(59) == 1);
-    assert!(rt; bitmap.zeros_from(60) == 0 && bitmap.zeros_from(189) == 10);
-    assert!(rt; bitmap.ones_from(60) == 129 && bitmap.ones_from(188) == 1);
-    assert!(rt; bitmap.ones_from(59) == 0 && bitmap.ones_from(199) == 0);
+    for (value, at, count) in [
+        (false, 0, 60),
+        (false, 59, 1),
+        (false, 60, 0),
+        (false, 189, 10),
+        (true, 60, 129),
+        (true, 188, 1),
+        (true, 59, 0),
+        (true, 199, 0),
+    ] {
+        assert!(rt; has_equal(&bitmap, value, at, count), "from {at}");
+    }
     Ok(())
 }
 
@@ -76,27 +97,47 @@ fn is_extended(packed: &Bitmap, source: &Bitmap) -> bool {
     begins_with(packed, &[true, false, true])
 }
 
+/// Appends three bits, two slices of the source, and three runs of equal bits.
+fn push_all(packer: &mut BitPacker, source: &Bitmap) -> PolarsResult<()> {
+    for bit in [true, false, true] {
+        packer.push(bit)?;
+    }
+    for (start, len) in [(5, 120), (130, 0)] {
+        if start + len <= source.len() {
+            packer.extend_from_bitmap(source, start, len)?;
+        }
+    }
+    for (len, value) in [(70, true), (0, true), (2, false)] {
+        packer.extend_constant(len, value)?;
+    }
+    Ok(())
+}
+
+/// Returns these bits as a bitmap, or an error if there are not 195.
+fn packed(alloc: Global, source: &Bitmap) -> PolarsResult<Bitmap> {
+    let mut packer = BitPacker::with_capacity(alloc, 193)?;
+    push_all(&mut packer, source)?;
+    if packer.len() != Some(195) {
+        return Err(PolarsError::ComputeError);
+    }
+    packer.into_bitmap(195)
+}
+
 #[test]
 fn packer_appends_bits_and_slices(rt: HostRuntime) -> Result<(), Fail> {
     let source = Bitmap::from_u8_vec([0xB4u8; 17].to_vec(rt.alloc())?, 136)?.sliced(6, 130);
-    let mut packer = BitPacker::with_capacity(rt.alloc(), 193)?;
-    packer.push(true)?;
-    packer.push(false)?;
-    packer.push(true)?;
-    packer.extend_from_bitmap(&source, 5, 120)?;
-    packer.extend_from_bitmap(&source, 130, 0)?;
-    packer.extend_constant(70, true)?;
-    packer.extend_constant(0, true)?;
-    packer.extend_constant(2, false)?;
-    assert!(rt; packer.len() == Some(195));
-    let packed = packer.into_bitmap(195)?;
+    let packed = packed(rt.alloc(), &source)?;
     assert!(rt; is_extended(&packed, &source));
     Ok(())
 }
 
 /// Returns the rule that offsets break.
-fn fault_of(alloc: Global, offsets: &[i32]) -> Result<Option<MakeError>, Fail> {
-    Ok(OffsetsBuffer::try_from(offsets.to_vec(alloc)?).err())
+fn broken_rule(alloc: Global, offsets: &[i32]) -> Result<Option<Malformed>, Fail> {
+    match OffsetsBuffer::try_from(offsets.to_vec(alloc)?) {
+        Ok(_) => Ok(None),
+        Err(MakeError::Malformed(rule)) => Ok(Some(rule)),
+        Err(MakeError::OutOfMemory) => Err(Fail::from("out of memory")),
+    }
 }
 
 #[test]
@@ -109,16 +150,23 @@ fn offsets_rules_are_checked_in_order(rt: HostRuntime) -> Result<(), Fail> {
         (&[3], None),
     ];
     for (offsets, rule) in &table {
-        assert!(rt; fault_of(rt.alloc(), offsets)? == rule.map(MakeError::Malformed));
+        assert!(rt; broken_rule(rt.alloc(), offsets)? == *rule);
     }
     Ok(())
 }
 
+/// Returns whether there are the offsets 2, 2, 5 and 9.
+fn has_offsets(offsets: &OffsetsBuffer<i64>) -> bool {
+    if offsets.len_proxy() != 3 {
+        return false;
+    }
+    (offsets.first() == 2) & (offsets.at(1) == 2) & (offsets.at(2) == 5) & (offsets.last() == 9)
+}
+
 #[test]
 fn single_offsets(rt: HostRuntime) -> Result<(), Fail> {
-    let whole = OffsetsBuffer::try_from([2i64, 2, 5, 9].to_vec(rt.alloc())?)?;
-    assert!(rt; whole.len_proxy() == 3);
-    assert!(rt; (whole.first(), whole.at(1), whole.at(2), whole.last()) == (2, 2, 5, 9));
+    let whole = offsets(rt.alloc(), &[2, 2, 5, 9])?;
+    assert!(rt; has_offsets(&whole));
     Ok(())
 }
 

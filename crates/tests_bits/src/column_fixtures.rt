@@ -3,7 +3,7 @@
 ghost use Rattle.std.specs.Prelude.{length, IfOk};
 ghost use Rattle.sel_arrow.specs.Masked.{Covers};
 
-use crate::fixtures::buffer;
+use crate::fixtures::{both, buffer};
 use sel_arrow::array::Array;
 use sel_arrow::array_ref::ArrayRef;
 use sel_arrow::binary::BinaryArray;
@@ -42,8 +42,8 @@ pub fn numbers<T: NativeType>(
     values: &[T],
     validity: &[bool],
 ) -> Result<PrimitiveArray<T>, Fail> {
-    let validity = Bitmap::from_bools(alloc, validity)?;
-    Ok(PrimitiveArray::try_new(buffer(alloc, values)?, Some(validity))?)
+    let (values, validity) = both(buffer(alloc, values), Bitmap::from_bools(alloc, validity))?;
+    Ok(PrimitiveArray::try_new(values, Some(validity))?)
 }
 
 /// Returns one data buffer of these bytes.
@@ -58,21 +58,33 @@ pub fn column<T: NativeType>(
     rows: &[Option<T>],
     hidden: T,
 ) -> Result<PrimitiveArray<T>, Fail> {
+    let (values, validity) = both(values_of(alloc, rows, hidden), flags_of(alloc, rows))?;
+    numbers(alloc, &values, &validity)
+}
+
+/// Returns the numbers, with the given number for nulls.
+fn values_of<T: NativeType>(alloc: Global, rows: &[Option<T>], hidden: T) -> PolarsResult<Vec<T>> {
     let mut values = vec![in alloc; hidden; rows.len()]?;
-    let mut validity = vec![in alloc; false; rows.len()]?;
     for (value, row) in values.iter_mut().zip(rows) {
         *value = row.unwrap_or(hidden);
     }
-    for (bit, row) in validity.iter_mut().zip(rows) {
-        *bit = row.is_some();
+    Ok(values)
+}
+
+/// Returns whether each row is not null.
+fn flags_of<T: NativeType>(alloc: Global, rows: &[Option<T>]) -> PolarsResult<Vec<bool>> {
+    let mut flags = vec![in alloc; false; rows.len()]?;
+    for (flag, row) in flags.iter_mut().zip(rows) {
+        *flag = row.is_some();
     }
-    numbers(alloc, &values, &validity)
+    Ok(flags)
 }
 
 /// Returns a boolean column with a validity.
 pub fn truths(alloc: Global, values: &[bool], validity: &[bool]) -> Result<BooleanArray, Fail> {
-    let values = Bitmap::from_bools(alloc, values)?;
-    Ok(BooleanArray::try_new(values, Some(Bitmap::from_bools(alloc, validity)?))?)
+    let values = Bitmap::from_bools(alloc, values);
+    let (values, validity) = both(values, Bitmap::from_bools(alloc, validity))?;
+    Ok(BooleanArray::try_new(values, Some(validity))?)
 }
 
 /// Returns whether the column has these numbers as rows.

@@ -6,7 +6,7 @@ ghost use Rattle.sel_arrow.specs.Rows.{IsWellFormed};
 use crate::column_fixtures::{
     has_bytes, has_bytes_at, has_numbers, numbers, offsets, one_buffer, truths, validity,
 };
-use crate::fixtures::buffer;
+use crate::fixtures::{both, buffer, same};
 use sel_arrow::array::Array;
 use sel_arrow::array_ref::ArrayRef;
 use sel_arrow::binary::BinaryArray;
@@ -57,9 +57,9 @@ fn views_of(
     views: &[View],
     valid: &[bool],
 ) -> PolarsResult<Result<BinaryViewArray, MakeError>> {
-    let views = buffer(alloc, views)?;
     let buffers = one_buffer(alloc, b"abcdefghijklm")?;
-    Ok(BinaryViewArray::try_new(views, buffers, validity(alloc, valid)?))
+    let (views, valid) = both(buffer(alloc, views), validity(alloc, valid))?;
+    Ok(BinaryViewArray::try_new(views, buffers, valid))
 }
 
 /// Returns the rule that one row of this view breaks.
@@ -114,8 +114,8 @@ fn pieces_of(
     valid: &[bool],
 ) -> Result<Result<BinaryArray<i64>, MakeError>, Fail> {
     let bounds = offsets(alloc, bounds)?;
-    let bytes = buffer(alloc, b"_abcde")?;
-    Ok(BinaryArray::try_new(bounds, bytes, validity(alloc, valid)?))
+    let (bytes, valid) = both(buffer(alloc, b"_abcde"), validity(alloc, valid))?;
+    Ok(BinaryArray::try_new(bounds, bytes, valid))
 }
 
 #[test]
@@ -186,12 +186,12 @@ fn view_from_bytes(rt: HostRuntime) {
 
 /// Returns whether a column has three rows, `nulls` of them null, and this type.
 fn has_properties<A: Array>(column: &A, dtype: &ArrowDataType, nulls: usize) -> bool {
-    column.len() == 3
-        && !column.is_empty()
-        && column.null_count() == nulls
-        && column.has_nulls() == (nulls > 0)
-        && column.validity().is_some() == (nulls == 1)
-        && column.has_dtype(dtype)
+    (column.len() == 3)
+        & !column.is_empty()
+        & (column.null_count() == nulls)
+        & (column.has_nulls() == (nulls > 0))
+        & (column.validity().is_some() == (nulls == 1))
+        & column.has_dtype(dtype)
 }
 
 /// Returns whether the type that a column returns is its type.
@@ -276,6 +276,16 @@ fn taken<A>(found: Result<A, ArrayRef>) -> Result<A, Fail> {
     }
 }
 
+/// Checks a column of three rows, the second one null, its conversion to a column of any type, and
+/// the conversion back, and returns the latter.
+fn converted<A: Array + FromColumn + Drop, B: FromColumn>(
+    rt: &(impl Abort + Alloc<A = Global>),
+    column: A,
+    dtype: &ArrowDataType,
+) -> Result<A, Fail> {
+    taken(again::<A, B>(check_erased(rt, column, dtype, (1, 1))?))
+}
+
 /// Checks a column of three numbers, its conversion to a column of any type, and the conversion
 /// back.
 fn check_numbers<T: ArrowPrimitive + Debug + PartialEq + Drop>(
@@ -283,21 +293,44 @@ fn check_numbers<T: ArrowPrimitive + Debug + PartialEq + Drop>(
     values: &[T; 3],
     dtype: &ArrowDataType,
 ) -> Result<(), Fail> {
-    let column = numbers(rt.alloc(), values.as_slice(), &[true, false, true])?;
-    let erased = check_erased(rt, column, dtype, (1, 1))?;
-    let column = taken(again::<PrimitiveArray<T>, NullArray>(erased))?;
     let bits = validity(rt.alloc(), &[false, true, true])?;
-    assert!(rt; column.values().as_slice() == values.as_slice());
+    let column = numbers_again(rt, values, dtype)?;
+    assert!(rt; same(column.values().as_slice(), values.as_slice()));
     assert!(rt; keeps_numbers(column, bits, values));
     Ok(())
+}
+
+/// Returns a column of three numbers, the second one null, that was converted to a column of any
+/// type and back.
+fn numbers_again<T: ArrowPrimitive + Drop>(
+    rt: &(impl Abort + Alloc<A = Global>),
+    values: &[T; 3],
+    dtype: &ArrowDataType,
+) -> Result<PrimitiveArray<T>, Fail> {
+    let column = numbers(rt.alloc(), values.as_slice(), &[true, false, true])?;
+    converted::<PrimitiveArray<T>, NullArray>(rt, column, dtype)
+}
+
+/// Returns whether the row at a position is this one.
+fn has_row<T: ArrowPrimitive + PartialEq>(
+    column: &PrimitiveArray<T>,
+    at: usize,
+    row: Option<T>,
+) -> bool {
+    at < column.len() && column.get(at) == row
 }
 
 /// Returns whether the column has these three rows.
 fn holds<T: ArrowPrimitive + PartialEq>(
     column: &PrimitiveArray<T>,
-    rows: (Option<T>, Option<T>, Option<T>),
+    first: Option<T>,
+    second: Option<T>,
+    third: Option<T>,
 ) -> bool {
-    column.len() == 3 && (column.get(0), column.get(1), column.get(2)) == rows
+    (column.len() == 3)
+        & has_row(column, 0, first)
+        & has_row(column, 1, second)
+        & has_row(column, 2, third)
 }
 
 /// Returns whether the column has these numbers, the second one null, and keeps them without a
@@ -309,14 +342,14 @@ fn keeps_numbers<T: ArrowPrimitive + PartialEq>(
 ) -> bool
     requires { Covers bits 3 }
 {
-    let is_masked = holds(&column, (Some(values[0]), None, Some(values[2])));
+    let is_masked = holds(&column, Some(values[0]), None, Some(values[2]));
     let column = column.with_validity(None);
-    let is_whole = holds(&column, (Some(values[0]), Some(values[1]), Some(values[2])));
+    let is_whole = holds(&column, Some(values[0]), Some(values[1]), Some(values[2]));
     if column.len() != 3 {
         return false;
     }
     let column = column.with_validity(bits);
-    is_masked && is_whole && holds(&column, (None, Some(values[1]), Some(values[2])))
+    is_masked && is_whole && holds(&column, None, Some(values[1]), Some(values[2]))
 }
 
 #[test]
@@ -381,8 +414,8 @@ fn are_truths(column: BooleanArray) -> bool {
 #[test]
 fn boolean_columns(rt: HostRuntime) -> Result<(), Fail> {
     let column = truths(rt.alloc(), &[true, true, false], &[true, false, true])?;
-    let erased = check_erased(&rt, column, &ArrowDataType::Boolean, (1, 1))?;
-    assert!(rt; are_truths(taken(again::<BooleanArray, NullArray>(erased))?));
+    let column = converted::<BooleanArray, NullArray>(&rt, column, &ArrowDataType::Boolean)?;
+    assert!(rt; are_truths(column));
     Ok(())
 }
 
@@ -398,15 +431,22 @@ fn shares_bytes(alloc: Global, column: &BinaryArray<i64>) -> PolarsResult<bool> 
     Ok(are_shared && are_none)
 }
 
+/// Returns whether the rows are these bytes, and the third one is not null without the validity.
+fn are_pieces(column: BinaryArray<i64>) -> bool {
+    let is_masked = has_bytes(&column, &[Some(b"ab"), Some(b""), None]);
+    let column = column.with_validity(None);
+    let is_whole = has_bytes(&column, &[Some(b"ab"), Some(b""), Some(b"cde")]);
+    drop(column);
+    is_masked & is_whole
+}
+
 #[test]
 fn binary_columns(rt: HostRuntime) -> Result<(), Fail> {
     let column = pieces_of(rt.alloc(), &[1, 3, 3, 6], &[true, true, false])??;
-    let erased = check_erased(&rt, column, &ArrowDataType::LargeBinary, (1, 1))?;
-    let column = taken(again::<BinaryArray<i64>, BinaryViewArray>(erased))?;
+    let dtype = &ArrowDataType::LargeBinary;
+    let column = converted::<BinaryArray<i64>, BinaryViewArray>(&rt, column, dtype)?;
     assert!(rt; shares_bytes(rt.alloc(), &column) == Ok(true));
-    assert!(rt; has_bytes(&column, &[Some(b"ab"), Some(b""), None]));
-    let column = column.with_validity(None);
-    assert!(rt; has_bytes(&column, &[Some(b"ab"), Some(b""), Some(b"cde")]));
+    assert!(rt; are_pieces(column));
     Ok(())
 }
 
@@ -420,19 +460,32 @@ fn are_views(column: &BinaryViewArray) -> bool {
     column.views().len() == 3 && column.data_buffers().len() == 1 && column.is_utf8()
 }
 
-/// Returns whether no row is null, and the last one is the byte that is not UTF-8.
-fn are_all_views(alloc: Global, column: &BinaryViewArray) -> PolarsResult<bool> {
-    Ok(!column.has_nulls() && !column.is_utf8() && has_bytes_at(alloc, column, 2, Some(&[0xFF]))?)
+/// Returns whether without the validity no row is null, and the last one is the byte that is not
+/// UTF-8.
+fn are_all_views(alloc: Global, column: BinaryViewArray) -> bool {
+    let column = column.with_validity(None);
+    let is_byte = has_bytes_at(alloc, &column, 2, Some(&[0xFF])) == Ok(true);
+    let are_bytes = !column.has_nulls() & !column.is_utf8();
+    drop(column);
+    is_byte & are_bytes
 }
 
 #[test]
 fn binary_view_columns(rt: HostRuntime) -> Result<(), Fail> {
     let views = views_of(rt.alloc(), &VIEWS, &VALID)??;
-    let erased = check_erased(&rt, views, &ArrowDataType::BinaryView, (1, 1))?;
-    let column = taken(again::<BinaryViewArray, Utf8ViewArray>(erased))?;
+    let dtype = &ArrowDataType::BinaryView;
+    let column = converted::<BinaryViewArray, Utf8ViewArray>(&rt, views, dtype)?;
     assert!(rt; are_views(&column));
-    assert!(rt; are_all_views(rt.alloc(), &column.with_validity(None)) == Ok(true));
+    assert!(rt; are_all_views(rt.alloc(), column));
     Ok(())
+}
+
+/// Returns the column of strings.
+fn some_texts(alloc: Global) -> Result<Utf8ViewArray, Fail> {
+    let views = views_of(alloc, &VIEWS, &VALID)??;
+    let texts = texts_of(alloc, &views);
+    drop(views);
+    Ok(texts?)
 }
 
 /// Returns views of strings as a string column.
@@ -466,15 +519,24 @@ fn are_bytes_of_texts(alloc: Global, bytes: &BinaryViewArray) -> PolarsResult<bo
     )
 }
 
+/// Returns whether a string column and its bytes have these rows.
+fn are_texts(alloc: Global, texts: &Utf8ViewArray) -> PolarsResult<bool> {
+    let bytes = texts.to_binview(alloc)?;
+    let are_bytes = are_bytes_of_texts(alloc, &bytes) == Ok(true);
+    drop(bytes);
+    Ok(are_bytes & has_texts(alloc, texts)?)
+}
+
 #[test]
 fn string_columns(rt: HostRuntime) -> Result<(), Fail> {
     let alloc = rt.alloc();
-    let texts = texts_of(alloc, &views_of(alloc, &VIEWS, &VALID)??)?;
-    assert!(rt; texts.views().len() == 3 && texts.data_buffers().len() == 1);
-    let erased = check_erased(&rt, texts, &ArrowDataType::Utf8View, (1, 1))?;
-    let texts = taken(again::<Utf8ViewArray, BinaryArray<i64>>(erased))?;
-    assert!(rt; has_texts(alloc, &texts) == Ok(true));
-    assert!(rt; are_bytes_of_texts(alloc, &texts.to_binview(alloc)?) == Ok(true));
+    let texts = some_texts(alloc)?;
+    assert!(rt; (texts.views().len() == 3) & (texts.data_buffers().len() == 1));
+    let dtype = &ArrowDataType::Utf8View;
+    let texts = converted::<Utf8ViewArray, BinaryArray<i64>>(&rt, texts, dtype)?;
+    let are_texts = are_texts(alloc, &texts);
+    drop(texts);
+    assert!(rt; are_texts == Ok(true));
     Ok(())
 }
 

@@ -1,6 +1,7 @@
 //! Worked examples of the scalar filters, of filters of arrays, of the extraction of the bits of a
 //! word under a mask, and of copies of blocks.
 
+use crate::fixtures::same;
 use sel_bits::bitmap::Bitmap;
 use sel_bits::block_copy::BlockCopy;
 use sel_bits::faults::PolarsResult;
@@ -34,7 +35,7 @@ fn scalar_filter_by_mask_bytes(rt: HostRuntime) -> Result<(), Fail> {
     values[64] = 64;
     let mut out = vec![in rt.alloc(); 0u8]?;
     scalar_filter(&values, &[0b100101, 0, 0, 0, 0, 0, 0, 0, 0xFF], &mut out)?;
-    assert!(rt; out.as_slice() == [0, 7, 2, 5, 64].as_slice());
+    assert!(rt; same(out.as_slice(), &[0, 7, 2, 5, 64]));
     Ok(())
 }
 
@@ -44,7 +45,7 @@ fn appends_nothing(alloc: Global) -> PolarsResult<bool> {
     let none: [u32; 0] = [];
     let mut out = Vec::new(alloc);
     let (others, bytes) = scalar_filter_offset(&none, &empty, &mut out)?;
-    Ok(out.is_empty() && others.is_empty() && bytes.is_empty())
+    Ok(out.is_empty() & others.is_empty() & bytes.is_empty())
 }
 
 #[test]
@@ -60,7 +61,7 @@ fn filter_arrays_keeps_whole_arrays(rt: HostRuntime) -> Result<(), Fail> {
         return Err(Fail::from("lengths do not match"));
     }
     let kept = filter_arrays(rt.alloc(), &arrays, &mask, mask.set_bits())?;
-    assert!(rt; kept.as_slice() == [1u8, 2, 3, 7, 8, 9].as_slice());
+    assert!(rt; same(kept.as_slice(), &[1, 2, 3, 7, 8, 9]));
     Ok(())
 }
 
@@ -70,7 +71,7 @@ fn copies_and_fills(alloc: Global) -> PolarsResult<bool> {
     let mut out = BlockCopy::new(alloc, source.as_slice());
     out.copy(1, 2)?;
     out.fill(9, 2)?;
-    Ok(out.copies() == 2 && out.into_vec().as_slice() == [2u8, 3, 9, 9].as_slice())
+    Ok((out.copies() == 2) & same(out.into_vec().as_slice(), &[2, 3, 9, 9]))
 }
 
 #[test]

@@ -10,6 +10,21 @@ pub fn buffer<T: Copy>(alloc: Global, values: &[T]) -> PolarsResult<Buffer<T>> {
     Buffer::from_vec(Vec::from_slice(alloc, values)?)
 }
 
+/// Returns whether two slices are equal.
+pub fn same<T: PartialEq>(values: &[T], others: &[T]) -> bool {
+    values == others
+}
+
+/// Returns two values, or the first error.
+///
+/// It is generic, so that the proof does not depend on how the values are dropped.
+pub fn both<A: Drop, B: Drop>(
+    first: PolarsResult<A>,
+    second: PolarsResult<B>,
+) -> PolarsResult<(A, B)> {
+    Ok((first?, second?))
+}
+
 /// Returns whether the bitmap begins with these bits.
 pub fn begins_with(bitmap: &Bitmap, bits: &[bool]) -> bool {
     if bitmap.len() < bits.len() {

@@ -1,20 +1,19 @@
 //! Bitmaps with bit offsets inside a byte and odd lengths, with all bits outside of them set and
 //! with all of them clear, compared with loops over single bits.
 
-use crate::fixtures::has_bits;
+use crate::fixtures::{both, has_bits, same};
 use sel_bits::aligned_words::AlignedWords;
 use sel_bits::bitmap::Bitmap;
 use sel_bits::block_copy::BlockCopy;
 use sel_bits::blocks::U56Blocks;
 use sel_bits::counted_bits::CountedBits;
-use sel_bits::faults::PolarsResult;
+use sel_bits::faults::{PolarsError, PolarsResult};
 use sel_filter::boolean::{
     filter_boolean_kernel, filter_boolean_kernel_pext, filter_boolean_kernel_sparse,
     filter_counted_bits,
 };
 use sel_filter::primitive::{filter_runs, filter_values};
 use std::alloc::Global;
-use std::test::Fail;
 
 const OFFSETS: [usize; 13] = [0, 1, 2, 3, 4, 5, 6, 7, 8, 9, 63, 64, 65];
 
@@ -49,7 +48,7 @@ fn bitmap(
     offset: usize,
     len: usize,
     outside: bool,
-) -> Result<Bitmap, Fail> {
+) -> PolarsResult<Bitmap> {
     let mut all = vec![in alloc; outside; offset.saturating_add(len).saturating_add(9)]?;
     for (i, place) in all.iter_mut().enumerate() {
         if i >= offset && i - offset < len {
@@ -58,7 +57,7 @@ fn bitmap(
     }
     let all = Bitmap::from_bools(alloc, &all)?;
     if offset > all.len() || len > all.len() - offset {
-        return Err(Fail::from("another length"));
+        return Err(PolarsError::ComputeError);
     }
     Ok(all.sliced(offset, len))
 }
@@ -94,18 +93,21 @@ fn trailing(bits: &[bool]) -> usize {
 }
 
 // Returns whether the counts and the single bits of a bitmap equal those of a loop.
-fn counts_equal(bitmap: &Bitmap, bits: &[bool]) -> Result<bool, Fail> {
-    let mut front = bitmap.try_clone()?;
-    let mut ones = bitmap.try_clone()?;
-    let mut back = bitmap.try_clone()?;
+fn counts_equal(bitmap: &Bitmap, bits: &[bool]) -> bool {
+    has_bits(bitmap, bits)
+        & (bitmap.set_bits() == count(bits, true))
+        & (bitmap.unset_bits() == count(bits, false))
+        & (bitmap.is_all_true() == (count(bits, false) == 0))
+}
+
+// Returns whether as many leading and trailing bits are removed as a loop counts.
+fn takes_equal(bitmap: &Bitmap, bits: &[bool]) -> PolarsResult<bool> {
+    let clones = both(bitmap.try_clone(), bitmap.try_clone());
+    let ((mut front, mut ones), mut back) = both(clones, bitmap.try_clone())?;
     Ok(
-        has_bits(bitmap, bits)
-            && bitmap.set_bits() == count(bits, true)
-            && bitmap.unset_bits() == count(bits, false)
-            && bitmap.is_all_true() == (count(bits, false) == 0)
-            && front.take_leading_zeros() == leading(bits, false)
-            && ones.take_leading_ones() == leading(bits, true)
-            && back.take_trailing_zeros() == trailing(bits),
+        (front.take_leading_zeros() == leading(bits, false))
+            & (ones.take_leading_ones() == leading(bits, true))
+            & (back.take_trailing_zeros() == trailing(bits)),
     )
 }
 
@@ -147,22 +149,35 @@ fn has_blocks(bitmap: &Bitmap, bits: &[bool]) -> bool {
     false
 }
 
+// Returns whether the counts and the readers of a bitmap are right.
+fn is_read(
+    alloc: Global,
+    kind: u8,
+    offset: usize,
+    len: usize,
+    outside: bool,
+) -> PolarsResult<bool> {
+    let bitmap = bitmap(alloc, kind, offset, len, outside);
+    let (bitmap, bits) = both(bitmap, bits(alloc, kind, len))?;
+    Ok(
+        counts_equal(&bitmap, &bits)
+            & (takes_equal(&bitmap, &bits) == Ok(true))
+            & has_words(&bitmap, &bits)
+            & has_blocks(&bitmap, &bits),
+    )
+}
+
 #[test]
-fn bitmap_counts_and_readers_at_odd_offsets(rt: HostRuntime) -> Result<(), Fail> {
-    let alloc = rt.alloc();
+fn bitmap_counts_and_readers_at_odd_offsets(rt: HostRuntime) {
     for kind in 0..5u8 {
         for offset in OFFSETS {
             for len in LENGTHS {
-                let wanted = bits(alloc, kind, len)?;
                 for outside in [true, false] {
-                    let bitmap = bitmap(alloc, kind, offset, len, outside)?;
-                    assert!(rt; counts_equal(&bitmap, &wanted)?);
-                    assert!(rt; has_words(&bitmap, &wanted) && has_blocks(&bitmap, &wanted));
+                    assert!(rt; is_read(rt.alloc(), kind, offset, len, outside) == Ok(true));
                 }
             }
         }
     }
-    Ok(())
 }
 
 /// An operation on two bitmaps.
@@ -245,30 +260,48 @@ fn turns(alloc: Global, first: &Bitmap, second: &Bitmap, third: &Bitmap) -> Pola
     if first.len() != second.len() || first.len() != third.len() {
         return Ok(false);
     }
-    let opposite = first.not(alloc)?;
-    let chosen = Bitmap::choose(alloc, first, second, third)?;
-    Ok(is_opposite(&opposite, first) && is_chosen(&chosen, first, second, third))
+    let (opposite, chosen) = both(
+        first.not(alloc),
+        Bitmap::choose(alloc, first, second, third),
+    )?;
+    Ok(is_opposite(&opposite, first) & is_chosen(&chosen, first, second, third))
+}
+
+// Returns whether all operations on bitmaps equal those of single bits.
+fn operates(alloc: Global, first: &Bitmap, second: &Bitmap, third: &Bitmap) -> PolarsResult<bool> {
+    let mut is_right = turns(alloc, first, second, third)?;
+    for rule in [Rule::And, Rule::Or, Rule::AndNot, Rule::OrNot] {
+        is_right &= joins(alloc, rule, first, second)?;
+    }
+    Ok(is_right)
+}
+
+// Returns whether operations are right on bitmaps of a length, at one bit offset and at another.
+fn operates_at(
+    alloc: Global,
+    offset: usize,
+    other: usize,
+    len: usize,
+    outside: bool,
+) -> PolarsResult<bool> {
+    let first = bitmap(alloc, 0, offset, len, outside);
+    let second = bitmap(alloc, 3, other, len, !outside);
+    let third = bitmap(alloc, 1, offset, len, !outside);
+    let ((first, second), third) = both(both(first, second), third)?;
+    operates(alloc, &first, &second, &third)
 }
 
 #[test]
-fn operations_at_odd_offsets(rt: HostRuntime) -> Result<(), Fail> {
-    let alloc = rt.alloc();
+fn operations_at_odd_offsets(rt: HostRuntime) {
     for offset in [0, 3, 6, 7] {
         for other in [0, 3, 6, 7] {
             for len in [0, 1, 61, 62, 64, 65, 130] {
                 for outside in [true, false] {
-                    let first = bitmap(alloc, 0, offset, len, outside)?;
-                    let second = bitmap(alloc, 3, other, len, !outside)?;
-                    let third = bitmap(alloc, 1, offset, len, !outside)?;
-                    assert!(rt; turns(alloc, &first, &second, &third) == Ok(true));
-                    for rule in [Rule::And, Rule::Or, Rule::AndNot, Rule::OrNot] {
-                        assert!(rt; joins(alloc, rule, &first, &second) == Ok(true));
-                    }
+                    assert!(rt; operates_at(rt.alloc(), offset, other, len, outside) == Ok(true));
                 }
             }
         }
     }
-    Ok(())
 }
 
 // Returns whether the bits are those of the values at these positions.
@@ -289,9 +322,11 @@ fn filters(alloc: Global, values: &Bitmap, mask: &Bitmap, places: &[usize]) -> P
     if values.len() != mask.len() {
         return Ok(false);
     }
-    let by_size = filter_boolean_kernel(alloc, values, mask)?;
-    let by_count = filter_counted_bits(alloc, values, mask, mask.set_bits())?;
-    Ok(has_bits_at(&by_size, values, places) && has_bits_at(&by_count, values, places))
+    let (by_size, by_count) = both(
+        filter_boolean_kernel(alloc, values, mask),
+        filter_counted_bits(alloc, values, mask, mask.set_bits()),
+    )?;
+    Ok(has_bits_at(&by_size, values, places) & has_bits_at(&by_count, values, places))
 }
 
 // Returns whether the kernels over readers select the bits at these positions: the one reads each
@@ -301,12 +336,18 @@ fn reads(alloc: Global, values: &Bitmap, mask: &Bitmap, places: &[usize]) -> Pol
         return Ok(false);
     }
     let mut blocks = U56Blocks::new(values);
-    let by_blocks = filter_boolean_kernel_pext(alloc, &mut blocks, &mut U56Blocks::new(mask))?;
     let mut single = CountedBits::new(values);
-    let by_bits = filter_boolean_kernel_sparse(alloc, &mut single, &mut AlignedWords::new(mask))?;
-    let counts = (blocks.blocks_read(), single.bits_read());
-    let are_kept = has_bits_at(&by_blocks, values, places) && has_bits_at(&by_bits, values, places);
-    Ok(are_kept && counts == (values.len().div_ceil(56) as u64, places.len() as u64))
+    let (by_blocks, by_bits) = both(
+        filter_boolean_kernel_pext(alloc, &mut blocks, &mut U56Blocks::new(mask)),
+        filter_boolean_kernel_sparse(alloc, &mut single, &mut AlignedWords::new(mask)),
+    )?;
+    let are_kept = has_bits_at(&by_blocks, values, places) & has_bits_at(&by_bits, values, places);
+    let blocks_read = values.len().div_ceil(56) as u64;
+    Ok(
+        are_kept
+            & (blocks.blocks_read() == blocks_read)
+            & (single.bits_read() == places.len() as u64),
+    )
 }
 
 // Returns the positions where the mask is true.
@@ -321,13 +362,15 @@ fn true_places(alloc: Global, mask: &Bitmap) -> PolarsResult<Vec<usize>> {
 }
 
 // Returns the greatest number of copies for these positions: one for each run of consecutive ones,
-// and one for each further word.
+// and one for each further word. (The first position always counts as one.)
 fn most_copies(places: &[usize]) -> u64 {
-    let mut copies = 2u64;
-    for pair in places.windows(2) {
-        if pair[1] != pair[0].saturating_add(1) || pair[1] % 64 == 0 {
+    let mut copies = 1u64;
+    let mut next = 0;
+    for place in places {
+        if *place != next || *place % 64 == 0 {
             copies = copies.saturating_add(1);
         }
+        next = place.saturating_add(1);
     }
     copies
 }
@@ -342,7 +385,7 @@ fn keeps(alloc: Global, numbers: &[usize], mask: &Bitmap, wanted: &[usize]) -> P
     let mut out = BlockCopy::new(alloc, numbers);
     filter_runs(&mut out, &mut AlignedWords::new(mask))?;
     let is_by_runs = out.copies() <= most_copies(wanted);
-    Ok(is_by_runs && kept.as_slice() == wanted && out.into_vec().as_slice() == wanted)
+    Ok(is_by_runs & same(kept.as_slice(), wanted) & same(out.into_vec().as_slice(), wanted))
 }
 
 // Returns whether both filters of the positions select these.
@@ -354,22 +397,38 @@ fn keeps_places(alloc: Global, mask: &Bitmap, wanted: &[usize]) -> PolarsResult<
     keeps(alloc, &places, mask, wanted)
 }
 
+// Returns whether all filters by a mask are right.
+fn filters_by(alloc: Global, values: &Bitmap, mask: &Bitmap) -> PolarsResult<bool> {
+    let places = true_places(alloc, mask)?;
+    Ok(
+        (filters(alloc, values, mask, &places) == Ok(true))
+            & (reads(alloc, values, mask, &places) == Ok(true))
+            & (keeps_places(alloc, mask, &places) == Ok(true)),
+    )
+}
+
+// Returns whether filters are right by a mask of a length, at a bit offset.
+fn filters_at(
+    alloc: Global,
+    kind: u8,
+    offset: usize,
+    len: usize,
+    outside: bool,
+) -> PolarsResult<bool> {
+    let mask = bitmap(alloc, kind, offset, len, outside);
+    let (mask, values) = both(mask, bitmap(alloc, 0, 5, len, !outside))?;
+    filters_by(alloc, &values, &mask)
+}
+
 #[test]
-fn filters_at_odd_offsets(rt: HostRuntime) -> Result<(), Fail> {
-    let alloc = rt.alloc();
+fn filters_at_odd_offsets(rt: HostRuntime) {
     for kind in 0..5u8 {
         for offset in OFFSETS {
             for len in LENGTHS {
                 for outside in [true, false] {
-                    let mask = bitmap(alloc, kind, offset, len, outside)?;
-                    let values = bitmap(alloc, 0, 5, len, !outside)?;
-                    let places = true_places(alloc, &mask)?;
-                    assert!(rt; filters(alloc, &values, &mask, &places) == Ok(true));
-                    assert!(rt; reads(alloc, &values, &mask, &places) == Ok(true));
-                    assert!(rt; keeps_places(alloc, &mask, &places) == Ok(true));
+                    assert!(rt; filters_at(rt.alloc(), kind, offset, len, outside) == Ok(true));
                 }
             }
         }
     }
-    Ok(())
 }

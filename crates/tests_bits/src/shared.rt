@@ -1,5 +1,6 @@
 //! The bytes of bitmaps and the offsets of lists as buffers, which share their memory.
 
+use crate::fixtures::same;
 use sel_bits::bitmap::Bitmap;
 use sel_bits::buffer::Buffer;
 use sel_bits::faults::{MakeError, Malformed, PolarsResult};
@@ -10,7 +11,7 @@ use std::test::Fail;
 /// Returns whether the bits 11 to 15 are in the second byte.
 fn has_second_byte(part: &Bitmap) -> PolarsResult<bool> {
     let bytes = part.to_buffer()?;
-    Ok(bytes.as_slice() == [0x0Fu8].as_slice())
+    Ok(same(bytes.as_slice(), &[0x0F]))
 }
 
 #[test]
@@ -35,7 +36,7 @@ fn offsets_of(alloc: Global, numbers: &[i64]) -> Result<OffsetsBuffer<i64>, Make
 fn come_back(alloc: Global, numbers: &[i64]) -> Result<bool, MakeError> {
     let offsets = offsets_of(alloc, numbers)?;
     match offsets.to_buffer() {
-        Ok(buffer) => Ok(buffer.as_slice() == numbers),
+        Ok(buffer) => Ok(same(buffer.as_slice(), numbers)),
         Err(_) => Err(MakeError::OutOfMemory),
     }
 }
