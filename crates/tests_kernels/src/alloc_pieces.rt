@@ -2,6 +2,7 @@
 //! buffers, the rows of views, and if-then-else by words.
 
 use crate::masks::has_validity;
+use crate::runs::{is_run, is_run_of_nulls};
 use polars_compute::if_then_else::if_then_else_validity;
 use polars_compute::if_then_else::scalar::if_then_else_words;
 use sel_arrow::array::Array;
@@ -21,7 +22,7 @@ use sel_gather::view::push_buffers;
 use std::alloc::Global;
 use std::test::Fail;
 use tests_bits::column_fixtures::one_buffer;
-use tests_bits::fixtures::{buffer, has_bits};
+use tests_bits::fixtures::{both, buffer, has_bits, same};
 use tests_bits::marks::{begins, ends_by};
 
 // The bytes of the only row of a view column.
@@ -48,7 +49,7 @@ fn copies_items(alloc: Global) -> bool {
     ends_by(alloc, &filled);
     let items = out.into_vec();
     let len = if filled.is_ok() { 40 } else { 0 };
-    is_done(&reserved) && is_done(&filled) && items.as_slice() == &[9u8; 40][..len]
+    is_done(&reserved) & is_done(&filled) & same(items.as_slice(), &[9u8; 40][..len])
 }
 
 /// Returns whether a part is copied; a call that is out of memory changes nothing.
@@ -60,7 +61,7 @@ fn copies_part(alloc: Global) -> bool {
     ends_by(alloc, &copied);
     let items = out.into_vec();
     let len = if copied.is_ok() { 2 } else { 0 };
-    is_done(&copied) && items.as_slice() == &[2u8, 3][..len]
+    is_done(&copied) & same(items.as_slice(), &[2u8, 3][..len])
 }
 
 #[test]
@@ -72,14 +73,10 @@ fn block_copy_copies_and_fills(rt: HostRuntime) {
 /// Returns whether the runs are two rows of source 0 from row 1 on, and a null.
 fn are_runs(answer: PolarsResult<Vec<Run>>) -> bool {
     match answer {
-        Ok(runs) => {
-            runs.len() == 2
-                && runs[0].source == Some(0)
-                && runs[0].start == 1
-                && runs[0].len == 2
-                && runs[1].source.is_none()
-                && runs[1].len == 1
-        }
+        Ok(runs) => match runs.as_slice() {
+            [first, second] => is_run(first, 0, 1, 2) & is_run_of_nulls(second, 1),
+            _ => false,
+        },
         Err(fault) => fault == PolarsError::OutOfMemory,
     }
 }
@@ -100,7 +97,7 @@ fn pushes_run(alloc: Global) -> bool {
     let answer = push_run(&mut runs, nulls_of(2));
     ends_by(alloc, &answer);
     let count = if answer.is_ok() { 1 } else { 0 };
-    is_done(&answer) && runs.len() == count
+    is_done(&answer) & (runs.len() == count)
 }
 
 #[test]
@@ -143,33 +140,39 @@ fn validities_are_concatenated(rt: HostRuntime) -> Result<(), Fail> {
 /// these.
 fn are_joined(joined: &[Buffer<u8>], is_whole: bool) -> bool {
     match joined {
-        [first] => !is_whole && first.as_slice() == [1].as_slice(),
-        [first, second] => {
-            is_whole && first.as_slice() == [1].as_slice() && second.as_slice() == [2, 3].as_slice()
-        }
+        [first] => !is_whole & same(first.as_slice(), &[1]),
+        [first, second] => is_whole
+            & same(first.as_slice(), &[1])
+            & same(second.as_slice(), &[2, 3]),
         _ => false,
     }
+}
+
+/// Returns one data buffer of these bytes.
+fn buffers_of(alloc: Global, bytes: &[u8]) -> PolarsResult<Vec<Buffer<u8>>> {
+    let buffer = buffer(alloc, bytes)?;
+    Ok(vec![in alloc; buffer]?)
 }
 
 #[test]
 fn data_buffers_are_concatenated(rt: HostRuntime) -> Result<(), Fail> {
     let alloc = rt.alloc();
-    let mut joined = Vec::with_capacity(alloc, 1)?;
-    joined.push(buffer(alloc, &[1u8])?)?;
-    let others = vec![in alloc; buffer(alloc, &[2u8, 3])?]?;
+    let joined = buffers_of(alloc, &[1u8]);
+    let (mut joined, others) = both(joined, buffers_of(alloc, &[2u8, 3]))?;
     begins(alloc);
     let answer = push_buffers(&mut joined, &others);
     ends_by(alloc, &answer);
-    assert!(rt; is_done(&answer) && are_joined(&joined, answer.is_ok()));
+    let is_joined = is_done(&answer) & are_joined(&joined, answer.is_ok());
     drop(joined);
     drop(others);
+    assert!(rt; is_joined);
     Ok(())
 }
 
 /// Returns whether the bytes of a row are 14 letters, or the call is out of memory.
 fn are_letters(answer: PolarsResult<Option<Vec<u8>>>) -> bool {
     match answer {
-        Ok(Some(bytes)) => bytes.as_slice() == LETTERS.as_bytes(),
+        Ok(Some(bytes)) => same(bytes.as_slice(), LETTERS.as_bytes()),
         Ok(None) => false,
         Err(fault) => fault == PolarsError::OutOfMemory,
     }
@@ -208,37 +211,48 @@ fn gets_text(alloc: Global, texts: &Utf8ViewArray) -> bool {
 fn row_of_binary_and_string_views(rt: HostRuntime) -> Result<(), Fail> {
     let alloc = rt.alloc();
     let view = View::new_from_bytes(LETTERS.as_bytes(), 0, 0);
-    let data = one_buffer(alloc, LETTERS.as_bytes())?;
-    let bytes = BinaryViewArray::try_new(buffer(alloc, &[view])?, data, None)?;
+    let (views, data) = both(
+        buffer(alloc, &[view]),
+        one_buffer(alloc, LETTERS.as_bytes()),
+    )?;
+    let bytes = BinaryViewArray::try_new(views, data, None)?;
     assert!(rt; gets_bytes(alloc, &bytes));
     drop(bytes);
-    let data = one_buffer(alloc, LETTERS.as_bytes())?;
-    let texts = Utf8ViewArray::try_new(buffer(alloc, &[view])?, data, None)?;
+    let (views, data) = both(
+        buffer(alloc, &[view]),
+        one_buffer(alloc, LETTERS.as_bytes()),
+    )?;
+    let texts = Utf8ViewArray::try_new(views, data, None)?;
     assert!(rt; gets_text(alloc, &texts));
     drop(texts);
     Ok(())
 }
 
+/// Returns whether the validity of an if-then-else of no validity and these bits is right.
+fn chooses_validity(alloc: Global, mask: &Bitmap, bits: &Bitmap) -> bool {
+    if bits.len() != mask.len() {
+        return false;
+    }
+    begins(alloc);
+    let answer = if_then_else_validity(alloc, mask, None, Some(bits));
+    ends_by(alloc, &answer);
+    is_validity(answer, &[true, false])
+}
+
 #[test]
 fn validity_of_if_then_else(rt: HostRuntime) -> Result<(), Fail> {
     let alloc = rt.alloc();
-    let mask = Bitmap::from_bools(alloc, &[true, false])?;
-    let bits = Bitmap::from_bools(alloc, &[false, false])?;
-    if bits.len() != mask.len() {
-        return Err(Fail::from("another length"));
-    }
-    begins(alloc);
-    let answer = if_then_else_validity(alloc, &mask, None, Some(&bits));
-    ends_by(alloc, &answer);
-    assert!(rt; is_validity(answer, &[true, false]));
-    assert!(rt; has_bits(&mask, &[true, false]) && has_bits(&bits, &[false, false]));
+    let mask = Bitmap::from_bools(alloc, &[true, false]);
+    let (mask, bits) = both(mask, Bitmap::from_bools(alloc, &[false, false]))?;
+    assert!(rt; chooses_validity(alloc, &mask, &bits));
+    assert!(rt; has_bits(&mask, &[true, false]) & has_bits(&bits, &[false, false]));
     Ok(())
 }
 
 /// Returns whether a call returned these numbers, or is out of memory.
 fn are_numbers(answer: PolarsResult<Vec<u64>>, numbers: &[u64]) -> bool {
     match answer {
-        Ok(chosen) => chosen.as_slice() == numbers,
+        Ok(chosen) => same(chosen.as_slice(), numbers),
         Err(fault) => fault == PolarsError::OutOfMemory,
     }
 }

@@ -1,6 +1,7 @@
 //! Takes of bits, of blocks, and of binary columns by other index and offset types, with failing
 //! allocations.
 
+use crate::masks::made;
 use polars_compute::gather::bitmap::{take_bitmap_nulls_unchecked, take_bitmap_unchecked};
 use polars_compute::gather::{
     binary, blocks_in_bounds, idx_slice_in_bounds, indices_in_bounds, indices_in_bounds_of,
@@ -18,7 +19,7 @@ use sel_bits::offsets::OffsetsBuffer;
 use std::alloc::Global;
 use std::test::Fail;
 use tests_bits::column_fixtures::{column, has_bytes, validity};
-use tests_bits::fixtures::has_bits;
+use tests_bits::fixtures::{both, buffer, has_bits, same};
 use tests_bits::marks::{begins, ends_by};
 
 /// Returns the indices of the takes of bits; the null one has the greatest number in its slot.
@@ -63,21 +64,26 @@ fn of_type<T: NativeType>(alloc: Global, numbers: &[usize]) -> PolarsResult<Vec<
 /// A row that is longer than what one copy of a constant size moves.
 const LONG: [u8; 17] = [7; 17];
 
+/// The bytes of the rows below.
+const BYTES: [u8; 24] = [
+    9, 9, 9, 2, 2, 0, 7, 7, 7, 7, 7, 7, 7, 7, 7, 7, 7, 7, 7, 7, 7, 7, 7, 1,
+];
+
 /// Returns the rows of two bytes, a null with one byte in its slot, no bytes, 17 bytes, and one
 /// byte. The first offset is 3, as in a slice.
 fn five_rows<O: Offset>(alloc: Global) -> Result<BinaryArray<O>, Fail> {
-    let offsets = OffsetsBuffer::try_from(of_type(alloc, &[3, 5, 6, 6, 23, 24])?)?;
-    let mut bytes = Vec::from_slice(alloc, &[9u8, 9, 9, 2, 2, 0])?;
-    bytes.extend_from_slice(&LONG)?;
-    bytes.push(1)?;
-    let validity = validity(alloc, &[true, false, true, true, true])?;
-    Ok(BinaryArray::try_new(offsets, Buffer::from_vec(bytes)?, validity)?)
+    let offsets = OffsetsBuffer::try_from(of_type(alloc, &[3, 5, 6, 6, 23, 24])?);
+    let bytes = buffer(alloc, &BYTES);
+    let parts = both(bytes, validity(alloc, &[true, false, true, true, true]));
+    let (offsets, (bytes, validity)) = both(made(offsets), parts)?;
+    Ok(BinaryArray::try_new(offsets, bytes, validity)?)
 }
 
 /// Returns the indices null, 4, 3, 2, 0, 1 and 3.
 fn seven_places<I: Index>(alloc: Global) -> Result<PrimitiveArray<I>, Fail> {
-    let places = Buffer::from_vec(of_type(alloc, &[0, 4, 3, 2, 0, 1, 3])?)?;
-    let validity = validity(alloc, &[false, true, true, true, true, true, true])?;
+    let places = Buffer::from_vec(of_type(alloc, &[0, 4, 3, 2, 0, 1, 3])?);
+    let validity = validity(alloc, &[false, true, true, true, true, true, true]);
+    let (places, validity) = both(places, validity)?;
     Ok(PrimitiveArray::try_new(places, validity)?)
 }
 
@@ -96,7 +102,7 @@ fn takes_bytes<O: Offset + Drop, I: Index + Drop>(
     drop(places);
     let rows: [Option<&[u8]>; 5] = [Some(&[2, 2]), None, Some(&[]), Some(&LONG), Some(&[1])];
     let taken = [None, rows[4], rows[3], rows[2], rows[0], rows[1], rows[3]];
-    Ok(are_bytes(answer, &taken) && has_bytes(values, &rows))
+    Ok(are_bytes(answer, &taken) & has_bytes(values, &rows))
 }
 
 // Takes rows by signed and by unsigned indices.
@@ -134,7 +140,7 @@ fn takes_bits(alloc: Global, values: &Bitmap) -> Result<bool, Fail> {
     ends_by(alloc, &others);
     drop(places);
     let are_taken = are_bits(answer, &[false, true, true]);
-    Ok(are_taken && are_bits(others, &[false, true, true, true]) && has_bits(values, &BITS))
+    Ok(are_taken & are_bits(others, &[false, true, true, true]) & has_bits(values, &BITS))
 }
 
 #[test]
@@ -164,14 +170,14 @@ fn takes_blocks(alloc: Global) -> Result<bool, Fail> {
     let copies = out.copies();
     let items = out.into_vec();
     Ok(match answer {
-        Ok(()) => copies == 2 && items.as_slice() == ITEMS.as_slice(),
-        Err(fault) => fault == PolarsError::OutOfMemory && begins_items(&items),
+        Ok(()) => (copies == 2) & same(items.as_slice(), &ITEMS),
+        Err(fault) => (fault == PolarsError::OutOfMemory) & begins_items(&items),
     })
 }
 
 /// Returns whether these are fewer items, and a prefix of those above.
 fn begins_items(items: &[i64]) -> bool {
-    items.len() < ITEMS.len() && items == &ITEMS[..items.len()]
+    items.len() < ITEMS.len() && same(items, &ITEMS[..items.len()])
 }
 
 #[test]

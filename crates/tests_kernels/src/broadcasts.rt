@@ -3,7 +3,7 @@
 ghost use Rattle.std.specs.Prelude.{◌≡◌};
 ghost use Rattle.sel_arrow.specs.DataType.{shape_of};
 
-use crate::parsed::{fixed_lists, lists, parsed, returns};
+use crate::parsed::{fixed_lists, lists, of_type, parsed, returns};
 use sel_arrow::array::Array;
 use sel_arrow::array_ref::ArrayRef;
 use sel_arrow::binview::BinaryViewArray;
@@ -66,18 +66,10 @@ const BYTES: &str = r#"[h"61",null,h"63",h"6768696a6b6c6d6e6f70717273",h"65"]"#;
 const LONG: &[u8; 13] = b"nopqrstuvwxyz";
 
 fn views(alloc: Global) -> Result<BinaryViewArray, Fail> {
-    match parsed(alloc, "binview", BYTES)?.into_array::<BinaryViewArray>() {
-        Ok(views) => Ok(views),
-        Err(back) => {
-            drop(back);
-            Err(Fail::from("a column of another type"))
-        }
-    }
+    of_type(parsed(alloc, "binview", BYTES)?.into_array::<BinaryViewArray>())
 }
 
-#[test]
-fn broadcast_binary_views(rt: HostRuntime) -> Result<(), Fail> {
-    let alloc = rt.alloc();
+fn broadcasts_long_bytes(alloc: Global) -> Result<bool, Fail> {
     let long = Vec::from_slice(alloc, LONG)?;
     let values = views(alloc)?;
     let is_so = broadcasts(
@@ -88,48 +80,65 @@ fn broadcast_binary_views(rt: HostRuntime) -> Result<(), Fail> {
         r#"[h"61",null,h"6e6f707172737475767778797a",h"6768696a6b6c6d6e6f70717273",h"6e6f707172737475767778797a"]"#,
     );
     drop(values);
-    assert!(rt; is_so?);
+    is_so
+}
+
+fn broadcasts_two_bytes(alloc: Global) -> Result<bool, Fail> {
+    let long = Vec::from_slice(alloc, LONG)?;
     let short = Vec::from_slice(alloc, b"x")?;
     let rows = r#"[h"78",h"78",h"6e6f707172737475767778797a",h"78",h"6e6f707172737475767778797a"]"#;
-    assert!(rt;
-        broadcasts_both::<BinaryViewArray>(alloc, ArrowDataType::BinaryView, &short, &long, rows)?
-    );
+    broadcasts_both::<BinaryViewArray>(alloc, ArrowDataType::BinaryView, &short, &long, rows)
+}
+
+#[test]
+fn broadcast_binary_views(rt: HostRuntime) -> Result<(), Fail> {
+    let alloc = rt.alloc();
+    assert!(rt; broadcasts_long_bytes(alloc)?);
+    assert!(rt; broadcasts_two_bytes(alloc)?);
     Ok(())
 }
 
 fn texts(alloc: Global) -> Result<Utf8ViewArray, Fail> {
-    match parsed(
-        alloc,
-        "utf8",
-        r#"["a",null,"c","a string of many bytes","e"]"#,
-    )?
-    .into_array::<Utf8ViewArray>()
-    {
-        Ok(texts) => Ok(texts),
-        Err(back) => {
-            drop(back);
-            Err(Fail::from("a column of another type"))
-        }
-    }
+    let rows = r#"["a",null,"c","a string of many bytes","e"]"#;
+    of_type(parsed(alloc, "utf8", rows)?.into_array::<Utf8ViewArray>())
 }
 
-#[test]
-fn broadcast_strings(rt: HostRuntime) -> Result<(), Fail> {
-    let alloc = rt.alloc();
+fn broadcasts_string(alloc: Global) -> Result<bool, Fail> {
     let word = String::from_str(alloc, "word")?;
     let values = texts(alloc)?;
     let as_true = r#"["word","word","c","word","e"]"#;
     let as_false = r#"["a",null,"word","a string of many bytes","word"]"#;
     let is_so = broadcasts(alloc, &values, &word, as_true, as_false);
     drop(values);
-    assert!(rt; is_so?);
+    is_so
+}
+
+fn broadcasts_two_strings(alloc: Global) -> Result<bool, Fail> {
+    let word = String::from_str(alloc, "word")?;
     let other = String::from_str(alloc, "another string of many bytes")?;
     let rows =
         r#"["word","word","another string of many bytes","word","another string of many bytes"]"#;
-    assert!(rt;
-        broadcasts_both::<Utf8ViewArray>(alloc, ArrowDataType::Utf8View, &word, &other, rows)?
-    );
+    broadcasts_both::<Utf8ViewArray>(alloc, ArrowDataType::Utf8View, &word, &other, rows)
+}
+
+#[test]
+fn broadcast_strings(rt: HostRuntime) -> Result<(), Fail> {
+    let alloc = rt.alloc();
+    assert!(rt; broadcasts_string(alloc)?);
+    assert!(rt; broadcasts_two_strings(alloc)?);
     Ok(())
+}
+
+// Returns two columns of numbers.
+fn two_columns(alloc: Global, first: &str, second: &str) -> Result<(ArrayRef, ArrayRef), Fail> {
+    let first = parsed(alloc, "i64", first)?;
+    match parsed(alloc, "i64", second) {
+        Ok(second) => Ok((first, second)),
+        Err(fail) => {
+            drop(first);
+            Err(fail)
+        }
+    }
 }
 
 fn broadcasts_lists(
@@ -174,36 +183,45 @@ fn broadcasts_fixed_lists(
     )
 }
 
-#[test]
-fn broadcast_lists(rt: HostRuntime) -> Result<(), Fail> {
-    let alloc = rt.alloc();
-    let values = lists(alloc, "list<i64>", "[[1],null,[2,null],[7],[]]")?;
-    let scalar = parsed(alloc, "i64", "[3,null,3]")?;
-    let other = parsed(alloc, "i64", "[4]")?;
+// Returns whether the lists of a column, and two others, are broadcast.
+fn broadcasts_two_lists(alloc: Global, values: &ListArray<i64>) -> Result<bool, Fail> {
+    let (scalar, other) = two_columns(alloc, "[3,null,3]", "[4]")?;
     let as_true = "[[3,null,3],[3,null,3],[2,null],[3,null,3],[]]";
     let as_false = "[[1],null,[3,null,3],[7],[3,null,3]]";
     let both = "[[3,null,3],[3,null,3],[4],[3,null,3],[4]]";
-    let is_so = broadcasts_lists(alloc, &values, &scalar, &other, as_true, as_false, both);
-    drop(values);
+    let is_so = broadcasts_lists(alloc, values, &scalar, &other, as_true, as_false, both);
     drop(scalar);
     drop(other);
+    is_so
+}
+
+#[test]
+fn broadcast_lists(rt: HostRuntime) -> Result<(), Fail> {
+    let values = lists(rt.alloc(), "list<i64>", "[[1],null,[2,null],[7],[]]")?;
+    let is_so = broadcasts_two_lists(rt.alloc(), &values);
+    drop(values);
     assert!(rt; is_so?);
     Ok(())
 }
 
-#[test]
-fn broadcast_fixed_size_lists(rt: HostRuntime) -> Result<(), Fail> {
-    let alloc = rt.alloc();
-    let values = fixed_lists(alloc, "fixed<2,i64>", "[[1,5],null,[2,5],[7,null],[4,5]]")?;
-    let scalar = parsed(alloc, "i64", "[3,9]")?;
-    let other = parsed(alloc, "i64", "[null,4]")?;
+// Returns whether the lists of a column, and two others, are broadcast.
+fn broadcasts_two_fixed_lists(alloc: Global, values: &FixedSizeListArray) -> Result<bool, Fail> {
+    let (scalar, other) = two_columns(alloc, "[3,9]", "[null,4]")?;
     let as_true = "[[3,9],[3,9],[2,5],[3,9],[4,5]]";
     let as_false = "[[1,5],null,[3,9],[7,null],[3,9]]";
     let both = "[[3,9],[3,9],[null,4],[3,9],[null,4]]";
-    let is_so = broadcasts_fixed_lists(alloc, &values, &scalar, &other, as_true, as_false, both);
-    drop(values);
+    let is_so = broadcasts_fixed_lists(alloc, values, &scalar, &other, as_true, as_false, both);
     drop(scalar);
     drop(other);
+    is_so
+}
+
+#[test]
+fn broadcast_fixed_size_lists(rt: HostRuntime) -> Result<(), Fail> {
+    let rows = "[[1,5],null,[2,5],[7,null],[4,5]]";
+    let values = fixed_lists(rt.alloc(), "fixed<2,i64>", rows)?;
+    let is_so = broadcasts_two_fixed_lists(rt.alloc(), &values);
+    drop(values);
     assert!(rt; is_so?);
     Ok(())
 }

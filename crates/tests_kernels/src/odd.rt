@@ -3,9 +3,10 @@
 
 use sel_bits::aligned_words::AlignedWords;
 use sel_bits::bitmap::Bitmap;
+use sel_bits::faults::{PolarsError, PolarsResult};
 use sel_ternary::if_then_else::scalar::if_then_else_words;
 use std::alloc::Global;
-use std::test::Fail;
+use tests_bits::fixtures::both;
 
 const OFFSETS: [usize; 13] = [0, 1, 2, 3, 4, 5, 6, 7, 8, 9, 63, 64, 65];
 
@@ -24,26 +25,22 @@ fn bit(kind: u8, i: usize) -> bool {
 
 // Returns `len` bits of a pattern as a bitmap at this bit offset; `outside` is the value of the
 // bits before and after it.
-fn mask(alloc: Global, kind: u8, offset: usize, len: usize, outside: bool) -> Result<Bitmap, Fail> {
-    let mut bits = Vec::new(alloc);
-    for _ in 0..offset {
-        bits.push(outside)?;
-    }
-    for i in 0..len {
-        bits.push(bit(kind, i))?;
-    }
-    for _ in 0..9 {
-        bits.push(outside)?;
+fn mask(alloc: Global, kind: u8, offset: usize, len: usize, outside: bool) -> PolarsResult<Bitmap> {
+    let mut bits = vec![in alloc; outside; offset.saturating_add(len).saturating_add(9)]?;
+    for (i, place) in bits.iter_mut().enumerate() {
+        if i >= offset && i - offset < len {
+            *place = bit(kind, i - offset);
+        }
     }
     let bits = Bitmap::from_bools(alloc, &bits)?;
     if offset > bits.len() || len > bits.len() - offset {
-        return Err(Fail::from("another length"));
+        return Err(PolarsError::ComputeError);
     }
     Ok(bits.sliced(offset, len))
 }
 
 // Returns `len` consecutive numbers, from `first` on.
-fn numbers(alloc: Global, first: u16, len: usize) -> Result<Vec<u16>, Fail> {
+fn numbers(alloc: Global, first: u16, len: usize) -> PolarsResult<Vec<u16>> {
     let mut numbers = Vec::new(alloc);
     let mut number = first;
     for _ in 0..len {
@@ -69,31 +66,50 @@ fn are_chosen(numbers: &[u16], mask: &Bitmap, if_true: &[u16], if_false: &[u16])
 
 // Returns whether if-then-else by a mask equals that of a loop, and reads no more words than its
 // rows need.
-fn chooses(alloc: Global, mask: &Bitmap) -> Result<bool, Fail> {
-    let if_true = numbers(alloc, 0, mask.len())?;
-    let if_false = numbers(alloc, 1000, mask.len())?;
+fn chooses(alloc: Global, mask: &Bitmap) -> PolarsResult<bool> {
+    let if_true = numbers(alloc, 0, mask.len());
+    let (if_true, if_false) = both(if_true, numbers(alloc, 1000, mask.len()))?;
+    chooses_between(alloc, mask, &if_true, &if_false)
+}
+
+// Returns whether if-then-else by a mask is right for these numbers.
+fn chooses_between(
+    alloc: Global,
+    mask: &Bitmap,
+    if_true: &[u16],
+    if_false: &[u16],
+) -> PolarsResult<bool> {
     if if_true.len() != mask.len() || if_false.len() != mask.len() {
-        return Err(Fail::from("another length"));
+        return Ok(false);
     }
     let mut words = AlignedWords::new(mask);
-    let chosen = if_then_else_words(alloc, &mut words, &if_true, &if_false)?;
-    Ok(
-        are_chosen(&chosen, mask, &if_true, &if_false)
-            && words.words_read() <= mask.len() as u64 / 64 + 2,
-    )
+    let chosen = if_then_else_words(alloc, &mut words, if_true, if_false)?;
+    let is_short = words.words_read() <= mask.len() as u64 / 64 + 2;
+    Ok(are_chosen(&chosen, mask, if_true, if_false) & is_short)
+}
+
+// Returns whether if-then-else by a mask of a length is right, at a bit offset.
+fn chooses_at(
+    alloc: Global,
+    kind: u8,
+    offset: usize,
+    len: usize,
+    outside: bool,
+) -> PolarsResult<bool> {
+    let mask = mask(alloc, kind, offset, len, outside)?;
+    chooses(alloc, &mask)
 }
 
 #[test]
-fn if_then_else_at_odd_offsets(rt: HostRuntime) -> Result<(), Fail> {
+fn if_then_else_at_odd_offsets(rt: HostRuntime) {
     for kind in 0..4u8 {
         for offset in OFFSETS {
             for len in LENGTHS {
                 for outside in [true, false] {
-                    let mask = mask(rt.alloc(), kind, offset, len, outside)?;
-                    assert!(rt; chooses(rt.alloc(), &mask)?, "{len} bits at {offset}");
+                    let chooses = chooses_at(rt.alloc(), kind, offset, len, outside);
+                    assert!(rt; chooses == Ok(true), "{len} bits at {offset}");
                 }
             }
         }
     }
-    Ok(())
 }

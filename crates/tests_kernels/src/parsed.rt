@@ -40,7 +40,8 @@ pub fn returns<A: Array>(alloc: Global, made: PolarsResult<A>, rows: &str) -> Re
     prints(alloc, made?.into_ref(), rows)
 }
 
-fn of_type<A>(found: Result<A, ArrayRef>) -> Result<A, Fail> {
+/// Returns the column of a type, or an error if it has another.
+pub fn of_type<A>(found: Result<A, ArrayRef>) -> Result<A, Fail> {
     match found {
         Ok(found) => Ok(found),
         Err(back) => {

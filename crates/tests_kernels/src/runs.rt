@@ -12,14 +12,27 @@ use sel_gather::runs::{Run, push_run};
 use std::alloc::Global;
 use std::test::Fail;
 
-// Returns whether the run is `len` rows of this source from row `start` on.
-fn is_run(run: &Run, source: u32, start: u32, len: u32) -> bool {
-    run.source == Some(source) && run.start == start && run.len == len
+/// Returns whether the run is `len` rows of this source from row `start` on.
+pub fn is_run(run: &Run, source: u32, start: u32, len: u32) -> bool {
+    (run.source == Some(source)) & (run.start == start) & (run.len == len)
 }
 
-// Returns whether the run is `len` nulls.
-fn is_run_of_nulls(run: &Run, len: u32) -> bool {
-    run.source.is_none() && run.len == len
+/// Returns whether the run is `len` nulls.
+pub fn is_run_of_nulls(run: &Run, len: u32) -> bool {
+    run.source.is_none() & (run.len == len)
+}
+
+// Returns whether the runs are two rows, two nulls, and two single rows.
+fn are_four_runs(runs: &[Run]) -> bool {
+    match runs {
+        [first, second, third, fourth] => {
+            is_run(first, 0, 1, 2)
+                & is_run_of_nulls(second, 2)
+                & is_run(third, 1, 3, 1)
+                & is_run(fourth, 0, 3, 1)
+        }
+        _ => false,
+    }
 }
 
 #[test]
@@ -33,9 +46,7 @@ fn consecutive_row_references_are_one_run(rt: HostRuntime) -> Result<(), Fail> {
         Some((0, 3)),
     ];
     let runs = runs_of_picks(rt.alloc(), &picks)?;
-    assert!(rt; runs.len() == 4);
-    assert!(rt; is_run(&runs[0], 0, 1, 2) && is_run_of_nulls(&runs[1], 2));
-    assert!(rt; is_run(&runs[2], 1, 3, 1) && is_run(&runs[3], 0, 3, 1));
+    assert!(rt; are_four_runs(&runs));
     Ok(())
 }
 
@@ -59,30 +70,14 @@ fn row_references_in_bounds(rt: HostRuntime) -> Result<(), Fail> {
     );
     let bits = Bitmap::from_bools(rt.alloc(), &[true, false])?;
     let maps = [None, Some(&bits)];
-    assert!(rt;
-        plan_has_bits(
-            &maps,
-            &Listed {
-                picks: &[Some((0, 9)), None, Some((1, 1))]
-            }
-        )
-    );
-    assert!(rt;
-        !plan_has_bits(
-            &maps,
-            &Listed {
-                picks: &[Some((1, 2))]
-            }
-        )
-    );
-    assert!(rt;
-        !plan_has_bits(
-            &maps,
-            &Listed {
-                picks: &[Some((2, 0))]
-            }
-        )
-    );
+    let table: [(&[Option<(u32, u32)>], bool); 3] = [
+        (&[Some((0, 9)), None, Some((1, 1))], true),
+        (&[Some((1, 2))], false),
+        (&[Some((2, 0))], false),
+    ];
+    for (picks, has_bits) in table {
+        assert!(rt; plan_has_bits(&maps, &Listed { picks }) == has_bits);
+    }
     Ok(())
 }
 
@@ -115,6 +110,6 @@ fn some_runs(alloc: Global) -> PolarsResult<Vec<Run>> {
 #[test]
 fn consecutive_runs_are_merged(rt: HostRuntime) -> Result<(), Fail> {
     let runs = some_runs(rt.alloc())?;
-    assert!(rt; runs.len() == 2 && picked_rows(&runs) == 4);
+    assert!(rt; (runs.len() == 2) & (picked_rows(&runs) == 4));
     Ok(())
 }

@@ -122,9 +122,31 @@ fn is_safe(
     indices: &[Option<u32>],
 ) -> Result<bool, Fail> {
     let mask = mask?;
-    let indices = column(alloc, indices, 0)?;
-    let columns = columns_of(alloc, &[("i64", rows, "")])?;
-    let is_safe = select_is_safe(&columns, &mask, &indices);
+    let is_safe = is_safe_at(alloc, rows, &mask, column(alloc, indices, 0));
+    drop(mask);
+    is_safe
+}
+
+fn is_safe_at(
+    alloc: Global,
+    rows: &'static str,
+    mask: &BooleanArray,
+    indices: Result<IdxArr, Fail>,
+) -> Result<bool, Fail> {
+    let indices = indices?;
+    let columns = columns_of(alloc, &[("i64", rows, "")]);
+    let is_safe = are_safe(columns, mask, &indices);
+    drop(indices);
+    is_safe
+}
+
+fn are_safe(
+    columns: Result<Vec<ArrayRef>, Fail>,
+    mask: &BooleanArray,
+    indices: &IdxArr,
+) -> Result<bool, Fail> {
+    let columns = columns?;
+    let is_safe = select_is_safe(&columns, mask, indices);
     drop(columns);
     Ok(is_safe)
 }
@@ -132,13 +154,18 @@ fn is_safe(
 #[test]
 fn select_is_safe_checks_lengths_and_indices(rt: HostRuntime) -> Result<(), Fail> {
     let alloc = rt.alloc();
-    let three = || truths(alloc, &[true, true, true], &[true, false, true]);
-    let none = || truths(alloc, &[], &[]);
-    assert!(rt; is_safe(alloc, "[1,2,3]", three(), &[Some(1), None, Some(0)])?);
-    assert!(rt; !is_safe(alloc, "[1,2,3]", three(), &[Some(2)])?);
-    assert!(rt; !is_safe(alloc, "[1,2]", three(), &[Some(0)])?);
-    assert!(rt; !is_safe(alloc, "[]", none(), &[Some(0)])?);
-    assert!(rt; is_safe(alloc, "[]", none(), &[None])?);
+    let bits: (&[bool], &[bool]) = (&[true, true, true], &[true, false, true]);
+    let table: [(&'static str, (&[bool], &[bool]), &[Option<u32>], bool); 5] = [
+        ("[1,2,3]", bits, &[Some(1), None, Some(0)], true),
+        ("[1,2,3]", bits, &[Some(2)], false),
+        ("[1,2]", bits, &[Some(0)], false),
+        ("[]", (&[], &[]), &[Some(0)], false),
+        ("[]", (&[], &[]), &[None], true),
+    ];
+    for (rows, (values, validity), indices, wanted) in table {
+        let mask = truths(alloc, values, validity);
+        assert!(rt; is_safe(alloc, rows, mask, indices)? == wanted, "{rows}");
+    }
     Ok(())
 }
 

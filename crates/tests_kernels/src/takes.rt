@@ -1,6 +1,7 @@
 //! Bounds of indices, and the limit of 32-bit offsets. (`alloc_takes` has takes of bits, of blocks,
 //! and of binary columns.)
 
+use crate::masks::made;
 use polars_compute::gather::binary::take_unchecked;
 use polars_compute::gather::{idx_slice_in_bounds, indices_in_bounds_of};
 use sel_arrow::array::Array;
@@ -9,16 +10,19 @@ use sel_arrow::primitive::{IdxArr, PrimitiveArray};
 use sel_bits::bitmap::Bitmap;
 use sel_bits::buffer::Buffer;
 use sel_bits::faults::{Limit, PolarsError};
+use sel_bits::native::Index;
 use sel_bits::offsets::OffsetsBuffer;
 use std::alloc::Global;
 use std::test::Fail;
 use tests_bits::column_fixtures::{numbers, validity};
+use tests_bits::fixtures::both;
 
 // Returns one row of 65,536 bytes.
 fn long_row(alloc: Global) -> Result<BinaryArray<i32>, Fail> {
-    let bytes = Buffer::from_vec(vec![in alloc; 97u8; 65_536]?)?;
-    let offsets = OffsetsBuffer::try_from(Vec::from_slice(alloc, &[0i32, 65_536])?)?;
-    Ok(BinaryArray::try_new(offsets, bytes, validity(alloc, &[true])?)?)
+    let offsets = made(OffsetsBuffer::try_from(Vec::from_slice(alloc, &[0i32, 65_536])?));
+    let bytes = Buffer::from_vec(vec![in alloc; 97u8; 65_536]?);
+    let (offsets, (bytes, validity)) = both(offsets, both(bytes, validity(alloc, &[true])))?;
+    Ok(BinaryArray::try_new(offsets, bytes, validity)?)
 }
 
 // Takes this row `count` times; returns the number of nulls, or none if the limit of bytes is
@@ -76,6 +80,19 @@ fn plain_indices_in_bounds(rt: HostRuntime) {
     assert!(rt; idx_slice_in_bounds(&[2, 0], 3) && !idx_slice_in_bounds(&[0, 3], 3));
 }
 
+// Returns whether all indices are less than `len`.
+fn are_within<I: Index + Drop>(
+    alloc: Global,
+    places: &[I],
+    validity: &[bool],
+    len: usize,
+) -> Result<bool, Fail> {
+    let indices = numbers(alloc, places, validity)?;
+    let are_within = indices_in_bounds_of(&indices, len);
+    drop(indices);
+    Ok(are_within)
+}
+
 #[test]
 fn signed_and_unsigned_indices_in_bounds(rt: HostRuntime) -> Result<(), Fail> {
     let alloc = rt.alloc();
@@ -85,20 +102,16 @@ fn signed_and_unsigned_indices_in_bounds(rt: HostRuntime) -> Result<(), Fail> {
         (&[-1], &[true], 128, false),
         (&[-1], &[false], 0, true),
     ];
-    for (places, validity, len, within) in &signed {
-        let indices = numbers(alloc, places, validity)?;
-        assert!(rt; indices_in_bounds_of(&indices, *len) == *within);
-        drop(indices);
+    for (places, validity, len, within) in signed {
+        assert!(rt; are_within(alloc, places, validity, len)? == within);
     }
     let unsigned: [(&[u64], &[bool], usize, bool); 3] = [
         (&[0, 2], &[true, true], 3, true),
         (&[u64::MAX], &[true], 3, false),
         (&[u64::MAX], &[false], 3, true),
     ];
-    for (places, validity, len, within) in &unsigned {
-        let indices = numbers(alloc, places, validity)?;
-        assert!(rt; indices_in_bounds_of(&indices, *len) == *within);
-        drop(indices);
+    for (places, validity, len, within) in unsigned {
+        assert!(rt; are_within(alloc, places, validity, len)? == within);
     }
     Ok(())
 }

@@ -3,11 +3,12 @@
 
 use sel_arrow::view::View;
 use sel_bits::bitmap::Bitmap;
+use sel_bits::faults::PolarsResult;
 use sel_ternary::if_then_else::if_then_else_validity;
 use sel_ternary::if_then_else::view::{if_then_else_view_rest, views_can_rise};
 use std::alloc::Global;
 use std::test::Fail;
-use tests_bits::fixtures::has_bits;
+use tests_bits::fixtures::{both, has_bits};
 
 /// Returns 64 values: the first, the last, and another at each position between.
 pub fn ends_and_middle<T: Copy>(first: T, middle: T, last: T) -> [T; 64] {
@@ -84,15 +85,15 @@ fn is_validity(
     if_true: Option<&Bitmap>,
     if_false: Option<&Bitmap>,
     bits: Option<&[bool]>,
-) -> Result<bool, Fail> {
+) -> PolarsResult<bool> {
     if let Some(side) = if_true {
         if side.len() != mask.len() {
-            return Err(Fail::from("another length"));
+            return Ok(false);
         }
     }
     if let Some(side) = if_false {
         if side.len() != mask.len() {
-            return Err(Fail::from("another length"));
+            return Ok(false);
         }
     }
     match (if_then_else_validity(alloc, mask, if_true, if_false)?, bits) {
@@ -104,19 +105,16 @@ fn is_validity(
 #[test]
 fn validities_of_if_then_else(rt: HostRuntime) -> Result<(), Fail> {
     let alloc = rt.alloc();
-    let mask = Bitmap::from_bools(alloc, &[true, false])?;
-    let bits = Bitmap::from_bools(alloc, &[false, false])?;
-    assert!(rt; is_validity(alloc, &mask, None, None, None)?);
-    assert!(rt; is_validity(alloc, &mask, None, Some(&bits), Some(&[true, false]))?);
-    assert!(rt; is_validity(alloc, &mask, Some(&bits), None, Some(&[false, true]))?);
-    assert!(rt;
-        is_validity(
-            alloc,
-            &mask,
-            Some(&bits),
-            Some(&mask),
-            Some(&[false, false])
-        )?
-    );
+    let mask = Bitmap::from_bools(alloc, &[true, false]);
+    let (mask, bits) = both(mask, Bitmap::from_bools(alloc, &[false, false]))?;
+    let table: [(Option<&Bitmap>, Option<&Bitmap>, Option<&[bool]>); 4] = [
+        (None, None, None),
+        (None, Some(&bits), Some(&[true, false])),
+        (Some(&bits), None, Some(&[false, true])),
+        (Some(&bits), Some(&mask), Some(&[false, false])),
+    ];
+    for (if_true, if_false, wanted) in table {
+        assert!(rt; is_validity(alloc, &mask, if_true, if_false, wanted) == Ok(true));
+    }
     Ok(())
 }
