@@ -42,9 +42,6 @@ pub use selection::Selection;
 use selection::first_kept;
 use std::alloc::Global;
 
-/// The number of rows from which on a run is long.
-const LONG_RUN: usize = 3;
-
 /// Returns the rows of `array` where `mask` is true and valid, in order.
 ///
 /// A null in the mask counts as false. The result has the type of `array`.
@@ -315,7 +312,7 @@ fn collect_kept(alloc: Global, column: &Column, mask: &Bitmap, count: usize) -> 
         (pick Null (rows column.now ∷ []) (map place_pick (kept mask.now.bits))) }
 {
     let sources = [column];
-    let are_long = count_runs(mask) < count / LONG_RUN;
+    let are_long = count_runs(mask) < few_runs(column, count);
     let is_list = is_list(column);
     if is_list && !are_long {
         let plan = RunRefs {
@@ -331,6 +328,19 @@ fn collect_kept(alloc: Global, column: &Column, mask: &Bitmap, count: usize) -> 
         left: count,
     };
     collect_plan(alloc, &sources, &plan, are_long && !is_list)
+}
+
+/// Returns how many runs are few for `count` kept rows, so that most are long. No contract depends
+/// on the result.
+///
+/// The runs of items, which are listed, also end at lists that are null: with a validity they need
+/// longer runs to take little memory.
+fn few_runs(column: &Column, count: usize) -> usize {
+    match column {
+        Column::LargeList { validity: None, .. } => count / 9 * 4,
+        Column::LargeList { .. } => count / 5,
+        _ => count / 3,
+    }
 }
 
 /// Returns whether `column` has lists with offsets. No contract depends on the result.
