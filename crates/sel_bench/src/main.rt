@@ -1,15 +1,11 @@
 //! Reads command lines such as `take 5,n,7 2,n,1` and writes one result line for each.
 #![tactic(auto)]
 
-mod counted;
-mod reading;
-mod run;
 #[cfg(test)]
 mod tests;
-mod writing;
 
-use counted::Counted;
-use run::Done;
+use sel_lines::counted::Counted;
+use sel_lines::run::{Done, run};
 use std::io;
 use std::io::BufReader;
 use std::process::ExitCode;
@@ -22,7 +18,7 @@ fn main(rt: HostRuntime) -> ExitCode {
     };
     let mut reader = Counted::new(input);
     let mut writer = Counted::new(io::writer(&rt));
-    match run::run(rt.alloc(), &mut reader, &mut writer) {
+    match run(rt.alloc(), &mut reader, &mut writer) {
         Ok(Done::End) => ExitCode::SUCCESS,
         Ok(Done::BadLine(_)) => ExitCode::from(BAD_LINE_STATUS),
         Err(_) => ExitCode::FAILURE,

@@ -1,8 +1,8 @@
 //! Runs over in-memory readers and writers, some of which fail.
-use crate::counted::Counted;
-use crate::reading::{LineEnd, read_line};
-use crate::run::{Done, RunError, run};
-use crate::writing::{flush, send};
+use sel_lines::counted::Counted;
+use sel_lines::reading::{LineEnd, read_line};
+use sel_lines::run::{Done, RunError, run};
+use sel_lines::writing::{flush, send};
 use std::alloc::Global;
 use std::io;
 use std::io::{ErrorKind, Read, Write};

@@ -7,8 +7,11 @@ pub mod Hex
 pub mod MadeColumns
 pub mod Pieces
 pub mod Printed
+pub mod Progress
 pub mod ReadBlocks
 pub mod ReadLists
+pub mod ReadPieces
 pub mod RowLemmas
+pub mod Steps
 pub mod TableWords
 pub mod TextViews

@@ -3,6 +3,7 @@ pub mod Blocks
 pub mod Choose
 pub mod Columns
 pub mod Commands
+pub mod Counted
 pub mod Dict
 pub mod Filter
 pub mod Fixed
@@ -12,9 +13,13 @@ pub mod Lines
 pub mod ListParts
 pub mod Lists
 pub mod Numbers
+pub mod Output
 pub mod Parts
 pub mod Pext
 pub mod Rows
+pub mod Run
+pub mod RunError
+pub mod Step
 pub mod Table
 pub mod Take
 pub mod Texts

@@ -1,7 +1,7 @@
 -- Errors of a run.
 use Rattle.std.specs.Prelude.{Bool, true, false, Result, Ok, Err}
-use Rattle.sel_bench.specs.declared.run.RunError.{RunError}
-use Rattle.sel_bench.specs.declared.run.RunError.TheVariants.{OutOfMemory, Input, Output}
+use Rattle.sel_lines.specs.declared.run.RunError.{RunError}
+use Rattle.sel_lines.specs.declared.run.RunError.TheVariants.{OutOfMemory, Input, Output}
 
 -- Whether a read failed.
 abbrev pub is_input_fault : {A : Type 0} → Result A RunError → Bool

@@ -3,14 +3,14 @@ use Rattle.std.specs.Prelude.{ℕ, ◌≡◌, ◌==◌, ◌<◌, List, [], ◌�
 use Rattle.std.specs.Prelude.{Result, Ok, Err, if◌then◌else◌}
 use Rattle.std.specs.Io.{StartsWith}
 use Rattle.std.specs.Io.KnownBytes.{Consumes, Appends, IsAtEnd}
-use Rattle.sel_bench.specs.declared.reading.LineEnd.{LineEnd}
-use Rattle.sel_bench.specs.declared.reading.LineEnd.TheVariants as ending
-use Rattle.sel_bench.specs.declared.run.Done.{Done}
-use Rattle.sel_bench.specs.declared.run.Done.TheVariants.{End, BadLine}
-use Rattle.sel_bench.specs.declared.run.RunError.{RunError}
-use Rattle.sel_bench.specs.declared.run.RunError.TheVariants.{OutOfMemory, Input, Output}
+use Rattle.sel_lines.specs.declared.reading.LineEnd.{LineEnd}
+use Rattle.sel_lines.specs.declared.reading.LineEnd.TheVariants as ending
+use Rattle.sel_lines.specs.declared.run.Done.{Done}
+use Rattle.sel_lines.specs.declared.run.Done.TheVariants.{End, BadLine}
+use Rattle.sel_lines.specs.declared.run.RunError.{RunError}
+use Rattle.sel_lines.specs.declared.run.RunError.TheVariants.{OutOfMemory, Input, Output}
 use Rattle.sel_lines.specs.Lines.{HasNoFeed, longest_line}
-use Rattle.sel_bench.specs.Output.{output_from, first_bad_from}
+use Rattle.sel_lines.specs.Output.{output_from, first_bad_from}
 
 -- The bytes that were read for a line with this end.
 abbrev pub piece : LineEnd → List ℕ → List ℕ

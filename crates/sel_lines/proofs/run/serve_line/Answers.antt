@@ -1,7 +1,7 @@
 use Rattle.std.proofs.Common.{◌≡◌, ◌∙◌, sym, ap, None, Some, cond}
 use Rattle.std.proofs.{lemmas.Result.err_from_is_err_and, KnownBytes.Appends-kept}
-use Rattle.sel_bench.{specs.Output.first_bad_from, specs.Output.output_from, specs.Step.lines_in, proofs.Steps.failed_step, proofs.Steps.last_line}
-use Rattle.sel_bench.proofs.run.serve_line.Goals as goal
+use Rattle.sel_lines.{specs.Output.first_bad_from, specs.Output.output_from, specs.Step.lines_in, proofs.Steps.failed_step, proofs.Steps.last_line}
+use Rattle.sel_lines.proofs.run.serve_line.Goals as goal
 
 pub returns-in_err-end-clause-step : goal.returns-in_err-end-clause-step
 returns-in_err-end-clause-step g c =

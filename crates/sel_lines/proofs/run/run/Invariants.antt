@@ -1,6 +1,6 @@
 use Rattle.std.proofs.Common.{◌≡◌, ◌-◌, ◌≤◌}
-use Rattle.sel_bench.{specs.Counted.failures_of, proofs.Progress.SoFar}
-use Rattle.sel_bench.proofs.run.run.Given as goal
+use Rattle.sel_lines.{specs.Counted.failures_of, proofs.Progress.SoFar}
+use Rattle.sel_lines.proofs.run.run.Given as goal
 
 abbrev pub invariant-lines : goal.invariant-lines
 invariant-lines g l = record {

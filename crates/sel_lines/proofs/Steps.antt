@@ -2,10 +2,10 @@
 use Rattle.std.proofs.Common.{◌≡◌, ◌≢◌, ℕ, List, Option, None, Err, arith, rules, refl}
 use Rattle.std.specs.{Io.KnownBytes.Consumes, Io.KnownBytes.IsAtEnd}
 use Rattle.std.proofs.{lemmas.Grind.common_steps}
-use Rattle.sel_bench.specs.{Output.first_bad_from, Step.Step, Step.lines_in, Step.IsReadTo, declared.reading.LineEnd.LineEnd}
-use Rattle.sel_bench.specs.declared.run.RunError.{RunError, TheVariants.OutOfMemory, TheVariants.Input, TheVariants.Output}
+use Rattle.sel_lines.specs.{Output.first_bad_from, Step.Step, Step.lines_in, Step.IsReadTo, declared.reading.LineEnd.LineEnd}
+use Rattle.sel_lines.specs.declared.run.RunError.{RunError, TheVariants.OutOfMemory, TheVariants.Input, TheVariants.Output}
 use Rattle.sel_lines.{specs.Lines.HasNoFeed, proofs.Answered.too_long}
-use Rattle.sel_bench.specs.declared.reading.LineEnd.TheVariants as ending
+use Rattle.sel_lines.specs.declared.reading.LineEnd.TheVariants as ending
 
 -- A line that could not be read to its end.
 pub failed_step : (n : ℕ) (e : RunError) (rest : List ℕ) (before after holds : Option (List ℕ)) → e ≢ Output → HasNoFeed rest → Consumes before after rest

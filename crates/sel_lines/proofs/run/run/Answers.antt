@@ -1,7 +1,7 @@
 use Rattle.std.proofs.{Common.◌≤◌, Common.◌∙◌, Common.arith, lemmas.Result.err_from_is_err_and}
 use Rattle.sel_bits.specs.Limits.{max_rows}
-use Rattle.sel_bench.proofs.Progress.{at_start, advance, finish, give_up, good_number}
-use Rattle.sel_bench.proofs.run.run.Goals as goal
+use Rattle.sel_lines.proofs.Progress.{at_start, advance, finish, give_up, good_number}
+use Rattle.sel_lines.proofs.run.run.Goals as goal
 
 pub lines-init : goal.lines-init
 lines-init g c = record { within = omega arith; so = at_start _ _; reader_whole = c.requires.reader_whole; writer_whole = c.requires.writer_whole }

@@ -3,7 +3,7 @@ use Rattle.std.proofs.lemmas.Grind.{common_steps}
 use Rattle.std.proofs.Common.{◌≡◌, ◌≢◌, ◌<◌, ℕ, ◌+◌, ◌-◌, true, false, List, [], ◌∷◌, ◌++◌, length, take, drop, Option, Result, Ok, arith}
 use Rattle.std.proofs.{lemmas.List.Elements.All-push, lemmas.List.take_rest, Math.Seq.take-add, KnownBytes.Appends-trans}
 use Rattle.std.specs.Io.KnownBytes.{Appends}
-use Rattle.sel_bench.specs.Counted.{has_write_failed}
+use Rattle.sel_lines.specs.Counted.{has_write_failed}
 use Rattle.sel_lines.specs.Lines.{HasNoFeed}
 
 pub no_feed_push : (line : List ℕ) (byte : ℕ) → HasNoFeed line → byte ≢ 10 → HasNoFeed (line ++ (byte ∷ []))

@@ -3,12 +3,12 @@ use Rattle.std.specs.Prelude.{ℕ, ◌≡◌, ◌<◌, ◌⊎◌, List, [], ◌�
 use Rattle.std.specs.Prelude.{Result, Ok, Err}
 use Rattle.std.specs.Io.{StartsWith}
 use Rattle.std.specs.Io.KnownBytes.{Consumes, Appends, IsAtEnd}
-use Rattle.sel_bench.specs.declared.run.Done.{Done}
-use Rattle.sel_bench.specs.declared.run.Done.TheVariants.{End, BadLine}
-use Rattle.sel_bench.specs.declared.run.RunError.{RunError}
-use Rattle.sel_bench.specs.declared.run.RunError.TheVariants.{OutOfMemory, Input, Output}
+use Rattle.sel_lines.specs.declared.run.Done.{Done}
+use Rattle.sel_lines.specs.declared.run.Done.TheVariants.{End, BadLine}
+use Rattle.sel_lines.specs.declared.run.RunError.{RunError}
+use Rattle.sel_lines.specs.declared.run.RunError.TheVariants.{OutOfMemory, Input, Output}
 use Rattle.sel_lines.specs.Lines.{lines, whole_lines, but_last, HasNoFeed, longest_line}
-use Rattle.sel_bench.specs.Output.{answers, first_bad, output}
+use Rattle.sel_lines.specs.Output.{answers, first_bad, output}
 
 -- These lines are good, and the text is their output.
 pub record AreAnswered (ls : List (List ℕ)) (text : List ℕ) : Type 0 where

@@ -5,12 +5,12 @@ use Rattle.std.proofs.KnownBytes.{Appends-trans, Appends-nil, Consumes-trans, Co
 use Rattle.std.proofs.lemmas.List.Splits.{slice_split_none, slice_split_at, length-slice_split}
 use Rattle.std.proofs.{lemmas.Grind.common_steps, lemmas.Bool.Decides.nat_tests, lemmas.Bool.ne_eqb, lemmas.List.Elements.All-nil, Math.Seq.take-append_seam}
 use Rattle.sel_bits.specs.Limits.{max_rows}
-use Rattle.sel_bench.specs.Output.{answers, first_bad, first_bad_from, output_from}
-use Rattle.sel_bench.specs.{Run.AreAnswered, Run.Runs, Run.IsLineRead, Step.Step, Step.piece, Step.lines_in, Step.IsReadTo, declared.reading.LineEnd.LineEnd}
-use Rattle.sel_bench.specs.declared.run.{Done.Done, Done.TheVariants.End, Done.TheVariants.BadLine, RunError.RunError}
-use Rattle.sel_bench.specs.declared.run.RunError.TheVariants.{OutOfMemory, Input, Output}
+use Rattle.sel_lines.specs.Output.{answers, first_bad, first_bad_from, output_from}
+use Rattle.sel_lines.specs.{Run.AreAnswered, Run.Runs, Run.IsLineRead, Step.Step, Step.piece, Step.lines_in, Step.IsReadTo, declared.reading.LineEnd.LineEnd}
+use Rattle.sel_lines.specs.declared.run.{Done.Done, Done.TheVariants.End, Done.TheVariants.BadLine, RunError.RunError}
+use Rattle.sel_lines.specs.declared.run.RunError.TheVariants.{OutOfMemory, Input, Output}
 use Rattle.sel_lines.specs.{Lines.HasNoFeed, Lines.line_parts, Lines.lines_of_parts, Lines.but_last, Lines.lines, Lines.whole_lines}
-use Rattle.sel_bench.specs.declared.reading.LineEnd.TheVariants as ending
+use Rattle.sel_lines.specs.declared.reading.LineEnd.TheVariants as ending
 
 -- ---- the lines of a text
 

@@ -1,6 +1,6 @@
 use Rattle.std.{proofs.Common.◌≡◌, proofs.Common.◌≤◌, proofs.Common.◌-◌, proofs.Common.length, proofs.Common.take, specs.Io.KnownBytes.Appends}
-use Rattle.sel_bench.specs.Counted.{failures_of}
-use Rattle.sel_bench.proofs.writing.send.Given as goal
+use Rattle.sel_lines.specs.Counted.{failures_of}
+use Rattle.sel_lines.proofs.writing.send.Given as goal
 
 abbrev pub invariant-loop-sent : goal.invariant-loop-sent
 invariant-loop-sent g l = record {

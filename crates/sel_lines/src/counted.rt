@@ -15,7 +15,7 @@ pub struct Counted<T> {
 }
 
 impl<T> Counted<T> {
-    ghost use Rattle.sel_bench.specs.Counted.{inner_of, failures_of, counted_up};
+    ghost use Rattle.sel_lines.specs.Counted.{inner_of, failures_of, counted_up};
 
     /// Wraps a reader or writer with a failure count of 0.
     pub fn new(inner: T) -> Counted<T>
@@ -51,7 +51,7 @@ impl<T> Counted<T> {
 }
 
 impl<R: Read> Read for Counted<R> {
-    ghost use Rattle.sel_bench.specs.Counted.{inner_of, failures_of, counted_up};
+    ghost use Rattle.sel_lines.specs.Counted.{inner_of, failures_of, counted_up};
 
     ghost remaining = { λ reader. R.remaining (inner_of reader) };
 
@@ -69,7 +69,7 @@ impl<R: Read> Read for Counted<R> {
 }
 
 impl<W: Write> Write for Counted<W> {
-    ghost use Rattle.sel_bench.specs.Counted.{inner_of, failures_of, counted_up, has_write_failed};
+    ghost use Rattle.sel_lines.specs.Counted.{inner_of, failures_of, counted_up, has_write_failed};
 
     ghost contents = { λ writer. W.contents (inner_of writer) };
 

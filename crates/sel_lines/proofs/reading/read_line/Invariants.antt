@@ -1,7 +1,7 @@
 use Rattle.std.{proofs.Common.◌≡◌, proofs.Common.length, specs.Io.KnownBytes.Consumes}
-use Rattle.sel_bench.specs.Counted.{failures_of}
+use Rattle.sel_lines.specs.Counted.{failures_of}
 use Rattle.sel_lines.specs.Lines.{HasNoFeed}
-use Rattle.sel_bench.proofs.reading.read_line.Given as goal
+use Rattle.sel_lines.proofs.reading.read_line.Given as goal
 
 abbrev pub invariant-loop : goal.invariant-loop
 invariant-loop g l = record {

@@ -1,16 +1,16 @@
 //! Runs the commands of an input, line by line.
 ghost use Rattle.std.specs.Prelude.{◌≡◌, ℕ, List, [], ◌∷◌, IfOk, string_bytes, if◌then◌else◌, None, Some, option_map};
-ghost use Rattle.sel_bench.specs.Counted.{inner_of, failures_of, counted_up};
-ghost use Rattle.sel_bench.specs.Output.{answer_at, output_from, first_bad_from, output};
-ghost use Rattle.sel_bench.specs.RunError.{is_input_fault, is_output_fault};
-ghost use Rattle.sel_bench.specs.Step.{Step, lines_in};
-ghost use Rattle.sel_bench.specs.Run.{Runs};
-ghost use Rattle.sel_bench.specs.declared.run.RunError.TheVariants.{OutOfMemory};
+ghost use Rattle.sel_lines.specs.Counted.{inner_of, failures_of, counted_up};
+ghost use Rattle.sel_lines.specs.Output.{answer_at, output_from, first_bad_from, output};
+ghost use Rattle.sel_lines.specs.RunError.{is_input_fault, is_output_fault};
+ghost use Rattle.sel_lines.specs.Step.{Step, lines_in};
+ghost use Rattle.sel_lines.specs.Run.{Runs};
+ghost use Rattle.sel_lines.specs.declared.run.RunError.TheVariants.{OutOfMemory};
 
+use crate::commands::answer_line;
 use crate::counted::Counted;
 use crate::reading::{LineEnd, read_line};
 use crate::writing::{flush, send};
-use sel_lines::commands::answer_line;
 use std::alloc::{AllocError, AllocFailed, Global};
 use std::io::{Read, Write};
 

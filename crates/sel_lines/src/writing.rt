@@ -1,7 +1,7 @@
 //! Writes bytes completely, in as many writes as needed.
 ghost use Rattle.std.specs.Prelude.{◌≡◌, ℕ, is_err, take, OnOk, OnErr, IfErr};
 ghost use Rattle.std.specs.Io.KnownBytes.{Appends, Keeps};
-ghost use Rattle.sel_bench.specs.Counted.{inner_of, failures_of, counted_up};
+ghost use Rattle.sel_lines.specs.Counted.{inner_of, failures_of, counted_up};
 
 use crate::counted::Counted;
 use crate::run::RunError;

@@ -1,7 +1,7 @@
 -- A reader or a writer that counts its failures.
 use Rattle.std.specs.Prelude.{ℕ, suc, zero, ◌+◌, ◌-◌, ◌^◌, min, Bool, true, false, List, [], ◌∷◌}
 use Rattle.std.specs.Prelude.{if◌then◌else◌, Result, Ok, Err}
-use Rattle.sel_bench.specs.declared.counted.Counted.{Counted}
+use Rattle.sel_lines.specs.declared.counted.Counted.{Counted}
 
 -- The wrapped reader or writer.
 abbrev pub inner_of : {T : Type 0} → Counted T → T

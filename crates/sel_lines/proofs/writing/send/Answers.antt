@@ -1,6 +1,6 @@
 use Rattle.std.proofs.Common.{◌<◌, ◌-◌, ℕ, arith, take, drop, length, length-take, length-drop, ap, ◌∙◌, true}
-use Rattle.sel_bench.{specs.Counted.counted_up, specs.Counted.failures_of, proofs.Pieces.sent_more, proofs.Pieces.some_taken, proofs.Pieces.none_taken}
-use Rattle.sel_bench.proofs.writing.send.Goals as goal
+use Rattle.sel_lines.{specs.Counted.counted_up, specs.Counted.failures_of, proofs.ReadPieces.sent_more, proofs.ReadPieces.some_taken, proofs.ReadPieces.none_taken}
+use Rattle.sel_lines.proofs.writing.send.Goals as goal
 
 -- A write that took none of the rest.
 pub returns-then-count-eq0-clause-failures : goal.returns-then-count-eq0-clause-failures

@@ -1,6 +1,6 @@
 use Rattle.std.proofs.{Common.rules, Common.◌++◌, Common.◌∷◌, Common.[], lemmas.Result.err_from_is_err_and, KnownBytes.Consumes-trans}
-use Rattle.sel_bench.proofs.Pieces.{no_feed_push}
-use Rattle.sel_bench.proofs.reading.read_line.Goals as goal
+use Rattle.sel_lines.proofs.ReadPieces.{no_feed_push}
+use Rattle.sel_lines.proofs.reading.read_line.Goals as goal
 
 -- The byte was read before the push failed.
 pub returns-in_err-push-in-Some-clause-err : goal.returns-in_err-push-in-Some-clause-err

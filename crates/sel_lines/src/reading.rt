@@ -2,14 +2,14 @@
 ghost use Rattle.std.specs.Prelude.{◌≡◌, ◌≢◌, ℕ, List, is_err, IfOk, IfErr, OnErr, IfNone, None};
 ghost use Rattle.std.specs.Option.{option_to_list};
 ghost use Rattle.std.specs.Io.KnownBytes.{Consumes, Keeps, IsAtEnd};
-ghost use Rattle.sel_bench.specs.Counted.{inner_of, failures_of, counted_up};
+ghost use Rattle.sel_lines.specs.Counted.{inner_of, failures_of, counted_up};
 ghost use Rattle.sel_lines.specs.Lines.{HasNoFeed};
-ghost use Rattle.sel_bench.specs.RunError.{is_input_fault};
-ghost use Rattle.sel_bench.specs.Step.{piece, IsReadTo};
+ghost use Rattle.sel_lines.specs.RunError.{is_input_fault};
+ghost use Rattle.sel_lines.specs.Step.{piece, IsReadTo};
 
+use crate::commands::LONGEST_LINE;
 use crate::counted::Counted;
 use crate::run::RunError;
-use sel_lines::commands::LONGEST_LINE;
 use std::io::Read;
 
 /// The end of a line.
