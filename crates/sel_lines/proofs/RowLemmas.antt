@@ -1,5 +1,5 @@
 -- Rows that are parsed and printed one by one.
-use Rattle.std.proofs.Common.{rules, ◌≡◌, ◌≢◌, ℕ, suc, ◌+◌, ◌≤◌, ◌<◌, Bool, false, List, [], ◌∷◌, ◌++◌, length, get_or, take, drop, map, Option, Some, None, arith, refl, ap, sym, ◌∙◌, Bor, append_assoc, option_map, codes, cond, is_some, unwrap_or}
+use Rattle.std.proofs.Common.{rules, Result, Ok, Err, IsOkAnd, IfOk, ◌≡◌, ◌≢◌, ℕ, suc, ◌+◌, ◌≤◌, ◌<◌, Bool, false, List, [], ◌∷◌, ◌++◌, length, get_or, take, drop, map, Option, Some, None, arith, refl, ap, sym, ◌∙◌, Bor, append_assoc, option_map, codes, cond, is_some, unwrap_or}
 use Rattle.sel_lines.proofs.Common.{common_steps, join_with_byte, slice_split, take_more, map-append, take-append-drop, length-take, length-map, hidden, shown_row, Value, Null}
 use Rattle.std.proofs.{Math.Seq.drop-cons, lemmas.Simd.map-map}
 use Rattle.sel_gather.proofs.Grown.{hidden-append}
@@ -89,3 +89,17 @@ pub hidden_more : {T : Type 0} (shown : T → Value) (bs cs : List Bool) (xs ys 
 hidden_more shown bs cs xs ys row beneath same isc isy =
     ap (λ v. hidden bs (map shown xs) ++ (v ∷ [])) (sym (shown_here shown row beneath))
     ∙ sym (items_more shown bs cs (is_some row ∷ []) xs ys (unwrap_or row beneath ∷ []) same isc isy)
+
+-- ---- the text of a computed column
+
+pub printed_as : {C E : Type 0} (computed : Result (Option C) E) (shown : Option C → Option (List ℕ)) (text want : Option (List ℕ)) →
+    IsOkAnd computed (λ column. text ≡ shown column) → IfOk computed (λ column. shown column ≡ want) → text ≡ want
+printed_as (Ok column) shown text want is same = is ∙ same
+printed_as (Err _) shown text want is same = elim is [ ]
+
+pub printed_rows : {C E : Type 0} (rows : C → List Value) (computed : Result (Option C) E) (text : Option (List ℕ)) (want : Option (List Value)) →
+    IsOkAnd computed (λ column. text ≡ option_map (λ c. column_text (rows c)) column) → IfOk computed (λ column. option_map rows column ≡ want) →
+    text ≡ option_map column_text want
+printed_rows rows (Ok None) text want is same = is ∙ ap (option_map column_text) same
+printed_rows rows (Ok (Some column)) text want is same = is ∙ ap (option_map column_text) same
+printed_rows rows (Err _) text want is same = elim is [ ]

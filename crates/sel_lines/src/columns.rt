@@ -1,6 +1,7 @@
 //! Parsing and formatting of columns.
-ghost use Rattle.std.specs.Prelude.{◌≡◌, ℕ, ◌+◌, ◌<◌, ◌≤◌, ◌++◌, List, Option, IfOk, OnOk, map, length, option_map, string_bytes, slice_index_or};
+ghost use Rattle.std.specs.Prelude.{◌≡◌, ℕ, ◌+◌, ◌<◌, ◌≤◌, ◌++◌, List, Option, Some, IsOkAnd, IfOk, IfErr, OnOk, map, length, option_map, string_bytes, slice_index_or};
 ghost use Rattle.std.specs.List.{join_with_byte};
+ghost use Rattle.sel_bits.specs.Faults.{IsOutOfMemory};
 ghost use Rattle.sel_arrow.specs.Columns.{primitive_rows};
 ghost use Rattle.sel_arrow.specs.Value.{Null, Number};
 ghost use Rattle.sel_lines.specs.Columns.{all_some, row_of, column_of, row_text, column_text};
@@ -14,6 +15,7 @@ use crate::words::split_at_each;
 use sel_arrow::array::Array;
 use sel_arrow::primitive::PrimitiveArray;
 use sel_arrow::utf8view::Utf8ViewArray;
+use sel_bits::faults::PolarsResult;
 use std::alloc::{AllocError, Global};
 
 /// Parses a column, or returns `None` if `word` is invalid.
@@ -81,6 +83,35 @@ pub fn print_column<C: Printed>(alloc: Global, column: &C) -> Result<String, All
         return String::from_str(alloc, "-");
     }
     print_rows(alloc, column)
+}
+
+/// Formats the column that a command computed, or returns `None` if there is none.
+///
+/// # Requires
+/// The only error is `OutOfMemory`.
+///
+/// # Errors
+/// `AllocError` if an allocation fails or has failed before.
+pub fn print_computed<C: Printed + Drop>(
+    alloc: Global,
+    computed: PolarsResult<Option<C>>,
+) -> Result<Option<String>, AllocError>
+    requires { IfErr computed IsOutOfMemory }
+    ensures { IfOk result (λ text. IsOkAnd computed (λ column.
+        option_map string_bytes text ≡ option_map (λ c. column_text (C.rows c)) column)) }
+{
+    match computed {
+        Ok(Some(column)) => print_some(alloc, &column),
+        Ok(None) => Ok(None),
+        Err(fault) => Err(memory_error(fault)),
+    }
+}
+
+fn print_some<C: Printed>(alloc: Global, column: &C) -> Result<Option<String>, AllocError>
+    ensures { IfOk result (λ text.
+        option_map string_bytes text ≡ Some (column_text (C.rows column.now))) }
+{
+    Ok(Some(print_column(alloc, column)?))
 }
 
 fn print_rows<C: Printed>(alloc: Global, column: &C) -> Result<String, AllocError>

@@ -11,8 +11,7 @@ ghost use Rattle.sel_lines.specs.Filter.{filter_answer, filter_words};
 ghost use Rattle.sel_lines.specs.Lines.{longest_line};
 ghost use Rattle.sel_lines.specs.Rows.{parsed_rows};
 
-use crate::columns::{parse_column, print_column};
-use crate::line_errors::memory_error;
+use crate::columns::{parse_column, print_computed};
 use crate::rows::Rows;
 use polars_compute::filter::filter;
 use sel_arrow::array::Array;
@@ -51,14 +50,10 @@ fn answer_rows(
     ensures { IfOk result (λ answer. option_map string_bytes answer
         ≡ filter_answer (parsed_rows Number column) (parsed_rows Truth mask)) }
 {
-    match filter_rows(alloc, column, mask) {
-        Ok(Some(kept)) => Ok(Some(print_column(alloc, &kept)?)),
-        Ok(None) => Ok(None),
-        Err(fault) => Err(memory_error(fault)),
-    }
+    print_computed(alloc, filter_rows(alloc, column, mask))
 }
 
-// Returns the rows that the mask keeps, or `None` if the lengths differ.
+// Returns the parsed rows that the parsed mask keeps, or `None` if the lengths differ.
 fn filter_rows(
     alloc: Global,
     column: Rows<i64>,
@@ -69,12 +64,25 @@ fn filter_rows(
         ≡ filter_answer (parsed_rows Number column) (parsed_rows Truth mask)) }
     ensures refusal { IfErr result IsOutOfMemory }
 {
-    let column = column.into_primitive(alloc)?;
     let mask = mask.into_boolean(alloc)?;
+    filter_numbers(alloc, column.into_primitive(alloc)?, &mask)
+}
+
+// Returns the rows that the mask keeps, or `None` if the lengths differ.
+fn filter_numbers(
+    alloc: Global,
+    column: PrimitiveArray<i64>,
+    mask: &BooleanArray,
+) -> PolarsResult<Option<PrimitiveArray<i64>>>
+    ensures rows { IfOk result (λ kept. option_map
+        (λ column. column_text (primitive_rows column)) kept
+        ≡ filter_answer (primitive_rows column) (boolean_rows mask.now)) }
+    ensures refusal { IfErr result IsOutOfMemory }
+{
     if column.len() != mask.len() {
         return Ok(None);
     }
-    Ok(Some(filter_column(alloc, column, &mask)?))
+    Ok(Some(filter_column(alloc, column, mask)?))
 }
 
 // Returns the rows that a mask of the same length keeps.

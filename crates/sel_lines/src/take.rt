@@ -8,8 +8,7 @@ ghost use Rattle.sel_lines.specs.Lines.{longest_line};
 ghost use Rattle.sel_lines.specs.Rows.{parsed_rows};
 ghost use Rattle.sel_lines.specs.Take.{take_answer, take_words};
 
-use crate::columns::{parse_column, print_column};
-use crate::line_errors::memory_error;
+use crate::columns::{parse_column, print_computed};
 use crate::rows::Rows;
 use polars_compute::gather::indices_in_bounds;
 use polars_compute::gather::primitive::take_primitive_unchecked;
@@ -47,11 +46,7 @@ fn answer_rows(
     ensures { IfOk result (λ answer. option_map string_bytes answer
         ≡ take_answer (parsed_rows Number column) (parsed_rows (λ n. Number (pos n)) indices)) }
 {
-    match take_rows(alloc, column, indices) {
-        Ok(Some(taken)) => Ok(Some(print_column(alloc, &taken)?)),
-        Ok(None) => Ok(None),
-        Err(fault) => Err(memory_error(fault)),
-    }
+    print_computed(alloc, take_rows(alloc, column, indices))
 }
 
 // Returns the rows at `indices`, or `None` if an index is out of bounds.
