@@ -207,24 +207,27 @@ fn gets_text(alloc: Global, texts: &Utf8ViewArray) -> bool {
     is_text(answer)
 }
 
+/// Returns whether a column of one binary view gets its row.
+fn gets_letters(alloc: Global, view: View) -> Result<bool, Fail> {
+    let data = one_buffer(alloc, LETTERS.as_bytes());
+    let (views, data) = both(buffer(alloc, &[view]), data)?;
+    let bytes = BinaryViewArray::try_new(views, data, None)?;
+    Ok(gets_bytes(alloc, &bytes))
+}
+
+/// Returns whether a column of one string view gets its row.
+fn gets_string(alloc: Global, view: View) -> Result<bool, Fail> {
+    let data = one_buffer(alloc, LETTERS.as_bytes());
+    let (views, data) = both(buffer(alloc, &[view]), data)?;
+    let texts = Utf8ViewArray::try_new(views, data, None)?;
+    Ok(gets_text(alloc, &texts))
+}
+
 #[test]
 fn row_of_binary_and_string_views(rt: HostRuntime) -> Result<(), Fail> {
-    let alloc = rt.alloc();
     let view = View::new_from_bytes(LETTERS.as_bytes(), 0, 0);
-    let (views, data) = both(
-        buffer(alloc, &[view]),
-        one_buffer(alloc, LETTERS.as_bytes()),
-    )?;
-    let bytes = BinaryViewArray::try_new(views, data, None)?;
-    assert!(rt; gets_bytes(alloc, &bytes));
-    drop(bytes);
-    let (views, data) = both(
-        buffer(alloc, &[view]),
-        one_buffer(alloc, LETTERS.as_bytes()),
-    )?;
-    let texts = Utf8ViewArray::try_new(views, data, None)?;
-    assert!(rt; gets_text(alloc, &texts));
-    drop(texts);
+    assert!(rt; gets_letters(rt.alloc(), view)?);
+    assert!(rt; gets_string(rt.alloc(), view)?);
     Ok(())
 }
 

@@ -20,13 +20,20 @@ fn row_prints(alloc: Global, column: ArrayRef, row: usize, text: &str) -> Result
     Ok(printed?.as_str() == text)
 }
 
+// Returns whether the second row of a column prints as this.
+fn second_row_prints(alloc: Global, dtype: &str, rows: &str, text: &str) -> Result<bool, Fail> {
+    row_prints(alloc, parsed(alloc, dtype, rows)?, 1, text)
+}
+
 #[test]
 fn one_row_prints(rt: HostRuntime) -> Result<(), Fail> {
     let alloc = rt.alloc();
-    let lists = parsed(alloc, "list<i64>", "[[1],[null,-3]]")?;
-    assert!(rt; row_prints(alloc, lists, 1, "[null,-3]")?);
-    let numbers = parsed(alloc, "i64", "[1,null]")?;
-    assert!(rt; row_prints(alloc, numbers, 1, "null")?);
+    for (dtype, rows, text) in [
+        ("list<i64>", "[[1],[null,-3]]", "[null,-3]"),
+        ("i64", "[1,null]", "null"),
+    ] {
+        assert!(rt; second_row_prints(alloc, dtype, rows, text)?, "{dtype}");
+    }
     Ok(())
 }
 
