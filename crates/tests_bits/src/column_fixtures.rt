@@ -64,18 +64,18 @@ pub fn column<T: NativeType>(
 
 /// Returns the numbers, with the given number for nulls.
 fn values_of<T: NativeType>(alloc: Global, rows: &[Option<T>], hidden: T) -> PolarsResult<Vec<T>> {
-    let mut values = vec![in alloc; hidden; rows.len()]?;
-    for (value, row) in values.iter_mut().zip(rows) {
-        *value = row.unwrap_or(hidden);
+    let mut values = Vec::new(alloc);
+    for row in rows {
+        values.push(row.unwrap_or(hidden))?;
     }
     Ok(values)
 }
 
 /// Returns whether each row is not null.
 fn flags_of<T: NativeType>(alloc: Global, rows: &[Option<T>]) -> PolarsResult<Vec<bool>> {
-    let mut flags = vec![in alloc; false; rows.len()]?;
-    for (flag, row) in flags.iter_mut().zip(rows) {
-        *flag = row.is_some();
+    let mut flags = Vec::new(alloc);
+    for row in rows {
+        flags.push(row.is_some())?;
     }
     Ok(flags)
 }
