@@ -23,6 +23,7 @@ pub mod OneSource
 pub mod PlanRuns
 pub mod PlanTests
 pub mod Raising
+pub mod ReadEach
 pub mod Rebuilt
 pub mod Refusals
 pub mod RunLists

@@ -13,6 +13,7 @@ ghost use Rattle.sel_gather.specs.Plans.{HasBit, bits_found};
 ghost use Rattle.sel_gather.specs.Validity.{bits_for};
 ghost use Rattle.sel_gather.specs.Sources.{rows_of};
 
+use crate::each::read_each;
 use crate::gather_values::{gather_bits, validity_at};
 use crate::row_refs::Plan;
 use sel_arrow::boolean::BooleanArray;
@@ -29,11 +30,7 @@ fn booleans_of<'a>(alloc: Global, sources: &'a [&'a Column]) -> PolarsResult<Vec
         rows_of sources.now) }
     ensures refusal { IfErr result IsOutOfMemory }
 {
-    let mut found = Vec::with_capacity(alloc, sources.len())?;
-    for source in sources {
-        found.push(boolean_of(*source))?;
-    }
-    Ok(found)
+    read_each(alloc, sources, boolean_of)
 }
 
 // Returns the array of a boolean column.
@@ -121,11 +118,7 @@ fn values_of<'a>(
         map (λ s. Some s.now.values) arrays.now) }
     ensures refusal { IfErr result IsOutOfMemory }
 {
-    let mut maps = Vec::with_capacity(alloc, arrays.len())?;
-    for array in arrays {
-        maps.push(Some(&array.values))?;
-    }
-    Ok(maps)
+    read_each(alloc, arrays, |array| Some(&array.values))
 }
 
 // Returns the validity of the gathered rows; none if all are valid. Errors: `OutOfMemory`.
@@ -173,9 +166,5 @@ fn validities_of<'a>(
         map (λ s. s.now.validity) arrays.now) }
     ensures refusal { IfErr result IsOutOfMemory }
 {
-    let mut maps = Vec::with_capacity(alloc, arrays.len())?;
-    for array in arrays {
-        maps.push(array.validity.as_ref())?;
-    }
-    Ok(maps)
+    read_each(alloc, arrays, |array| array.validity.as_ref())
 }

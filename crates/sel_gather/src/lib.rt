@@ -13,6 +13,7 @@ mod boolean;
 pub mod checks;
 pub mod copy;
 mod copy_values;
+mod each;
 mod flat_lists;
 pub mod gather;
 pub mod gather_values;

@@ -13,6 +13,7 @@ ghost use Rattle.sel_gather.specs.Sources.{picked, rows_of};
 ghost use Rattle.sel_gather.specs.Steps.{child_rows};
 ghost use Rattle.sel_gather.specs.RunRows.{run_rows};
 
+use crate::each::read_each;
 use crate::runs::{Run, nulls_of, push_run};
 use sel_arrow::column::Column;
 use sel_arrow::validity::is_valid_at;
@@ -32,11 +33,7 @@ pub fn children_of<'a>(alloc: Global, sources: &[&'a Column]) -> PolarsResult<Ve
         map (λ c. child c.now) sources.now) }
     ensures refusal { IfErr result IsOutOfMemory }
 {
-    let mut found = Vec::with_capacity(alloc, sources.len())?;
-    for source in sources {
-        found.push(child_of(*source))?;
-    }
-    Ok(found)
+    read_each(alloc, sources, child_of)
 }
 
 /// Returns the child of a list column, or the column itself for another type.

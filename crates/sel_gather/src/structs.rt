@@ -10,6 +10,7 @@ ghost use Rattle.sel_gather.specs.Gathers.{MayGather};
 ghost use Rattle.sel_gather.specs.Runs.{expand};
 ghost use Rattle.sel_gather.specs.Sources.{rows_of};
 
+use crate::each::read_each;
 use crate::live_runs::LiveRuns;
 use crate::row_refs::runs_of_plan;
 use crate::run_refs::{ListedRuns, RunRefs};
@@ -31,11 +32,7 @@ pub fn fields_at<'a>(
         map (λ c. field j c.now) sources.now) }
     ensures refusal { IfErr result IsOutOfMemory }
 {
-    let mut found = Vec::with_capacity(alloc, sources.len())?;
-    for source in sources {
-        found.push(field_of(*source, j))?;
-    }
-    Ok(found)
+    read_each(alloc, sources, |column| field_of(column, j))
 }
 
 // Returns field `j` of a column, or the column itself if there is none.

@@ -9,23 +9,12 @@ ghost use Rattle.sel_arrow.specs.Texts.{all_text};
 ghost use Rattle.sel_gather.specs.Need.{buffer_count};
 ghost use Rattle.sel_gather.specs.Sources.{rows_of};
 
+use crate::each::read_each;
 use sel_arrow::binary::BinaryArray;
 use sel_arrow::binview::BinaryViewArray;
 use sel_arrow::column::Column;
 use sel_bits::faults::PolarsResult;
 use std::alloc::Global;
-
-/// Returns `$array` of each column, all of one variant.
-macro_rules! arrays_of {
-    ($alloc:ident, $sources:ident, $variant:pat => $array:expr) => {{
-        let mut found = Vec::with_capacity($alloc, $sources.len())?;
-        for source in $sources {
-            let $variant = *source else { unreachable!() };
-            found.push($array)?;
-        }
-        Ok(found)
-    }};
-}
 
 /// Returns the binary array of each column.
 ///
@@ -43,7 +32,7 @@ pub fn binaries_of<'a>(
         rows_of sources.now) }
     ensures refusal { IfErr result IsOutOfMemory }
 {
-    arrays_of!(alloc, sources, Column::LargeBinary(array) => array)
+    read_each(alloc, sources, binary_of)
 }
 
 /// Returns the array of a binary column.
@@ -75,7 +64,19 @@ pub fn views_of<'a>(
         map (λ c. buffer_count c.now) sources.now) }
     ensures refusal { IfErr result IsOutOfMemory }
 {
-    arrays_of!(alloc, sources, Column::BinaryView(array) => array)
+    read_each(alloc, sources, view_of)
+}
+
+// Returns the array of a binary view column.
+fn view_of<'a>(column: &'a Column) -> &'a BinaryViewArray
+    requires { type_of column.now ≡ of_binary_view }
+    ensures rows { binview_rows result.now ≡ rows column.now }
+    ensures buffers { length result.now.buffers ≡ buffer_count column.now }
+{
+    let Column::BinaryView(array) = column else {
+        unreachable!()
+    };
+    array
 }
 
 /// Returns the view array of each string view column.
@@ -98,5 +99,18 @@ pub fn texts_of<'a>(
         map (λ c. buffer_count c.now) sources.now) }
     ensures refusal { IfErr result IsOutOfMemory }
 {
-    arrays_of!(alloc, sources, Column::Utf8View(array) => &array.bytes)
+    read_each(alloc, sources, text_of)
+}
+
+// Returns the array of a string view column.
+fn text_of<'a>(column: &'a Column) -> &'a BinaryViewArray
+    requires { type_of column.now ≡ of_utf8_view }
+    ensures rows { binview_rows result.now ≡ rows column.now }
+    ensures texts { IsTrue (all_text (binview_rows result.now)) }
+    ensures buffers { length result.now.buffers ≡ buffer_count column.now }
+{
+    let Column::Utf8View(array) = column else {
+        unreachable!()
+    };
+    &array.bytes
 }

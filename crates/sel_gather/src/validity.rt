@@ -15,6 +15,7 @@ ghost use Rattle.sel_gather.specs.Runs.{expand};
 ghost use Rattle.sel_gather.specs.Validity.{bits_for};
 ghost use Rattle.sel_gather.specs.Sources.{columns_of, picked, rows_of};
 
+use crate::each::read_each;
 use crate::gather_values::validity_at;
 use crate::row_refs::Plan;
 use crate::run_refs::{ListedRuns, RunRefs};
@@ -109,10 +110,5 @@ fn validities_of<'a>(alloc: Global, sources: &[&'a Column]) -> PolarsResult<Vec<
         AreValidities (map option_copied maps.items) (columns_of sources.now)) }
     ensures refusal { IfErr result IsOutOfMemory }
 {
-    let mut maps = Vec::with_capacity(alloc, sources.len())?;
-    for source in sources {
-        let column: &'a Column = *source;
-        maps.push(column.validity())?;
-    }
-    Ok(maps)
+    read_each(alloc, sources, |column| column.validity())
 }

@@ -1,4 +1,4 @@
-use Rattle.sel_gather.proofs.Common.{◌∙◌, ◌<◌, ◌+◌, arith, sym, w64, to_z_pos, PickFits}
+use Rattle.sel_gather.proofs.Common.{◌∙◌, ◌<◌, ◌+◌, ◌++◌, ◌∷◌, [], ap, arith, refl, sym, w64, to_z_pos, PickFits, Null, item_ends, joined_items, length, map, pick, pos, take_all}
 use Rattle.sel_gather.proofs.{Gathers.next_all, Gathers.rest_is, ItemPicks.counted_below, ItemPicks.counted_more, ItemPicks.ended_more, ItemRuns.rows_of}
 use Rattle.sel_gather.proofs.flat_lists.list_ends.Goals as goal
 
@@ -25,3 +25,14 @@ loop-k-preserved g c =
       count = counted_more c.args.sources.now c.requires.lists c.requires.formed ps _ c.next.result c.loop-k.k next c.requires.fits list c.run_of_list-list.ensures c.loop-k.end c.loop-k.invariant.count;
       ends = ended_more c.args.sources.now c.requires.lists c.requires.formed ps _ c.next.result c.loop-k.k next c.requires.fits list c.run_of_list-list.ensures c.loop-k.end c.loop-k.invariant.count c.loop-k.ends.items c.push-in-loop-k.new.self.items _ (to_z_pos w64 end small) c.loop-k.invariant.ends c.in_ok-push-2.ensures.items;
     }
+
+pub loop-k-init : goal.loop-k-init
+loop-k-init g c = record { rest = c.again-rest.ensures; count = refl; ends = c.in_ok-push.ensures.items ∙ ap (λ l. l ++ pos 0 ∷ []) c.in_ok-ends.ensures.items }
+
+pub returns-clause-ends : goal.returns-clause-ends
+returns-clause-ends g c =
+    c.loop-k.invariant.ends ∙ ap (λ ps. map pos (0 ∷ item_ends 0 (pick Null (rows_of c.args.sources.now) ps))) (take_all c.loop-k.k (g.P.Plan.picks c.args.plan.now) (omega (arith, c.loop-k-test.false, c.len-len.ensures.len)))
+
+pub returns-clause-count : goal.returns-clause-count
+returns-clause-count g c =
+    c.loop-k.invariant.count ∙ ap (λ ps. length (joined_items 0 (pick Null (rows_of c.args.sources.now) ps))) (take_all c.loop-k.k (g.P.Plan.picks c.args.plan.now) (omega (arith, c.loop-k-test.false, c.len-len.ensures.len)))

@@ -1,5 +1,5 @@
 use Rattle.sel_gather.proofs.Common.{◌≤◌, ◌∙◌, ◌++◌, ◌∷◌, [], ◌+◌, arith, ap, sym, subst, All, length-append, length, take, err_from_is_err_and, Null}
-use Rattle.sel_gather.proofs.Common.{joined_items, ExceedsRows, pick, PickFits, expand, unrolled, take_all}
+use Rattle.sel_gather.proofs.Common.{item_ends, map, pos, refl, joined_items, ExceedsRows, pick, PickFits, expand, unrolled, take_all}
 use Rattle.sel_gather.proofs.Walks.{picked_run, run_behind, run_within, run_all, items_behind, counts_behind, ends_behind, joined_first, past_more}
 use Rattle.sel_gather.proofs.{Below.refused_more, Gathers.left_all, ItemRuns.rows_of, ItemRuns.below_of, RunLists.length-unrolled, RunLists.expand-push}
 use Rattle.sel_gather.proofs.{RunLists.length-pick}
@@ -75,3 +75,8 @@ push_run-requires g c =
     let long = sym (length-pick Null yss (expand all)) ∙ ap length c.loop-at.invariant.items ∙ sym c.loop-at.invariant.count in
     let both = ap length (expand-push c.loop-at.below.items c.loop-at.last) ∙ length-append (expand c.loop-at.below.items) (unrolled c.loop-at.last) in
     omega (arith, long, both, length-unrolled c.loop-at.last)
+
+pub returns-clause-ends : goal.returns-clause-ends
+returns-clause-ends g c =
+    let ps = g.P.Plan.picks c.args.plan.now in
+    c.loop-at.invariant.ends ∙ ap (λ l. map pos (0 ∷ item_ends 0 (pick Null (rows_of c.args.sources.now) l))) (take_all c.loop-at.at ps (omega (arith, c.loop-at-test.false, c.len-len.ensures.len)))

@@ -1,4 +1,5 @@
-use Rattle.sel_gather.proofs.Common.{◌∙◌, ◌<◌, ◌+◌, arith, sym, w64, to_z_pos, PickFits, Run, Some}
+use Rattle.sel_gather.proofs.Common.{◌∙◌, ◌<◌, ◌+◌, ◌++◌, ◌∷◌, [], ap, arith, refl, subst, sym, w64, to_z_pos, PickFits, Run, Some, Null, item_ends, joined_items, length, map, pick, pos, take_all}
+use Rattle.sel_gather.specs.Spans.{AreStarts}
 use Rattle.sel_gather.proofs.{Gathers.next_all, Gathers.rest_is, ItemRuns.rows_of, ItemSpans.started_more}
 use Rattle.sel_gather.proofs.ItemPicks.{counted_below, counted_more, ended_more}
 use Rattle.sel_gather.proofs.spans.list_spans.Goals as goal
@@ -32,3 +33,15 @@ loop-k-preserved g c =
       ends_count = omega (arith, c.push_reserved-in-loop-k-2.ensures.len, c.loop-k.invariant.ends_count);
       ends_room = omega (arith, c.push_reserved-in-loop-k-2.ensures.capacity, c.loop-k.invariant.ends_room);
     }
+
+pub returns-clause-ends : goal.returns-clause-ends
+returns-clause-ends g c =
+    c.loop-k.invariant.ends ∙ ap (λ ps. map pos (0 ∷ item_ends 0 (pick Null (rows_of c.args.sources.now) ps))) (take_all c.loop-k.k (g.P.Plan.picks c.args.plan.now) (omega (arith, c.loop-k-test.false, c.len-len.ensures.len)))
+
+pub returns-clause-starts : goal.returns-clause-starts
+returns-clause-starts g c =
+    subst (λ ps. AreStarts c.args.sources.now ps c.loop-k.starts.items) (take_all c.loop-k.k (g.P.Plan.picks c.args.plan.now) (omega (arith, c.loop-k-test.false, c.len-len.ensures.len))) c.loop-k.invariant.starts
+
+pub returns-clause-count : goal.returns-clause-count
+returns-clause-count g c =
+    c.loop-k.invariant.count ∙ ap (λ ps. length (joined_items 0 (pick Null (rows_of c.args.sources.now) ps))) (take_all c.loop-k.k (g.P.Plan.picks c.args.plan.now) (omega (arith, c.loop-k-test.false, c.len-len.ensures.len)))

@@ -1,5 +1,0 @@
-use Rattle.sel_gather.proofs.Common.{◌≡◌, take, map, binary_rows, rows}
-use Rattle.sel_gather.proofs.typed_arrays.binaries_of.Given as goal
-
-abbrev pub invariant-loop-source : goal.invariant-loop-source
-invariant-loop-source l = map (λ s. binary_rows s.now) l.found.items ≡ map (λ c. rows c.now) (take l.source-index l.sources)
