@@ -1,6 +1,8 @@
 use Rattle.sel_gather.proofs.Common.{◌∙◌, ap, arith, binary_rows, columns_of, map, rows}
 use Rattle.sel_gather.proofs.{ItemRuns.rows_of, Walks.one_mapped, Walks.two_mapped}
 use Rattle.sel_gather.proofs.ValidBytes.{binary_collected, shown_fits, shown_live, shown_rows}
+use Rattle.sel_gather.proofs.Common.{All, PickFits, cleared, length, length-map, subst, sym}
+use Rattle.sel_gather.proofs.ItemPicks.{fits_rows}
 use Rattle.sel_gather.proofs.binary.gather_binary.Goals as goal
 
 pub collect_binary-requires-clause-fits : goal.collect_binary-requires-clause-fits
@@ -53,3 +55,17 @@ returns g c =
     let same = shown_rows _ (rows_of cs) (ap (map (λ s. binary_rows s.now)) c.deref.ensures.value ∙ c.in_ok-arrays.ensures.rows) (g.P.Plan.picks c.args.plan.now) (g.P.Plan.picks c.again.result) c.again.ensures in
     let made = c.collect_binary-2.ensures in
     binary_collected c.collect_binary-2.result (columns_of cs) _ _ same made.rows made.dtype made.formed made.within made.refusal
+
+pub collect_binary-requires-clause-len : goal.collect_binary-requires-clause-len
+collect_binary-requires-clause-len g c = length-map (g.P.Plan.picks c.again.result) (cleared (rows_of c.args.sources.now)) ∙ ap length c.again.ensures ∙ sym c.len-len.ensures.len
+
+pub collect_binary-requires-in-len2-clause-len : goal.collect_binary-requires-in-len2-clause-len
+collect_binary-requires-in-len2-clause-len g c = length-map (g.P.Plan.picks c.again.result) (cleared (rows_of c.args.sources.now)) ∙ ap length c.again.ensures ∙ sym c.len-len.ensures.len
+
+pub collect_binary-requires-2-clause-len : goal.collect_binary-requires-2-clause-len
+collect_binary-requires-2-clause-len g c = length-map (g.P.Plan.picks c.again.result) (cleared (rows_of c.args.sources.now)) ∙ ap length c.again.ensures ∙ sym c.len-len.ensures.len
+
+pub invariant_of-live-clause-fits : goal.invariant_of-live-clause-fits
+invariant_of-live-clause-fits g c =
+    let xss = rows_of c.args.sources.now in
+    fits_rows xss (g.P.Plan.picks c.again.result) (subst (All (PickFits xss)) (sym c.again.ensures) c.requires.fits)

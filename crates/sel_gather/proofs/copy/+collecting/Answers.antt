@@ -9,6 +9,8 @@ use Rattle.sel_gather.proofs.TupleRows.{field_rows, field_type, field_formed, pi
 use Rattle.sel_gather.proofs.Walks.{children_collected, children_may, children_recurse, lists_child, lists_listing, one_child, two_children}
 use Rattle.sel_gather.proofs.{Depths.size_of, Depths.one_size, ItemRuns.rows_of, ItemRuns.below_of, NullItems.null_items_in, PlanRuns.near_may}
 use Rattle.sel_gather.proofs.{RunLists.length-pick, Within.fields_pass, Within.one_more_passes}
+use Rattle.sel_gather.proofs.Common.{◌≤◌, ExceedsRows, joined_items, max_rows}
+use Rattle.sel_gather.proofs.Within.{few_rows_pass, passes_neither}
 use Rattle.sel_gather.proofs.copy.+collecting.Goals as goal
 
 -- ---- runs as row references
@@ -237,3 +239,35 @@ collect_fields-returns-clause-within t c =
     (λ k below. let place : k ≡ 0 + k = omega arith in
     subst (λ n. ExceedsNone (exceeded_taken (get_or firsts k of_null) (map (field n) columns) (map (part_at n) vs))) place
     (c.loop-j.invariant.within k (omega (arith, below, length-map c.args.firsts.now type_of, c.loop-j-test.false))))
+
+-- ---- columns over their children
+
+pub collect_lists-returns : goal.collect_lists-returns
+collect_lists-returns t c =
+    let s = type_of c.args.child.now in
+    let cs = c.args.sources.now in
+    let yss = below_of cs in
+    let items = joined_items 0 (picked cs c.args.runs.now) in
+    let below = exceeded_taken s (map child (columns_of cs)) in
+    let same : pick Null yss (expand c.deref.result.now) ≡ items = ap (λ r. pick Null yss (expand r)) c.deref.ensures.value ∙ c.in_ok-ends.ensures.items in
+    let few : length items ≤ max_rows = omega (arith, ap length c.in_ok-ends.ensures.items, length-pick Null yss (expand c.in_ok-ends.below.items), c.in_ok-ends.ensures.count, c.in_ok-ends.ensures.few) in
+    record {
+      rows = c.in_ok-column.ensures.rows;
+      dtype = search rules;
+      formed = c.in_ok-column.ensures.formed;
+      within = passes_neither (ExceedsRows (length items)) (below items) (few_rows_pass (length items) few) (subst (λ l. ExceedsNone (below l)) same c.in_ok-values.ensures.within);
+      refusal = search rules;
+    }
+
+pub collect_blocks-returns : goal.collect_blocks-returns
+collect_blocks-returns t c =
+    let cs = c.args.sources.now in
+    let items = joined_items c.args.size (picked cs c.args.runs.now) in
+    let below = exceeded_taken (type_of c.args.child.now) (map child (columns_of cs)) items in
+    record {
+      rows = c.in_ok-column.ensures.rows;
+      dtype = search rules;
+      formed = c.in_ok-column.ensures.formed;
+      within = passes_neither (ExceedsRows (length items)) below (few_rows_pass (length items) (omega (arith, c.count_items-need.ensures, c.if-need.false))) c.in_ok-values.ensures.within;
+      refusal = search rules;
+    }

@@ -1,5 +1,6 @@
 use Rattle.sel_gather.proofs.Common.{◌≤◌, ◌+◌, length, map, arith, option_copied, HasBit}
 use Rattle.sel_gather.proofs.Gathers.{word_lt, words_more, left_all, left_length, left_behind}
+use Rattle.sel_gather.proofs.Common.{◌∙◌, bit_found, bits_found, length-map, take_all}
 use Rattle.sel_gather.proofs.gather_values.gather_bits.Goals as goal
 
 pub word_of_picks-requires-clause-fits : goal.word_of_picks-requires-clause-fits
@@ -27,3 +28,6 @@ loop-at-preserved g c =
       rest = left_behind ps (g.P.Plan.picks c.loop-at.rest) _ c.loop-at.at c.min-count.result c.loop-at.invariant.rest c.word_of_picks.ensures.rest;
       within = omega (arith, c.min-count.ensures, c.loop-at-test.true);
     }
+
+pub returns-clause-bits : goal.returns-clause-bits
+returns-clause-bits g c = c.loop-at.invariant.bits ∙ (take_all c.loop-at.at (bits_found (map option_copied c.args.maps.now) (g.P.Plan.picks c.args.plan.now)) (omega (arith, c.loop-at-test.false, c.len-len.ensures.len, length-map (g.P.Plan.picks c.args.plan.now) (bit_found (map option_copied c.args.maps.now)))))

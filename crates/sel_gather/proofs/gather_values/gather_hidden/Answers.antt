@@ -1,6 +1,7 @@
 use Rattle.sel_gather.proofs.Common.{◌≤◌, ◌+◌, length, map, arith, option_copied, Null, PickFits}
 use Rattle.sel_gather.proofs.Gathers.{word_lt, words_more, values_more, left_all, left_length, left_behind}
 use Rattle.sel_gather.proofs.Hiding.{bits_fit}
+use Rattle.sel_gather.proofs.Common.{◌∙◌, ap, bit_found, bits_found, length-map, pick, take_all}
 use Rattle.sel_gather.proofs.gather_values.gather_hidden.Goals as goal
 
 pub copy_validity-requires : goal.copy_validity-requires
@@ -38,3 +39,9 @@ loop-at-preserved g c =
       room = omega (arith, c.push_word-word.ensures.capacity, c.loop-at.invariant.room);
       within = omega (arith, c.min-count.ensures, c.loop-at-test.true);
     }
+
+pub returns-clause-values : goal.returns-clause-values
+returns-clause-values g c = c.loop-at.invariant.values ∙ ap (pick c.args.zero (map (λ s. s.values.now) c.args.parts.now)) (take_all c.loop-at.at (g.P.Plan.picks c.args.plan.now) (omega (arith, c.loop-at-test.false, c.len-len.ensures.len)))
+
+pub returns-clause-bits : goal.returns-clause-bits
+returns-clause-bits g c = c.loop-at.invariant.bits ∙ (take_all c.loop-at.at (bits_found (map (λ s. option_copied s.validity) c.args.parts.now) (g.P.Plan.picks c.args.plan.now)) (omega (arith, c.loop-at-test.false, c.len-len.ensures.len, length-map (g.P.Plan.picks c.args.plan.now) (bit_found (map (λ s. option_copied s.validity) c.args.parts.now)))))

@@ -1,5 +1,6 @@
 use Rattle.sel_gather.proofs.Common.{◌∷◌, [], sym, ◌∙◌, arith, PickFits}
 use Rattle.sel_gather.proofs.Gathers.{next_all, rest_is, values_next}
+use Rattle.sel_gather.proofs.Common.{ap, pick, take_all}
 use Rattle.sel_gather.proofs.gather_values.gather_one.Goals as goal
 
 pub value_of_place-requires : goal.value_of_place-requires
@@ -18,3 +19,6 @@ loop-k-preserved g c =
       count = omega (arith, c.push_reserved.ensures.len, c.loop-k.invariant.count);
       room = omega (arith, c.push_reserved.ensures.capacity, c.loop-k.invariant.room);
     }
+
+pub returns-clause-values : goal.returns-clause-values
+returns-clause-values g c = c.loop-k.invariant.values ∙ ap (pick c.args.zero (c.args.from.now ∷ [])) (take_all c.loop-k.k (g.P.Plan.picks c.args.plan.now) (omega (arith, c.loop-k-test.false, c.len-len.ensures.len)))

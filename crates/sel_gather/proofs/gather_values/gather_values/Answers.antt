@@ -1,4 +1,6 @@
 use Rattle.sel_gather.proofs.{Common.map, Common.sym, Common.◌∙◌, Common.arith, Common.PickFits, Gathers.next_all, Gathers.rest_is, Gathers.values_next}
+use Rattle.sel_gather.proofs.Common.{All, IfOk-weaker, ap, pick, rules, subst, take_all}
+use Rattle.sel_gather.proofs.Walks.{one_mapped}
 use Rattle.sel_gather.proofs.gather_values.gather_values.Goals as goal
 
 pub value_of_pick-requires : goal.value_of_pick-requires
@@ -17,3 +19,16 @@ loop-k-preserved g c =
       count = omega (arith, c.push_reserved.ensures.len, c.loop-k.invariant.count);
       room = omega (arith, c.push_reserved.ensures.capacity, c.loop-k.invariant.room);
     }
+
+pub gather_one-requires : goal.gather_one-requires
+gather_one-requires g c =
+    let same = one_mapped (λ s. s.values.now) c.args.parts.now c.part-item.result c.part-item.result.values.now (omega (arith, c.in-len1.len_at_least)) (omega (arith, c.in-len1.len_below)) c.part-item.is (search rules) in
+    subst (λ xss. All (PickFits xss) (g.P.Plan.picks c.args.plan.now)) (sym same) c.requires
+
+pub returns-in-len1-clause-values : goal.returns-in-len1-clause-values
+returns-in-len1-clause-values g c =
+    let same = one_mapped (λ s. s.values.now) c.args.parts.now c.part-item.result c.part-item.result.values.now (omega (arith, c.in-len1.len_at_least)) (omega (arith, c.in-len1.len_below)) c.part-item.is (search rules) in
+    IfOk-weaker c.gather_one.result _ _ (λ v is. is ∙ ap (λ xss. pick c.args.zero xss (g.P.Plan.picks c.args.plan.now)) same) c.gather_one.ensures.values
+
+pub returns-clause-values : goal.returns-clause-values
+returns-clause-values g c = c.loop-k.invariant.values ∙ ap (pick c.args.zero (map (λ s. s.values.now) c.args.parts.now)) (take_all c.loop-k.k (g.P.Plan.picks c.args.plan.now) (omega (arith, c.loop-k-test.false, c.len-len.ensures.len)))

@@ -1,5 +1,6 @@
 use Rattle.sel_gather.proofs.Common.{◌∙◌, map, sym, arith, option_copied, PickFits}
 use Rattle.sel_gather.proofs.Gathers.{word_next, word_few, next_all, rest_is, values_behind}
+use Rattle.sel_gather.proofs.Common.{◌≡◌, ◌++◌, ap, drop, pick, take}
 use Rattle.sel_gather.proofs.gather_values.push_word.Goals as goal
 
 pub row_of_pick-value-requires : goal.row_of_pick-value-requires
@@ -26,3 +27,13 @@ loop-i-preserved g c =
       len = omega (arith, c.push_reserved.ensures.len, c.loop-i.invariant.len);
       capacity = c.push_reserved.ensures.capacity ∙ c.loop-i.invariant.capacity;
     }
+
+pub returns-clause-values : goal.returns-clause-values
+returns-clause-values g c =
+    let all : c.loop-i.i ≡ c.args.count = omega arith in
+    c.loop-i.invariant.values ∙ ap (λ k. c.args.values.now.items ++ pick c.args.zero (map (λ s. s.values.now) c.args.parts.now) (take k (g.P.Plan.picks c.args.plan.now))) all
+
+pub returns-clause-rest : goal.returns-clause-rest
+returns-clause-rest g c =
+    let all : c.loop-i.i ≡ c.args.count = omega arith in
+    c.loop-i.invariant.rest ∙ ap (λ k. drop k (g.P.Plan.picks c.args.plan.now)) all

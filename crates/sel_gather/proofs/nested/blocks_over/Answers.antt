@@ -1,5 +1,6 @@
 use Rattle.sel_gather.proofs.Common.{◌≡◌, ◌∙◌, true, ap, arith, length, rows, type_of, well_formed, Null, pick, joined_items, blocks_formed}
 use Rattle.sel_gather.proofs.{ItemRuns.rows_of, Layouts.picked_blocks, Rebuilt.blocks_rebuilt, Rebuilt.blocks_fit, RunLists.length-pick, Walks.blocks_known}
+use Rattle.sel_gather.proofs.Common.{of_fixed_size_list}
 use Rattle.sel_gather.proofs.nested.blocks_over.Goals as goal
 
 pub gather_validity-requires-clause-known : goal.gather_validity-requires-clause-known
@@ -25,3 +26,6 @@ returns-clause-formed g c =
     blocks_formed c.args.size c.len-len.result c.in_ok-values.values.value c.in_ok-validity.validity
     (blocks_fit c.args.size vs c.in_ok-values.values.value c.in_ok-validity.validity c.len-len.result (picked_blocks c.args.sources.now (type_of c.args.values) c.args.size ps c.requires.lists c.requires.formed)
     long (omega (arith, c.len-len.ensures.len, c.len-len.ensures.few)) c.requires.narrow below (rw c.len-len.ensures.len c.in_ok-validity.ensures.covers) formed)
+
+pub returns-clause-dtype : goal.returns-clause-dtype
+returns-clause-dtype g c = ap (λ x. of_fixed_size_list (type_of x) c.args.size) c.in_ok-values.ensures.ok

@@ -2,6 +2,7 @@ use Rattle.sel_gather.proofs.Common.{◌≡◌, ◌∙◌, ◌∷◌, true, ap, 
 use Rattle.std.specs.Prelude.{ℤ}
 use Rattle.sel_gather.proofs.{ItemRuns.rows_of, JoinedRows.offsets_of, JoinedRows.same_numbers, JoinedRows.map_same, Layouts.picked_lists, Rebuilt.rising_ends}
 use Rattle.sel_gather.proofs.{Rebuilt.lists_rebuilt, Rebuilt.lists_fit, RunLists.length-pick, Walks.lists_known}
+use Rattle.sel_gather.proofs.Common.{of_large_list}
 use Rattle.sel_gather.proofs.nested.lists_over.Goals as goal
 
 pub of_rising-requires : goal.of_rising-requires
@@ -31,3 +32,6 @@ returns-clause-formed g c =
     let offsets : c.in_ok-offsets.offsets ≡ 0 ∷ item_ends 0 vs = same_numbers c.in_ok-offsets.offsets (0 ∷ item_ends 0 vs) (sym c.in_ok-offsets.ensures.value ∙ map_same c.args.ends.items ∙ c.requires.ends) in
     lists_formed c.in_ok-offsets.offsets c.in_ok-values.values.value c.in_ok-validity.validity
     (lists_fit vs c.in_ok-offsets.offsets c.in_ok-values.values.value c.in_ok-validity.validity (length ps) (length-pick Null (rows_of cs) ps) (omega (arith, c.len-len.ensures.len, c.len-len.ensures.few)) offsets below c.in_ok-validity.ensures.covers formed)
+
+pub returns-clause-dtype : goal.returns-clause-dtype
+returns-clause-dtype g c = ap (λ x. of_large_list (type_of x)) c.in_ok-values.ensures.ok
