@@ -3,6 +3,7 @@ use Rattle.sel_gather.proofs.Common.{Null, ends_from, joined_bytes, bytes_needed
 use Rattle.sel_gather.proofs.JoinedRows.{all_bits, all_bytes, all_ends, built_ends, built_rows, column_bytes, ends_shown, length-joined, offsets_of}
 use Rattle.sel_gather.proofs.JoinedRows.{picked_bytes, rebuilt, rising-ends}
 use Rattle.sel_gather.proofs.RunLists.{length-pick}
+use Rattle.sel_gather.proofs.Common.{is_valid, length-map}
 use Rattle.sel_gather.proofs.binary.collect_binary.Goals as goal
 
 pub of_rising-requires : goal.of_rising-requires
@@ -40,3 +41,15 @@ returns-clause-rows g c =
     let bits = c.in_ok-validity.ensures.bits ∙ all_bits rows c.in_ok-joined.joined joined c.in_ok-joined.ensures.bits c.in_ok-push_runs.ensures.rows in
     let all = picked_bytes (λ s. binary_rows s.now) (λ s k. column_bytes s.now.offsets s.now.values s.now.validity k) c.args.sources.now (g.R.Runs.picks c.args.runs.now) in
     rw (ends, bytes) (rebuilt rows c.in_ok-validity.validity c.args.len all (length-pick Null xss (g.R.Runs.picks c.args.runs.now) ∙ c.requires.len) bits)
+
+pub validity_from-requires : goal.validity_from-requires
+validity_from-requires g c =
+    let xss = map (λ s. binary_rows s.now) c.args.sources.now in
+    let rows = pick Null xss (g.R.Runs.picks c.args.runs.now) in
+    let bits = all_bits rows c.in_ok-joined.joined c.push_runs.new.joined c.in_ok-joined.ensures.bits c.in_ok-push_runs.ensures.rows in
+    ap length bits ∙ length-map rows is_valid ∙ length-pick Null xss (g.R.Runs.picks c.args.runs.now) ∙ c.requires.len
+
+pub push_runs-requires-clause-room : goal.push_runs-requires-clause-room
+push_runs-requires-clause-room g c =
+    let none : length c.in_ok-joined.joined.bytes.items ≡ 0 = ap (λ (l : List ℕ). length l) c.in_ok-joined.ensures.bytes in
+    omega (arith, none, c.count_bytes-need.ensures, c.if-need.false)

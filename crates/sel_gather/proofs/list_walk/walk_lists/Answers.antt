@@ -1,5 +1,5 @@
 use Rattle.sel_gather.proofs.Common.{◌≤◌, ◌∙◌, ◌++◌, ◌∷◌, [], ◌+◌, arith, ap, sym, subst, All, length-append, length, take, err_from_is_err_and, Null}
-use Rattle.sel_gather.proofs.Common.{item_ends, map, pos, refl, joined_items, ExceedsRows, pick, PickFits, expand, unrolled, take_all}
+use Rattle.sel_gather.proofs.Common.{item_ends, map, pos, refl, rules, joined_items, ExceedsRows, pick, PickFits, expand, unrolled, take_all}
 use Rattle.sel_gather.proofs.Walks.{picked_run, run_behind, run_within, run_all, items_behind, counts_behind, ends_behind, joined_first, past_more}
 use Rattle.sel_gather.proofs.{Below.refused_more, Gathers.left_all, ItemRuns.rows_of, ItemRuns.below_of, RunLists.length-unrolled, RunLists.expand-push}
 use Rattle.sel_gather.proofs.{RunLists.length-pick}
@@ -80,3 +80,17 @@ pub returns-clause-ends : goal.returns-clause-ends
 returns-clause-ends g c =
     let ps = g.P.Plan.picks c.args.plan.now in
     c.loop-at.invariant.ends ∙ ap (λ l. map pos (0 ∷ item_ends 0 (pick Null (rows_of c.args.sources.now) l))) (take_all c.loop-at.at ps (omega (arith, c.loop-at-test.false, c.len-len.ensures.len)))
+
+pub loop-at-init : goal.loop-at-init
+loop-at-init g c =
+    let yss = below_of c.args.sources.now in
+    let none = c.in_ok-below.ensures.items in
+    let last = c.nulls_of-last.result in
+    record {
+      rest = c.again-rest.ensures;
+      within = omega arith;
+      count = refl;
+      ends = c.in_ok-push.ensures.items ∙ ap (λ l. l ++ pos 0 ∷ []) c.in_ok-ends.ensures.items;
+      items = ap (λ l. pick Null yss (expand (l ++ last ∷ []))) none ∙ ap (λ r. pick Null yss (expand (r ∷ []))) c.nulls_of-last.ensures;
+      sound = search rules;
+    }
