@@ -11,6 +11,7 @@ use Rattle.sel_gather.proofs.{Depths.size_of, Depths.one_size, ItemRuns.rows_of,
 use Rattle.sel_gather.proofs.{RunLists.length-pick, Within.fields_pass, Within.one_more_passes}
 use Rattle.sel_gather.proofs.Common.{◌≤◌, ExceedsRows, joined_items, max_rows}
 use Rattle.sel_gather.proofs.Within.{few_rows_pass, passes_neither}
+use Rattle.sel_gather.proofs.Common.{of_fixed_size_list, of_large_list}
 use Rattle.sel_gather.proofs.copy.+collecting.Goals as goal
 
 -- ---- runs as row references
@@ -271,3 +272,13 @@ collect_blocks-returns t c =
       within = passes_neither (ExceedsRows (length items)) below (few_rows_pass (length items) (omega (arith, c.count_items-need.ensures, c.if-need.false))) c.in_ok-values.ensures.within;
       refusal = search rules;
     }
+
+pub collect_lists-lists_over-requires-clause-lists : goal.collect_lists-lists_over-requires-clause-lists
+collect_lists-lists_over-requires-clause-lists t c = λ k d h. c.requires.alike k d h ∙ ap of_large_list (sym c.in_ok-values.ensures.dtype)
+
+pub collect_lists-lists_over-requires-clause-below : goal.collect_lists-lists_over-requires-clause-below
+collect_lists-lists_over-requires-clause-below t c =
+    c.in_ok-values.ensures.rows ∙ ap (λ r. pick Null (below_of c.args.sources.now) (expand r)) c.deref.ensures.value ∙ c.in_ok-ends.ensures.items
+
+pub collect_blocks-blocks_over-requires-clause-lists : goal.collect_blocks-blocks_over-requires-clause-lists
+collect_blocks-blocks_over-requires-clause-lists t c = λ k d h. c.requires.alike k d h ∙ ap (λ s. of_fixed_size_list s c.args.size) (sym c.in_ok-values.ensures.dtype)

@@ -1,6 +1,7 @@
 use Rattle.sel_gather.proofs.{Common.type_of, Walks.lists_child, Walks.lists_listing}
 use Rattle.sel_gather.proofs.Common.{◌≡◌, ◌≤◌, ◌∙◌, ExceedsNone, ExceedsRows, Null, ap, arith, child, columns_of, exceeded_taken, expand, joined_items, length, map, max_rows, pick, rules, subst}
 use Rattle.sel_gather.proofs.{ItemRuns.below_of, ItemRuns.rows_of, RunLists.length-pick, Within.few_rows_pass, Within.passes_neither}
+use Rattle.sel_gather.proofs.Common.{of_large_list, sym}
 use Rattle.sel_gather.proofs.gather.gather_lists.Goals as goal
 
 pub walk_lists-requires-clause-lists : goal.walk_lists-requires-clause-lists
@@ -31,3 +32,10 @@ returns g c =
       within = passes_neither (ExceedsRows (length items)) (below items) (few_rows_pass (length items) few) (subst (λ l. ExceedsNone (below l)) same c.in_ok-values.ensures.within);
       refusal = search rules;
     }
+
+pub lists_over-requires-clause-lists : goal.lists_over-requires-clause-lists
+lists_over-requires-clause-lists g c = λ k d h. c.requires.alike k d h ∙ ap of_large_list (sym c.in_ok-values.ensures.dtype)
+
+pub lists_over-requires-clause-below : goal.lists_over-requires-clause-below
+lists_over-requires-clause-below g c =
+    c.in_ok-values.ensures.rows ∙ ap (λ r. pick Null (below_of c.args.sources.now) (expand r)) c.deref.ensures.value ∙ c.in_ok-ends.ensures.items
