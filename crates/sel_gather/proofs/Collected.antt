@@ -1,6 +1,6 @@
 -- What a gather returns.
 use Rattle.sel_gather.proofs.Common.{◌≡◌, List, sym, subst, Result, Err, IsErrAnd, err_from_is_err_and, PolarsError, Shape, Value, Column, Collects}
-use Rattle.sel_gather.proofs.Common.{◌∙◌, ExceedsNone, IsLimitOrMemory, IsWellFormed, OutOfMemory, exceeded_taken, rows, type_of}
+use Rattle.sel_gather.proofs.Common.{◌∙◌, ExceedsNone, IsLimitOrMemory, IsWellFormed, exceeded_taken, rows, type_of}
 use Rattle.std.specs.Prelude.{IfErr, IfOk, Ok}
 use Rattle.sel_bits.specs.Faults.{IsOutOfMemory}
 
