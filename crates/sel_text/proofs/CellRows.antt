@@ -105,8 +105,6 @@ module _ (c : Column) (len : ℕ) (fields : Vec Column Global) (validity : Optio
   pub tuple_types : part_shapes (type_of c) ≡ shapes_of (map type_of fields.items)
   tuple_types = ap part_shapes (struct_type c len fields validity is)
 
-pub ruleset nested_cells = (list_valid, list_null, block_valid, block_null, block_few, tuple_valid, tuple_null)
-
 -- ---- strings
 
 pub text_fits : (array : Utf8ViewArray) (i : ℕ) (d : View) → valid_at array.bytes.validity i ≡ true → i < length (utf8view_rows array) →

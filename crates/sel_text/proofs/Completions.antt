@@ -1,5 +1,5 @@
 -- Every beginning of a text can be completed to one that can be read.
-use Rattle.std.proofs.Common.{◌≡◌, ◌<◌, ℕ, true, false, List, [], ◌∷◌, ◌++◌, length, take, drop, get_or, refl, ap, sym, ◌∙◌, append_assoc, append-nil, arith, codes, Some, zero, None, Option, suc, take-append-drop, take_all}
+use Rattle.std.proofs.Common.{◌≡◌, ◌<◌, ℕ, true, false, List, [], ◌∷◌, ◌++◌, length, take, drop, get_or, refl, ap, sym, ◌∙◌, append_assoc, append-nil, arith, codes, Some, zero, None, Option, suc, take-append-drop, take_all, ◌+◌, add-one, subst}
 use Rattle.std.proofs.Math.Seq.{take-suc}
 use Rattle.sel_text.proofs.Common.{after_byte, changed, closing, goes_on, innermost, is_end, is_some_and, IsFirstError, Bracket, Square, Change, Next, B, Text, N}
 use Rattle.sel_text.specs.declared.notation.Next.TheVariants.{FirstValue, FirstName, After, Digit, Word, TypeWord, Quoted}
@@ -72,6 +72,14 @@ fails_at start text next brackets i byte inside first told so_far =
       begins = ((completes next brackets).0, so_far (completes next brackets).0 ∙ (completes next brackets).1);
       ends = λ _. none;
     }
+
+pub leads_more : (start : Next) (text : List ℕ) (next after : Next) (change : Change) (brackets grown : List Bracket) (i byte : ℕ) → i < length text → byte ≡ get_or text i 0 →
+    Some (after, change) ≡ after_byte next (innermost brackets) byte → grown ≡ changed change brackets → LeadsTo start text next brackets i → LeadsTo start text after grown (i + 1)
+leads_more start text next after change brackets grown i byte inside first told grows so_far =
+    let goes : after_byte next (innermost brackets) (get_or text i 0) ≡ Some (after, change) = rw (← first) (sym told) in
+    subst (LeadsTo start text after grown) (sym (add-one i))
+    (λ more. ap (goes_on start []) (split text more i inside) ∙ so_far (get_or text i 0 ∷ more) ∙ ap (is_some_and (λ (step : Next × Change). goes_on step.0 (changed step.1 brackets) more)) goes
+    ∙ ap (λ inner. goes_on after inner more) (sym grows))
 
 -- At the end of the text.
 pub at_end : (start : Next) (text : List ℕ) (next : Next) (brackets : List Bracket) (i : ℕ) → i ≡ length text → LeadsTo start text next brackets i → goes_on start [] text ≡ is_end next brackets

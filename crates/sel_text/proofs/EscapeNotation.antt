@@ -29,17 +29,17 @@ short_read letter rest c n is =
 -- ---- `\u` escapes
 
 -- Four hexadecimal digits and their number.
-record IsUnit (a b c d unit : ℕ) : Type 0 where
-  digit_a : digit_value a < 16
-  digit_b : digit_value b < 16
-  digit_c : digit_value c < 16
-  digit_d : digit_value d < 16
-  unit_is : unit ≡ digit_value a * 4096 + digit_value b * 256 + digit_value c * 16 + digit_value d
+pub record IsUnit (a b c d unit : ℕ) : Type 0 where
+  pub digit_a : digit_value a < 16
+  pub digit_b : digit_value b < 16
+  pub digit_c : digit_value c < 16
+  pub digit_d : digit_value d < 16
+  pub unit_is : unit ≡ digit_value a * 4096 + digit_value b * 256 + digit_value c * 16 + digit_value d
 
 if_some : (t : Bool) (x y : ℕ) → (if t then Some x else None) ≡ Some y → (t ≡ true) × (x ≡ y)
 if_some t x y is = grind (arith, nat_tests, is)
 
-read_unit : (a b c d unit : ℕ) (rest : List ℕ) → unit_at (a ∷ b ∷ c ∷ d ∷ rest) ≡ Some unit → IsUnit a b c d unit
+pub read_unit : (a b c d unit : ℕ) (rest : List ℕ) → unit_at (a ∷ b ∷ c ∷ d ∷ rest) ≡ Some unit → IsUnit a b c d unit
 read_unit a b c d unit rest is =
     let parts = if_some (is_digit a 16 && is_digit b 16 && is_digit c 16 && is_digit d 16) _ unit is in
     let all = parts.0 in

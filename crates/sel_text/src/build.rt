@@ -1,12 +1,12 @@
 //! Builds columns from parsed rows.
 
-ghost use Rattle.std.specs.Prelude.{◌≡◌, ◌<◌, ◌≤◌, ◌+◌, ◌∷◌, ◌++◌, [], pos, true, false, ℕ, List, IfOk, IfErr, IfSome, IfNone, OnOk, length, map, replicate};
+ghost use Rattle.std.specs.Prelude.{◌≡◌, ◌<◌, ◌≤◌, ◌+◌, ◌∷◌, ◌++◌, [], pos, true, false, ℕ, List, IfOk, IfErr, IfSome, IfNone, OnOk, length, map, replicate, MatchResult, Ok};
 ghost use Rattle.std.specs.List.{flat_map, list_all};
 ghost use Rattle.sel_bits.specs.Limits.{max_buffer_bytes};
 ghost use Rattle.sel_arrow.specs.Columns.{binview_rows};
 ghost use Rattle.sel_arrow.specs.DataType.{shape_of};
 ghost use Rattle.sel_arrow.specs.Masked.{Covers, masked};
-ghost use Rattle.sel_arrow.specs.Shape.{Shape, shapes_of, of_boolean, of_large_binary, of_utf8_view, of_large_list, of_fixed_size_list, of_struct};
+ghost use Rattle.sel_arrow.specs.Shape.{Shape, shapes_of, of_null, of_binary_view, of_boolean, of_large_binary, of_utf8_view, of_large_list, of_fixed_size_list, of_struct};
 ghost use Rattle.sel_arrow.specs.Views.{inline_bytes, view_of};
 ghost use Rattle.sel_arrow.specs.Value.{Value, Null, Number, is_valid};
 ghost use Rattle.sel_text.specs.Below.{offsets_below, HasParts};
@@ -20,7 +20,7 @@ ghost use Rattle.sel_text.specs.Steps.{IsMemoryFault};
 
 use crate::cell::Whole;
 use crate::item::Item;
-use crate::row_runs::{RowRun, RowWalk, once_each, row_count};
+use crate::row_runs::{RowRun, RowWalk, once_each, push_entries, row_count};
 use crate::text_error::Fault;
 use crate::whole::FromWhole;
 use sel_arrow::array::Array;
@@ -52,7 +52,6 @@ pub enum NullSlots {
 }
 
 /// Builds the column of type `dtype` with these rows, assuming that they fit the type.
-#[cycle(building)]
 pub(crate) fn build(
     dtype: &ArrowDataType,
     alloc: Global,
@@ -62,8 +61,26 @@ pub(crate) fn build(
     ensures { list_all (fits (shape_of dtype.now)) (rows_repeated items.now) ≡ true →
         MakesColumn beneath (shape_of dtype.now) (rows_repeated items.now) result }
 {
+    let null = Item::Null;
+    build_column(dtype, alloc, items, beneath, &null)
+}
+
+/// Builds the column of type `dtype` with these rows; `null` is a null row, for the child rows of
+/// null rows.
+#[cycle(building)]
+fn build_column(
+    dtype: &ArrowDataType,
+    alloc: Global,
+    items: &[RowRun<'_>],
+    beneath: NullSlots,
+    null: &Item,
+) -> Result<ArrayRef, Fault>
+    requires { item_value null.now ≡ Null }
+    ensures { list_all (fits (shape_of dtype.now)) (rows_repeated items.now) ≡ true →
+        MakesColumn beneath (shape_of dtype.now) (rows_repeated items.now) result }
+{
     match dtype {
-        ArrowDataType::Null => Ok(NullArray::try_new(row_count(items)?)?.into_ref()),
+        ArrowDataType::Null => nulls(items),
         ArrowDataType::Boolean => truths(alloc, items, beneath),
         ArrowDataType::Int8 => numbers::<i8>(alloc, items, beneath),
         ArrowDataType::Int16 => numbers::<i16>(alloc, items, beneath),
@@ -76,11 +93,32 @@ pub(crate) fn build(
         ArrowDataType::UInt64 => numbers::<u64>(alloc, items, beneath),
         ArrowDataType::UInt128 => numbers::<u128>(alloc, items, beneath),
         ArrowDataType::LargeBinary => pieces(alloc, items, beneath),
-        ArrowDataType::BinaryView => Ok(views(alloc, items, beneath)?.into_ref()),
+        ArrowDataType::BinaryView => byte_views(alloc, items, beneath),
         ArrowDataType::Utf8View => texts(alloc, items, beneath),
-        ArrowDataType::LargeList(child) => lists(child, alloc, items, beneath),
-        ArrowDataType::FixedSizeList(child, size) => blocks(child, *size, alloc, items, beneath),
-        ArrowDataType::Struct(fields) => tuples(fields, alloc, items, beneath),
+        ArrowDataType::LargeList(child) => lists(child, alloc, items, beneath, null),
+        ArrowDataType::FixedSizeList(child, size) => blocks(
+            child, *size, alloc, items, beneath, null,
+        ),
+        ArrowDataType::Struct(fields) => tuples(fields, alloc, items, beneath, null),
+    }
+}
+
+/// Returns the number of the rows and their validity. Fails only with `OutOfMemory`.
+fn count_and_validity(alloc: Global, items: &[RowRun<'_>]) -> Result<(usize, Option<Bitmap>), Fault>
+    ensures count { IfOk result (λ made. made.0 ≡ length (rows_repeated items.now)) }
+    ensures covers { IfOk result (λ made. Covers made.1 (length (rows_repeated items.now))) }
+    ensures hides { IfOk result (λ made. (plain : List Value) →
+        ShowsRows (rows_repeated items.now) plain →
+        masked made.1 plain ≡ rows_repeated items.now) }
+    ensures memory { IfErr result IsMemoryFault }
+{
+    let count = match row_count(items) {
+        Ok(count) => count,
+        Err(fault) => return Err(fault),
+    };
+    match validity_of(alloc, items) {
+        Ok(validity) => Ok((count, validity)),
+        Err(fault) => Err(fault),
     }
 }
 
@@ -123,6 +161,15 @@ fn is_filled(item: &Item) -> bool
     ensures { result ≡ is_valid (item_value item.now) }
 {
     !matches!(item, Item::Null)
+}
+
+/// Builds a column of the null type.
+fn nulls(items: &[RowRun<'_>]) -> Result<ArrayRef, Fault>
+    ensures { (beneath : NullSlots) → list_all (fits of_null) (rows_repeated items.now) ≡ true →
+        MakesColumn beneath of_null (rows_repeated items.now) result }
+{
+    let count = row_count(items)?;
+    Ok(NullArray::try_new(count)?.into_ref())
 }
 
 /// Builds a boolean column.
@@ -235,7 +282,18 @@ fn offset_at(place: usize) -> Result<i64, Fault>
     }
 }
 
-/// Builds a binary view column; byte strings longer than 12 bytes go to a single data buffer.
+/// Builds a binary view column.
+fn byte_views(alloc: Global, items: &[RowRun<'_>], beneath: NullSlots) -> Result<ArrayRef, Fault>
+    ensures { list_all (fits of_binary_view) (rows_repeated items.now) ≡ true →
+        MakesColumn beneath of_binary_view (rows_repeated items.now) result }
+{
+    match views(alloc, items, beneath) {
+        Ok(array) => Ok(array.into_ref()),
+        Err(fault) => Err(fault),
+    }
+}
+
+/// Builds the array of a binary view column; byte strings longer than 12 bytes go to a single data buffer.
 fn views(alloc: Global, items: &[RowRun<'_>], beneath: NullSlots) -> Result<BinaryViewArray, Fault>
     ensures views { IfOk result (λ array. (shape : Shape) → is_view_shape shape ≡ true →
         list_all (fits shape) (rows_repeated items.now) ≡ true →
@@ -307,31 +365,94 @@ fn lists(
     alloc: Global,
     items: &[RowRun<'_>],
     beneath: NullSlots,
+    null: &Item,
 ) -> Result<ArrayRef, Fault>
+    requires { item_value null.now ≡ Null }
     ensures { list_all (fits (of_large_list (shape_of dtype.now))) (rows_repeated items.now) ≡
         true → MakesColumn beneath (of_large_list (shape_of dtype.now)) (rows_repeated items.now)
         result }
 {
-    let null = Item::Null;
-    let (entries, offsets) = match entries_between(alloc, items, &null, beneath) {
-        Ok(made) => made,
-        Err(fault) => return Err(fault),
-    };
-    let entries = match once_each(alloc, &entries) {
-        Ok(entries) => entries,
-        Err(fault) => return Err(fault),
-    };
     let validity = match validity_of(alloc, items) {
         Ok(validity) => validity,
         Err(fault) => return Err(fault),
     };
-    let child = match build(dtype, alloc, &entries, beneath) {
-        Ok(child) => child,
+    match list_child(dtype, alloc, items, beneath, null) {
+        Ok((child, offsets)) => list_column(alloc, offsets, child, validity),
+        Err(fault) => Err(fault),
+    }
+}
+
+/// Builds the child of a list column, and its offsets.
+#[cycle(building)]
+fn list_child(
+    dtype: &ArrowDataType,
+    alloc: Global,
+    items: &[RowRun<'_>],
+    beneath: NullSlots,
+    null: &Item,
+) -> Result<(ArrayRef, OffsetsBuffer<i64>), Fault>
+    requires { item_value null.now ≡ Null }
+    ensures child { list_all (fits (of_large_list (shape_of dtype.now)))
+        (rows_repeated items.now) ≡ true → MatchResult result (λ made.
+        MakesColumn beneath (shape_of dtype.now)
+        (flat_map (entries_in beneath) (rows_repeated items.now)) (Ok made.0))
+        (λ fault. ReportsLimit (exceeds_limit beneath (shape_of dtype.now)
+        (flat_map (entries_in beneath) (rows_repeated items.now))) fault) }
+    ensures offsets { IfOk result (λ made. made.1 ≡
+        offsets_below (entries_in beneath) (rows_repeated items.now)) }
+{
+    let (entries, offsets) = match runs_between(alloc, items, null, beneath) {
+        Ok(made) => made,
         Err(fault) => return Err(fault),
     };
+    match build_column(dtype, alloc, &entries, beneath, null) {
+        Ok(child) => Ok((child, offsets)),
+        Err(fault) => Err(fault),
+    }
+}
+
+/// Returns the list column with these parts.
+fn list_column(
+    alloc: Global,
+    offsets: OffsetsBuffer<i64>,
+    child: ArrayRef,
+    validity: Option<Bitmap>,
+) -> Result<ArrayRef, Fault>
+    ensures { (beneath : NullSlots) (shape : Shape) (values : List Value) →
+        list_all (fits (of_large_list shape)) values ≡ true →
+        offsets ≡ offsets_below (entries_in beneath) values →
+        MakesColumn beneath shape (flat_map (entries_in beneath) values) (Ok child) →
+        Covers validity (length values) →
+        ((plain : List Value) → ShowsRows values plain → masked validity plain ≡ values) →
+        MakesColumn beneath (of_large_list shape) values result }
+{
     match ListArray::try_new(alloc, offsets, child, validity) {
         Ok(array) => Ok(array.into_ref()),
         Err(fault) => Err(Fault::from(fault)),
+    }
+}
+
+/// Returns the concatenated entries of the lists, each as a run of one, and their offsets.
+fn runs_between<'a, 'b: 'a>(
+    alloc: Global,
+    items: &[RowRun<'b>],
+    null: &'a Item,
+    beneath: NullSlots,
+) -> Result<(Vec<RowRun<'a>>, OffsetsBuffer<i64>), Fault>
+    ensures entries { item_value null.now ≡ Null →
+        IfOk result (λ made. rows_repeated made.0.items ≡ flat_map (entries_in beneath)
+        (rows_repeated items.now)) }
+    ensures offsets { item_value null.now ≡ Null → IfOk result (λ made. made.1 ≡
+        offsets_below (entries_in beneath) (rows_repeated items.now)) }
+    ensures memory { item_value null.now ≡ Null → IfErr result IsMemoryFault }
+{
+    let (entries, offsets) = match entries_between(alloc, items, null, beneath) {
+        Ok(made) => made,
+        Err(fault) => return Err(fault),
+    };
+    match once_each(alloc, &entries) {
+        Ok(runs) => Ok((runs, offsets)),
+        Err(fault) => Err(fault),
     }
 }
 
@@ -388,7 +509,7 @@ fn push_below<'a, 'b: 'a>(
     }
     match beneath {
         NullSlots::Zeros => Ok(()),
-        NullSlots::Others => push_copies(entries, null, 1),
+        NullSlots::Others => Ok(entries.push(null)?),
     }
 }
 
@@ -412,22 +533,37 @@ fn blocks(
     alloc: Global,
     items: &[RowRun<'_>],
     beneath: NullSlots,
+    null: &Item,
 ) -> Result<ArrayRef, Fault>
+    requires { item_value null.now ≡ Null }
     ensures { list_all (fits (of_fixed_size_list (shape_of dtype.now) size))
         (rows_repeated items.now) ≡ true → MakesColumn beneath
         (of_fixed_size_list (shape_of dtype.now) size) (rows_repeated items.now) result }
 {
-    let child = match block_child(dtype, size, alloc, items, beneath) {
-        Ok(child) => child,
-        Err(fault) => return Err(fault),
-    };
-    let validity = match validity_of(alloc, items) {
-        Ok(validity) => validity,
-        Err(fault) => return Err(fault),
-    };
-    let count = match row_count(items) {
-        Ok(count) => count,
-        Err(fault) => return Err(fault),
+    match block_child(dtype, size, alloc, items, beneath, null) {
+        Ok(child) => block_column(alloc, size, items, child),
+        Err(fault) => Err(fault),
+    }
+}
+
+/// Builds a fixed-size list column of list size `size` of its child.
+fn block_column(
+    alloc: Global,
+    size: usize,
+    items: &[RowRun<'_>],
+    child: ArrayRef,
+) -> Result<ArrayRef, Fault>
+    ensures { (beneath : NullSlots) (shape : Shape) → list_all (fits (of_fixed_size_list shape size))
+        (rows_repeated items.now) ≡ true → MakesColumn beneath shape
+        (flat_map (block_in size) (rows_repeated items.now)) (Ok child) → MakesColumn beneath
+        (of_fixed_size_list shape size) (rows_repeated items.now) result }
+{
+    let (count, validity) = match count_and_validity(alloc, items) {
+        Ok(made) => made,
+        Err(fault) => {
+            drop(child);
+            return Err(fault);
+        }
     };
     match FixedSizeListArray::try_new(alloc, size, count, child, validity) {
         Ok(array) => Ok(array.into_ref()),
@@ -444,7 +580,9 @@ fn block_child(
     alloc: Global,
     items: &[RowRun<'_>],
     beneath: NullSlots,
+    null: &Item,
 ) -> Result<ArrayRef, Fault>
+    requires { item_value null.now ≡ Null }
     ensures { list_all (fits (of_fixed_size_list (shape_of dtype.now) size))
         (rows_repeated items.now) ≡ true → MakesColumn beneath (shape_of dtype.now)
         (flat_map (block_in size) (rows_repeated items.now)) result }
@@ -463,17 +601,15 @@ fn block_child(
     if let ArrowDataType::Null = dtype {
         return Ok(NullArray::try_new(count)?.into_ref());
     }
-    let null = Item::Null;
-    let entries = match entries_of(alloc, items, &null, size) {
+    let entries = match entries_of(alloc, items, null, size) {
         Ok(entries) => entries,
         Err(fault) => return Err(fault),
     };
-    build(dtype, alloc, &entries, beneath)
+    build_column(dtype, alloc, &entries, beneath, null)
 }
 
 /// Returns the concatenated entries of the lists, with a run of `size` nulls for each null row.
 /// Fails only with `OutOfMemory`.
-#[tactic(auto, using(crate::proofs::RowRuns::runs_more))]
 fn entries_of<'a, 'b: 'a>(
     alloc: Global,
     items: &[RowRun<'b>],
@@ -549,33 +685,6 @@ fn push_repeated<'a>(
     Ok(())
 }
 
-/// Appends each entry of a list. Fails only with `OutOfMemory`.
-fn push_entries<'a>(entries: &mut Vec<RowRun<'a>>, list: &'a [Item]) -> Result<(), Fault>
-    ensures entries { OnOk result (rows_repeated entries.new.items ≡
-        rows_repeated entries.old.items ++ map item_value list.now) }
-    ensures memory { IfErr result IsMemoryFault }
-{
-    for entry in list {
-        entries.push(RowRun {
-            item: entry,
-            times: 1,
-        })?;
-    }
-    Ok(())
-}
-
-/// Appends `count` copies of an entry. Fails only with `OutOfMemory`.
-fn push_copies<'a>(entries: &mut Vec<&'a Item>, entry: &'a Item, count: usize) -> Result<(), Fault>
-    ensures entries { OnOk result (rows_read entries.new.items ≡
-        rows_read entries.old.items ++ replicate count (item_value entry.now)) }
-    ensures memory { IfErr result IsMemoryFault }
-{
-    for _ in 0..count {
-        entries.push(entry)?;
-    }
-    Ok(())
-}
-
 /// Builds a struct column.
 #[cycle(building)]
 fn tuples(
@@ -583,28 +692,23 @@ fn tuples(
     alloc: Global,
     items: &[RowRun<'_>],
     beneath: NullSlots,
+    null: &Item,
 ) -> Result<ArrayRef, Fault>
+    requires { item_value null.now ≡ Null }
     ensures { list_all (fits (of_struct (shapes_of (map shape_of dtypes.now))))
         (rows_repeated items.now) ≡ true →
         MakesColumn beneath (of_struct (shapes_of (map shape_of dtypes.now)))
         (rows_repeated items.now) result }
 {
-    let validity = match validity_of(alloc, items) {
-        Ok(validity) => validity,
+    let (count, validity) = match count_and_validity(alloc, items) {
+        Ok(made) => made,
         Err(fault) => return Err(fault),
     };
     let mut fields = Vec::with_capacity(alloc, dtypes.len())?;
-    if let Err(fault) = push_fields(&mut fields, dtypes, alloc, items, beneath) {
+    if let Err(fault) = push_fields(&mut fields, dtypes, alloc, items, beneath, null) {
         drop(fields);
         return Err(fault);
     }
-    let count = match row_count(items) {
-        Ok(count) => count,
-        Err(fault) => {
-            drop(fields);
-            return Err(fault);
-        }
-    };
     match StructArray::try_new(alloc, count, fields, validity) {
         Ok(array) => Ok(array.into_ref()),
         Err(fault) => Err(Fault::from(fault)),
@@ -619,7 +723,9 @@ fn push_fields(
     alloc: Global,
     items: &[RowRun<'_>],
     beneath: NullSlots,
+    null: &Item,
 ) -> Result<(), Fault>
+    requires { item_value null.now ≡ Null }
     ensures fields { list_all (fits (of_struct (shapes_of (map shape_of dtypes.now))))
         (rows_repeated items.now) ≡ true → OnOk result (HasParts fields.new.items
         fields.old.items (map shape_of dtypes.now) (rows_repeated items.now)) }
@@ -631,12 +737,11 @@ fn push_fields(
         (shapes_of (map shape_of dtypes.now)) 0 (rows_repeated items.now))) }
 {
     for (k, dtype) in dtypes.iter().enumerate() {
-        let null = Item::Null;
-        let parts = match parts_at(alloc, items, k, &null) {
+        let parts = match parts_at(alloc, items, k, null) {
             Ok(parts) => parts,
             Err(fault) => return Err(fault),
         };
-        let field = match build(dtype, alloc, &parts, beneath) {
+        let field = match build_column(dtype, alloc, &parts, beneath, null) {
             Ok(field) => field,
             Err(fault) => return Err(fault),
         };
@@ -650,7 +755,6 @@ fn push_fields(
 
 /// Returns the entry of each struct row at index `place`, or `other` for a null row. Fails only
 /// with `OutOfMemory`.
-#[tactic(auto, using(crate::proofs::RowRuns::runs_more))]
 fn parts_at<'a, 'b: 'a>(
     alloc: Global,
     items: &[RowRun<'b>],

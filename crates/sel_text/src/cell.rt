@@ -8,8 +8,9 @@ ghost use Rattle.sel_arrow.specs.Masked.{bytes_value, number_value, bool_value};
 ghost use Rattle.sel_arrow.specs.Rows.{rows, type_of, IsWellFormed};
 ghost use Rattle.sel_arrow.specs.Shape.{Shape};
 ghost use Rattle.sel_arrow.specs.Value.{Null};
+ghost use Rattle.sel_arrow.specs.declared.column.Column.{Column};
 ghost use Rattle.sel_text.specs.Texts.{is_text_shape};
-ghost use Rattle.sel_text.specs.Cells.{cell_value, whole_number, CellFits, CellKind, HasCellRow, IsBelow, is_flat};
+ghost use Rattle.sel_text.specs.Cells.{cell_value, whole_number, CellFits, CellKind, HasCellRow, IsBelow};
 
 use sel_arrow::binview::BinaryViewArray;
 use sel_arrow::column::Column;
@@ -107,7 +108,6 @@ impl ToWhole for u128 {
 }
 
 /// Returns row `i` of a column.
-#[tactic(auto, using(crate::proofs::CellRows::nested_cells))]
 pub(crate) fn cell_at(column: &Column, i: usize) -> Cell<'_>
     requires { HasCellRow i column.now }
     ensures value { cell_value result ≡ slice_index_or (rows column.now) i Null }
@@ -170,7 +170,7 @@ pub(crate) fn cell_at(column: &Column, i: usize) -> Cell<'_>
 
 fn of_boolean_value(row: Option<bool>) -> Cell<'static>
     ensures value { cell_value result ≡ bool_value row }
-    ensures flat { is_flat result ≡ true }
+    ensures below { (column : Column) → IsBelow column result }
     ensures fits { CellFits result }
     ensures kind { (shape : Shape) → is_text_shape shape ≡ false → CellKind shape result }
 {
@@ -182,7 +182,7 @@ fn of_boolean_value(row: Option<bool>) -> Cell<'static>
 
 fn of_number<T: ToWhole>(row: Option<T>) -> Cell<'static>
     ensures value { cell_value result ≡ number_value T.number row }
-    ensures flat { is_flat result ≡ true }
+    ensures below { (column : Column) → IsBelow column result }
     ensures fits { CellFits result }
     ensures kind { (shape : Shape) → is_text_shape shape ≡ false → CellKind shape result }
 {
@@ -194,7 +194,7 @@ fn of_number<T: ToWhole>(row: Option<T>) -> Cell<'static>
 
 fn of_bytes(row: Option<&[u8]>) -> Cell<'_>
     ensures value { cell_value result ≡ bytes_value (option_copied row.entry) }
-    ensures flat { is_flat result ≡ true }
+    ensures below { (column : Column) → IsBelow column result }
     ensures fits { CellFits result }
     ensures kind { (shape : Shape) → is_text_shape shape ≡ false → CellKind shape result }
 {
@@ -204,11 +204,10 @@ fn of_bytes(row: Option<&[u8]>) -> Cell<'_>
     }
 }
 
-#[tactic(auto, using(sel_arrow::proofs::ViewRows::view_columns))]
 fn of_view(array: &BinaryViewArray, i: usize) -> Cell<'_>
     requires { i < length (binview_rows array.now) }
     ensures value { cell_value result ≡ slice_index_or (binview_rows array.now) i Null }
-    ensures flat { is_flat result ≡ true }
+    ensures below { (column : Column) → IsBelow column result }
     ensures fits { CellFits result }
     ensures kind { (shape : Shape) → is_text_shape shape ≡ false → CellKind shape result }
 {
@@ -219,11 +218,10 @@ fn of_view(array: &BinaryViewArray, i: usize) -> Cell<'_>
     }
 }
 
-#[tactic(auto, using(sel_arrow::proofs::ViewRows::view_columns))]
 fn of_text(array: &Utf8ViewArray, i: usize) -> Cell<'_>
     requires { i < length (utf8view_rows array.now) }
     ensures value { cell_value result ≡ slice_index_or (utf8view_rows array.now) i Null }
-    ensures flat { is_flat result ≡ true }
+    ensures below { (column : Column) → IsBelow column result }
     ensures fits { CellFits result }
     ensures kind { (shape : Shape) → is_text_shape shape ≡ true → CellKind shape result }
 {

@@ -9,6 +9,7 @@ ghost use Rattle.sel_text.specs.Fits.{fits};
 ghost use Rattle.sel_text.specs.ItemValues.{item_value};
 ghost use Rattle.sel_text.specs.Limits.{exceeds_limit};
 ghost use Rattle.sel_text.specs.Notation.{is_row_notation};
+ghost use Rattle.sel_text.specs.RowRuns.{rows_repeated};
 ghost use Rattle.sel_text.specs.Steps.{ReportsLimit, MakesColumn};
 ghost use Rattle.sel_text.specs.Spelling.{spelled};
 ghost use Rattle.sel_text.specs.TextErrors.{HasFittingRows, IsLimitOrMemoryError, IsOffsetWithin, IsRowTextError};
@@ -19,7 +20,7 @@ use crate::build::{NullSlots, build};
 use crate::item::{Item, read_items};
 use crate::item_text::have_text;
 use crate::print::print_rows;
-use crate::row_runs::RowRun;
+use crate::row_runs::{RowRun, push_entries};
 use crate::spelling::spelling;
 use crate::syntax::find_row_error;
 use crate::text_error::{Fault, TextError};
@@ -241,9 +242,20 @@ fn build_rows(
     ensures { list_all (fits (shape_of dtype.now)) (map item_value items.now) ≡ true →
         MakesColumn beneath (shape_of dtype.now) (map item_value items.now) result }
 {
-    let mut rows = Vec::with_capacity(alloc, items.len())?;
-    for item in items {
-        rows.push(RowRun { item, times: 1 })?;
-    }
+    let rows = match single_runs(alloc, items) {
+        Ok(rows) => rows,
+        Err(fault) => return Err(fault),
+    };
     build(dtype, alloc, &rows, beneath)
+}
+
+/// Returns each of the rows as a run of one. Fails only with `OutOfMemory`.
+fn single_runs(alloc: Global, items: &[Item]) -> Result<Vec<RowRun<'_>>, Fault>
+    ensures rows { IfOk result (λ rows.
+        rows_repeated rows.items ≡ map item_value items.now) }
+    ensures memory { IfErr result IsMemoryFault }
+{
+    let mut rows = Vec::with_capacity(alloc, items.len())?;
+    push_entries(&mut rows, items)?;
+    Ok(rows)
 }

@@ -1,6 +1,6 @@
 //! Parsing of data types.
 
-ghost use Rattle.std.specs.Prelude.{◌≡◌, ◌≢◌, ◌<◌, ◌≤◌, ◌∷◌, ◌++◌, ◌^◌, ℕ, List, true, IfOk, IfErr, IfSome, IfNone, IsOkAnd, MatchResult, IsTrue, map, length, nat_lt, codes};
+ghost use Rattle.std.specs.Prelude.{◌≡◌, ◌≢◌, ◌<◌, ◌≤◌, ◌∷◌, ◌++◌, ◌^◌, ℕ, List, true, IfOk, IfErr, IfSome, IfNone, IsOkAnd, MatchResult, IsTrue, ◌-◌, map, length, nat_lt, codes};
 ghost use Rattle.std.specs.Fmt.{decimal};
 ghost use Rattle.sel_arrow.specs.DataType.{shape_of};
 ghost use Rattle.sel_text.specs.Notation.{is_type_notation};
@@ -224,11 +224,48 @@ fn read_list(alloc: Global, bytes: &[u8], levels: usize) -> Result<(ArrowDataTyp
         MatchResult result (λ read. (shape_of read.0 ≡ shape) × (read.1.now ≡ more))
         (ReportsLimit (nat_lt levels (depth shape))) }
 {
-    let rest = expect(bytes, b"<")?;
-    let (child, rest) = read_type(alloc, rest, levels - 1)?;
-    let rest = expect(rest, b">")?;
-    let child = Box::new(alloc, child)?;
-    Ok((ArrowDataType::LargeList(child), rest))
+    let rest = match expect(bytes, b"<") {
+        Ok(rest) => rest,
+        Err(fault) => return Err(fault),
+    };
+    match read_child(alloc, rest, levels) {
+        Ok((child, rest)) => Ok((ArrowDataType::LargeList(child), rest)),
+        Err(fault) => Err(fault),
+    }
+}
+
+/// Parses the child of a list type and the closing bracket.
+#[cycle(reading_types)]
+fn read_child(
+    alloc: Global,
+    bytes: &[u8],
+    levels: usize,
+) -> Result<(Box<ArrowDataType>, &[u8]), Fault>
+    requires { 0 < levels }
+    ensures text { IfOk result (λ read.
+        bytes.now ≡ type_text (shape_of read.0.value) ++ 62 ∷ read.1.now) }
+    ensures levels { IfOk result (λ read. depth (shape_of read.0.value) < levels) }
+    ensures widths { IfOk result (λ read. IsTrue (widths_written (shape_of read.0.value))) }
+    ensures whole { (shape : Shape) (more : List ℕ) → IsTrue (widths_written shape) →
+        bytes.now ≡ type_text shape ++ 62 ∷ more →
+        MatchResult result (λ read. (shape_of read.0.value ≡ shape) × (read.1.now ≡ more))
+        (ReportsLimit (nat_lt (levels - 1) (depth shape))) }
+{
+    let (child, rest) = match read_type(alloc, bytes, levels - 1) {
+        Ok(read) => read,
+        Err(fault) => return Err(fault),
+    };
+    let rest = match expect(rest, b">") {
+        Ok(rest) => rest,
+        Err(fault) => {
+            drop(child);
+            return Err(fault);
+        }
+    };
+    match Box::new(alloc, child) {
+        Ok(child) => Ok((child, rest)),
+        Err(failed) => Err(Fault::from(failed)),
+    }
 }
 
 /// Parses a fixed-size list type, after its name.
@@ -244,13 +281,35 @@ fn read_blocks(alloc: Global, bytes: &[u8], levels: usize) -> Result<(ArrowDataT
         MatchResult result (λ read. (shape_of read.0 ≡ shape) × (read.1.now ≡ more))
         (ReportsLimit (nat_lt levels (depth shape))) }
 {
-    let rest = expect(bytes, b"<")?;
-    let (size, rest) = read_size(rest)?;
-    let rest = expect(rest, b",")?;
-    let (child, rest) = read_type(alloc, rest, levels - 1)?;
-    let rest = expect(rest, b">")?;
-    let child = Box::new(alloc, child)?;
-    Ok((ArrowDataType::FixedSizeList(child, size), rest))
+    let (size, rest) = match read_width(bytes) {
+        Ok(read) => read,
+        Err(fault) => return Err(fault),
+    };
+    match read_child(alloc, rest, levels) {
+        Ok((child, rest)) => Ok((ArrowDataType::FixedSizeList(child, size), rest)),
+        Err(fault) => Err(fault),
+    }
+}
+
+/// Parses the opening bracket, the list size and the comma of a fixed-size list type.
+fn read_width(bytes: &[u8]) -> Result<(usize, &[u8]), Fault>
+    ensures text { IfOk result (λ read. bytes.now ≡ 60 ∷ decimal read.0 ++ 44 ∷ read.1.now) }
+    ensures whole { (size : ℕ) (more : List ℕ) → size < 2 ^ 64 →
+        bytes.now ≡ 60 ∷ decimal size ++ 44 ∷ more →
+        IsOkAnd result (λ read. (read.0 ≡ size) × (read.1.now ≡ more)) }
+{
+    let rest = match expect(bytes, b"<") {
+        Ok(rest) => rest,
+        Err(fault) => return Err(fault),
+    };
+    let (size, rest) = match read_size(rest) {
+        Ok(read) => read,
+        Err(fault) => return Err(fault),
+    };
+    match expect(rest, b",") {
+        Ok(rest) => Ok((size, rest)),
+        Err(fault) => Err(fault),
+    }
 }
 
 /// Parses a list size at the front.
@@ -287,12 +346,17 @@ fn read_struct_type(
         MatchResult result (λ read. (shape_of read.0 ≡ shape) × (read.1.now ≡ more))
         (ReportsLimit (nat_lt levels (depth shape))) }
 {
-    let rest = expect(bytes, b"<")?;
+    let rest = match expect(bytes, b"<") {
+        Ok(rest) => rest,
+        Err(fault) => return Err(fault),
+    };
     if let Some(rest) = behind(rest, b">") {
         return Ok((ArrowDataType::Struct(Vec::new(alloc)), rest));
     }
-    let (fields, rest) = read_fields(alloc, rest, levels)?;
-    Ok((ArrowDataType::Struct(fields), rest))
+    match read_fields(alloc, rest, levels) {
+        Ok((fields, rest)) => Ok((ArrowDataType::Struct(fields), rest)),
+        Err(fault) => Err(fault),
+    }
 }
 
 /// Parses field types up to the closing bracket; there is at least one.

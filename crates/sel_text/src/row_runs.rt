@@ -1,6 +1,6 @@
 //! Parsed rows that a column is built of, each stored once however often it is repeated.
 
-ghost use Rattle.std.specs.Prelude.{◌≡◌, ◌<◌, ◌∷◌, ◌++◌, length, replicate, IfOk, IfErr, OnOk};
+ghost use Rattle.std.specs.Prelude.{◌≡◌, ◌<◌, ◌∷◌, ◌++◌, length, map, replicate, IfOk, IfErr, OnOk};
 ghost use Rattle.sel_text.specs.ItemValues.{item_value, rows_read};
 ghost use Rattle.sel_text.specs.RowRuns.{all_items, left, rows_repeated};
 ghost use Rattle.sel_text.specs.Steps.{IsMemoryFault};
@@ -41,6 +41,21 @@ pub(crate) fn once_each<'a>(alloc: Global, items: &[&'a Item]) -> Result<Vec<Row
         runs.push(RowRun { item, times: 1 })?;
     }
     Ok(runs)
+}
+
+/// Appends each row of `list` as a run of one. Fails only with `OutOfMemory`.
+pub(crate) fn push_entries<'a>(entries: &mut Vec<RowRun<'a>>, list: &'a [Item]) -> Result<(), Fault>
+    ensures entries { OnOk result (rows_repeated entries.new.items ≡
+        rows_repeated entries.old.items ++ map item_value list.now) }
+    ensures memory { IfErr result IsMemoryFault }
+{
+    for entry in list {
+        entries.push(RowRun {
+            item: entry,
+            times: 1,
+        })?;
+    }
+    Ok(())
 }
 
 /// The rows of some runs that are left, as an iterator.

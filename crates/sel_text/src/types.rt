@@ -1,6 +1,6 @@
 //! Printing of data types.
 
-ghost use Rattle.std.specs.Prelude.{◌≡◌, ◌++◌, map, string_bytes, IfOk, IfErr, OnOk};
+ghost use Rattle.std.specs.Prelude.{◌≡◌, ◌++◌, ◌∷◌, [], map, string_bytes, IfOk, IfErr, OnOk};
 ghost use Rattle.sel_bits.specs.Faults.{IsOutOfMemory};
 ghost use Rattle.sel_arrow.specs.DataType.{shape_of};
 ghost use Rattle.sel_text.specs.Types.{angled, type_text};
@@ -46,21 +46,28 @@ fn push_dtype(dtype: &ArrowDataType, text: &mut String) -> Result<(), AllocError
         ArrowDataType::Utf8View => text.push_str("utf8"),
         ArrowDataType::LargeList(child) => {
             text.push_str("list<")?;
-            push_dtype(child, text)?;
-            text.push_str(">")?;
-            Ok(())
+            push_child(child, text)
         }
         ArrowDataType::FixedSizeList(child, size) => {
             write!(text, "fixed<{},", *size)?;
-            push_dtype(child, text)?;
-            text.push_str(">")?;
-            Ok(())
+            push_child(child, text)
         }
         ArrowDataType::Struct(fields) => {
             text.push_str("struct")?;
             push_dtypes(fields, text)
         }
     }
+}
+
+/// Appends the notation of the child of a list type and the closing bracket to `text`.
+#[cycle(naming)]
+fn push_child(dtype: &ArrowDataType, text: &mut String) -> Result<(), AllocError>
+    ensures { OnOk result (string_bytes text.new ≡
+        string_bytes text.old ++ type_text (shape_of dtype.now) ++ 62 ∷ []) }
+{
+    push_dtype(dtype, text)?;
+    text.push('>')?;
+    Ok(())
 }
 
 /// Appends the notations of data types between angle brackets to `text`.

@@ -1,65 +1,50 @@
-use Rattle.std.proofs.Common.{◌≡◌, ◌<◌, map, length, replicate, true, false, append-nil, refl, sym, ap, subst, ◌∙◌, arith}
-use Rattle.sel_text.proofs.Common.{or_from, or_left, or_right, flat_map, list_all, take_all, max_rows, shape_of, type_of, of_null, of_binary_view, of_large_list, of_fixed_size_list, of_struct, shapes_of, Null, HasParts, fits, rows_read, rows_repeated, any_exceeds_limit, block_in, exceeds_max, exceeds_limit, ReportsLimit, MakesColumn}
-use Rattle.sel_arrow.proofs.NestedRows.{length-rows}
+use Rattle.std.proofs.Common.{Ok, ◌≡◌, ◌<◌, map, length, replicate, true, false, append-nil, refl, sym, ap, subst, ◌∙◌, arith}
+use Rattle.sel_text.proofs.Common.{or_from, or_left, or_right, flat_map, list_all, take_all, max_rows, shape_of, of_null, of_fixed_size_list, of_struct, shapes_of, Null, HasParts, fits, rows_repeated, any_exceeds_limit, block_in, exceeds_limit, ReportsLimit, MakesColumn}
 use Rattle.sel_arrow.proofs.Types.{struct_shape}
-use Rattle.sel_text.proofs.Below.{blocks_fit, blocks_made, blocks_many, blocks_null, blocks_past, blocks_wide, lists_fit, lists_made, lists_past, same_blocks, same_lists}
-use Rattle.sel_text.proofs.Making.{all_nulls, maker_told, told_more}
+use Rattle.sel_text.proofs.Below.{blocks_fit, blocks_many, blocks_null, blocks_wide, lists_fit}
+use Rattle.sel_text.proofs.Making.{maker_told, told_more}
 use Rattle.sel_text.proofs.PartRows.{parts_kept, parts_more, past_at, tuples_made, tuples_past}
-use Rattle.sel_text.proofs.Within.{fields_within, rows_few, width_few}
+use Rattle.sel_text.proofs.Within.{fields_within, rows_few}
 use Rattle.sel_text.proofs.build.+building.Goals as goal
 
 -- ---- nulls and structs
 
-pub build-returns-in_ok-try_new-in-Null : goal.build-returns-in_ok-try_new-in-Null
-build-returns-in_ok-try_new-in-Null t c = λ fit.
-    let vs = rows_repeated c.args.items.now in
-    let shape = ap shape_of c.in-Null.is in
-    let long = c.in_ok-try_new-in-Null.ensures.length ∙ c.in_ok-row_count-in-Null.ensures.count in
-    let are = c.into_ref.ensures.rows ∙ ap (λ n. replicate n Null) long ∙ all_nulls vs (ap (λ s. list_all (fits s) vs) (sym shape) ∙ fit) in
-    (c.into_ref.ensures.dtype ∙ sym shape, are, ap (λ s. exceeds_limit c.args.beneath s vs) shape ∙ rows_few c.into_ref.result vs are)
+pub build_column-returns-in-Null : goal.build_column-returns-in-Null
+build_column-returns-in-Null t c =
+    subst (λ s. list_all (fits s) (rows_repeated c.args.items.now) ≡ true → MakesColumn c.args.beneath s (rows_repeated c.args.items.now) c.nulls.result) (sym (ap shape_of c.in-Null.is)) (c.nulls.ensures c.args.beneath)
 
-pub build-returns-in_ok-views-in-BinaryView : goal.build-returns-in_ok-views-in-BinaryView
-build-returns-in_ok-views-in-BinaryView t c = λ fit.
-    let vs = rows_repeated c.args.items.now in
-    let shape = ap shape_of c.in-BinaryView.is in
-    let fits_view : list_all (fits of_binary_view) vs ≡ true = ap (λ s. list_all (fits s) vs) (sym shape) ∙ fit in
-    let made = c.into_ref-in-BinaryView in
-    let are = made.ensures.rows ∙ c.in_ok-views-in-BinaryView.ensures.views of_binary_view refl fits_view in
-    let within = or_from _ _ (rows_few made.result vs are) (c.in_ok-views-in-BinaryView.ensures.within of_binary_view refl fits_view) in
-    (made.ensures.dtype ∙ sym shape, are, ap (λ s. exceeds_limit c.args.beneath s vs) shape ∙ within)
-
-pub build-returns-in-Struct : goal.build-returns-in-Struct
-build-returns-in-Struct t c =
+pub build_column-returns-in-Struct : goal.build_column-returns-in-Struct
+build_column-returns-in-Struct t c =
     let same = ap (λ l. of_struct (shapes_of (map shape_of l))) c.deref-in-Struct.ensures.value ∙ sym (struct_shape c.args.dtype.now c.in-Struct.fields c.in-Struct.is) in
     subst (λ s. list_all (fits s) (rows_repeated c.args.items.now) ≡ true → MakesColumn c.args.beneath s (rows_repeated c.args.items.now) c.tuples.result) same c.tuples.ensures
 
 -- ---- lists
 
-pub lists-returns-in-Err-build : goal.lists-returns-in-Err-build
-lists-returns-in-Err-build t c = λ fit.
-    let read = ap rows_repeated c.deref-2.ensures.value ∙ c.in-Ok-once_each.ensures.rows ∙ ap rows_read c.deref.ensures.value ∙ c.in-Ok.ensures.entries refl in
-    let told = c.in-Err-build.ensures (lists_fit c.args.beneath _ (rows_repeated c.args.items.now) _ read fit) in
-    told_more _ _ _ (or_right _ _) (subst (λ l. ReportsLimit (exceeds_limit c.args.beneath (shape_of c.args.dtype.now) l) c.in-Err-build.fault) read told)
+pub list_child-returns-in-Ok-build_column : goal.list_child-returns-in-Ok-build_column
+list_child-returns-in-Ok-build_column t c =
+    let s = shape_of c.args.dtype.now in
+    let read = ap rows_repeated c.deref.ensures.value ∙ c.in-Ok.ensures.entries c.requires in
+    record {
+      child = λ fit. subst (λ l. MakesColumn c.args.beneath s l (Ok c.in-Ok-build_column.child)) read (c.in-Ok-build_column.ensures (lists_fit c.args.beneath s (rows_repeated c.args.items.now) _ read fit));
+      offsets = c.in-Ok.ensures.offsets c.requires;
+    }
 
-pub lists-returns-in-Ok-try_new : goal.lists-returns-in-Ok-try_new
-lists-returns-in-Ok-try_new t c = λ fit.
-    let read = ap rows_repeated c.deref-2.ensures.value ∙ c.in-Ok-once_each.ensures.rows ∙ ap rows_read c.deref.ensures.value ∙ c.in-Ok.ensures.entries refl in
-    let child = c.in-Ok-build.ensures (lists_fit c.args.beneath _ (rows_repeated c.args.items.now) _ read fit) in
-    let made = c.in-Ok-try_new.ensures in
-    let kept = lists_made c.args.beneath _ _ _ c.in-Ok.made.1 c.in-Ok-validity_of.validity fit (c.in-Ok.ensures.offsets refl) (child.1 ∙ read) c.in-Ok-validity_of.ensures.hides in
-    let are = c.into_ref.ensures.rows ∙ same_lists _ _ _ _ _ _ made.offsets made.values made.validity ∙ kept in (
-      c.into_ref.ensures.dtype ∙ ap (λ x. of_large_list (type_of x)) made.values ∙ ap of_large_list child.0,
-      are,
-      or_from _ _ (rows_few c.into_ref.result _ are) (ap (exceeds_limit c.args.beneath (shape_of c.args.dtype.now)) (sym read) ∙ child.2),
-    )
+pub list_child-returns : goal.list_child-returns
+list_child-returns t c =
+    let s = shape_of c.args.dtype.now in
+    let read = ap rows_repeated c.deref.ensures.value ∙ c.in-Ok.ensures.entries c.requires in
+    record {
+      child = λ fit. subst (λ l. ReportsLimit (exceeds_limit c.args.beneath s l) c.in-Err-build_column.fault) read (c.in-Err-build_column.ensures (lists_fit c.args.beneath s (rows_repeated c.args.items.now) _ read fit));
+      offsets = tt;
+    }
 
-pub lists-returns : goal.lists-returns
-lists-returns t c = λ fit.
-    let read = ap rows_repeated c.deref-2.ensures.value ∙ c.in-Ok-once_each.ensures.rows ∙ ap rows_read c.deref.ensures.value ∙ c.in-Ok.ensures.entries refl in
-    let count = sym (length-rows c.in-Ok-build.child.column) ∙ ap length ((c.in-Ok-build.ensures (lists_fit c.args.beneath _ (rows_repeated c.args.items.now) _ read fit)).1 ∙ read) in
-    let p = exceeds_limit c.args.beneath (of_large_list (shape_of c.args.dtype.now)) (rows_repeated c.args.items.now) in
-    subst (ReportsLimit p) (sym c.from.ensures) (maker_told _ c.in-Err-try_new.fault p c.in-Err-try_new.ensures.refused
-    (λ m is. or_left _ _ (lists_past _ _ c.in-Ok.made.1 _ c.in-Ok-validity_of.validity m (c.in-Ok.ensures.offsets refl) count c.in-Ok-validity_of.ensures.covers is)))
+pub lists-returns-in-Ok-list_child : goal.lists-returns-in-Ok-list_child
+lists-returns-in-Ok-list_child t c = λ fit.
+    let made = c.in-Ok-list_child.ensures in
+    c.list_column.ensures c.args.beneath (shape_of c.args.dtype.now) (rows_repeated c.args.items.now) fit made.offsets (made.child fit) c.in-Ok.ensures.covers c.in-Ok.ensures.hides
+
+pub lists-returns-in-Err-list_child : goal.lists-returns-in-Err-list_child
+lists-returns-in-Err-list_child t c = λ fit. told_more _ _ _ (or_right _ _) (c.in-Err-list_child.ensures.child fit)
 
 -- ---- fixed-size lists
 
@@ -80,44 +65,27 @@ block_child-returns-in-Null t c = λ fit.
 
 pub block_child-returns : goal.block_child-returns
 block_child-returns t c = λ fit.
-    let read = ap rows_repeated c.deref.ensures.value ∙ c.in-Ok-entries_of.ensures.entries refl in
-    subst (λ l. MakesColumn c.args.beneath (shape_of c.args.dtype.now) l c.build.result) read (c.build.ensures (blocks_fit _ c.args.size (rows_repeated c.args.items.now) _ read fit))
+    let read = ap rows_repeated c.deref.ensures.value ∙ c.in-Ok-entries_of.ensures.entries c.requires in
+    subst (λ l. MakesColumn c.args.beneath (shape_of c.args.dtype.now) l c.build_column.result) read (c.build_column.ensures (blocks_fit _ c.args.size (rows_repeated c.args.items.now) _ read fit))
+
+pub blocks-returns-in-Ok : goal.blocks-returns-in-Ok
+blocks-returns-in-Ok t c = λ fit. c.block_column.ensures c.args.beneath (shape_of c.args.dtype.now) fit (c.in-Ok.ensures fit)
 
 pub blocks-returns-in-Err : goal.blocks-returns-in-Err
 blocks-returns-in-Err t c = λ fit. told_more _ _ _ (or_right _ _) (c.in-Err.ensures fit)
 
-pub blocks-returns-in-Ok-try_new : goal.blocks-returns-in-Ok-try_new
-blocks-returns-in-Ok-try_new t c = λ fit.
-    let child = c.in-Ok.ensures fit in
-    let made = c.in-Ok-try_new.ensures in
-    let kept = blocks_made _ c.args.size _ _ c.in-Ok-row_count.count c.in-Ok-validity_of.validity fit c.in-Ok-row_count.ensures.count child.1 c.in-Ok-validity_of.ensures.hides in
-    let are = c.into_ref.ensures.rows ∙ same_blocks _ _ _ _ _ _ _ _ made.size made.len made.values made.validity ∙ kept in
-    let narrow = ap exceeds_max (sym made.size) ∙ width_few c.in-Ok-try_new.array in (
-      c.into_ref.ensures.dtype ∙ ap (λ x. of_fixed_size_list (type_of x) c.in-Ok-try_new.array.size) made.values ∙ ap (λ x. of_fixed_size_list x c.in-Ok-try_new.array.size) child.0
-          ∙ ap (of_fixed_size_list (shape_of c.args.dtype.now)) made.size,
-      are,
-      or_from _ _ (or_from _ _ (rows_few c.into_ref.result _ are) narrow) child.2,
-    )
-
-pub blocks-returns-in-Err-try_new : goal.blocks-returns-in-Err-try_new
-blocks-returns-in-Err-try_new t c = λ fit.
-    let count = sym (length-rows c.in-Ok.child.column) ∙ ap length (c.in-Ok.ensures fit).1 in
-    let p = exceeds_limit c.args.beneath (of_fixed_size_list (shape_of c.args.dtype.now) c.args.size) (rows_repeated c.args.items.now) in
-    subst (ReportsLimit p) (sym c.from.ensures) (maker_told _ c.in-Err-try_new.fault p c.in-Err-try_new.ensures.refused
-    (λ m is. or_left _ _ (blocks_past _ c.args.size _ c.in-Ok-row_count.count _ c.in-Ok-validity_of.validity m fit c.in-Ok-row_count.ensures.count count c.in-Ok-validity_of.ensures.covers is)))
-
 -- ---- fields of structs
 
-pub push_fields-returns-in-Err-build-clause-limit : goal.push_fields-returns-in-Err-build-clause-limit
-push_fields-returns-in-Err-build-clause-limit t c = λ fit.
+pub push_fields-returns-in-Err-build_column-clause-limit : goal.push_fields-returns-in-Err-build_column-clause-limit
+push_fields-returns-in-Err-build_column-clause-limit t c = λ fit.
     let dtypes = c.args.dtypes.now in
     let k = c.loop-k.k in
     let d = c.index-dtypes-k.result in
     let below : k < length dtypes = omega arith in
-    let read = ap rows_repeated c.deref.ensures.value ∙ c.in-Ok.ensures.parts refl in
-    let told = c.in-Err-build.ensures (ap (list_all (fits (shape_of d))) read ∙ parts_kept dtypes k d below c.index-dtypes-k.is (rows_repeated c.args.items.now) fit) in
-    told_more _ _ c.in-Err-build.fault (past_at c.args.beneath dtypes 0 k k d _ below c.index-dtypes-k.is (omega arith))
-    (subst (λ l. ReportsLimit (exceeds_limit c.args.beneath (shape_of d) l) c.in-Err-build.fault) read told)
+    let read = ap rows_repeated c.deref.ensures.value ∙ c.in-Ok.ensures.parts c.requires in
+    let told = c.in-Err-build_column.ensures (ap (list_all (fits (shape_of d))) read ∙ parts_kept dtypes k d below c.index-dtypes-k.is (rows_repeated c.args.items.now) fit) in
+    told_more _ _ c.in-Err-build_column.fault (past_at c.args.beneath dtypes 0 k k d _ below c.index-dtypes-k.is (omega arith))
+    (subst (λ l. ReportsLimit (exceeds_limit c.args.beneath (shape_of d) l) c.in-Err-build_column.fault) read told)
 
 pub push_fields-loop-k-init : goal.push_fields-loop-k-init
 push_fields-loop-k-init t c = λ fit. (record { types = sym (append-nil _); parts = sym (append-nil _) }, refl)
@@ -138,18 +106,18 @@ push_fields-loop-k-preserved t c = λ fit.
     let k = c.loop-k.k in
     let d = c.index-dtypes-k.result in
     let below : k < length dtypes = omega arith in
-    let read = ap rows_repeated c.deref.ensures.value ∙ c.in-Ok.ensures.parts refl in
-    let made = c.in-Ok-build.ensures (ap (list_all (fits (shape_of d))) read ∙ parts_kept dtypes k d below c.index-dtypes-k.is (rows_repeated c.args.items.now) fit) in
+    let read = ap rows_repeated c.deref.ensures.value ∙ c.in-Ok.ensures.parts c.requires in
+    let made = c.in-Ok-build_column.ensures (ap (list_all (fits (shape_of d))) read ∙ parts_kept dtypes k d below c.index-dtypes-k.is (rows_repeated c.args.items.now) fit) in
     let so = c.loop-k.invariant fit in (
-      parts_more c.push.new.self.items c.loop-k.fields.items c.args.fields.now.items c.in-Ok-build.field dtypes d k _ so.0 below c.index-dtypes-k.is c.in-Ok-push.ensures.items made.0 (made.1 ∙ read),
+      parts_more c.push.new.self.items c.loop-k.fields.items c.args.fields.now.items c.in-Ok-build_column.field dtypes d k _ so.0 below c.index-dtypes-k.is c.in-Ok-push.ensures.items made.0 (made.1 ∙ read),
       fields_within c.args.beneath dtypes d k _ below c.index-dtypes-k.is so.1 (ap (exceeds_limit c.args.beneath (shape_of d)) (sym read) ∙ made.2),
     )
 
 pub tuples-returns-in-Ok-try_new : goal.tuples-returns-in-Ok-try_new
 tuples-returns-in-Ok-try_new t c = λ fit.
     let made = c.in-Ok-try_new.ensures in
-    let whole = tuples_made (map shape_of c.args.dtypes.now) _ c.push_fields.new.fields.items _ c.in-Ok-try_new.array c.in-Ok.validity fit (c.in_default.ensures.fields fit) c.in_ok-fields.ensures.items
-    (made.len ∙ c.in-Ok-row_count.ensures.count) made.fields made.validity c.in-Ok.ensures.hides in
+    let whole = tuples_made (map shape_of c.args.dtypes.now) _ c.push_fields.new.fields.items _ c.in-Ok-try_new.array c.in-Ok.made.1 fit (c.in_default.ensures.fields fit) c.in_ok-fields.ensures.items
+    (made.len ∙ c.in-Ok.ensures.count) made.fields made.validity c.in-Ok.ensures.hides in
     let are = c.into_ref.ensures.rows ∙ whole.1 in
     (c.into_ref.ensures.dtype ∙ whole.0, are, or_from _ _ (rows_few c.into_ref.result _ are) (c.in_default.ensures.within fit))
 
@@ -158,4 +126,4 @@ tuples-returns-in-Err-try_new t c = λ fit.
     let shapes = map shape_of c.args.dtypes.now in
     let p = exceeds_limit c.args.beneath (of_struct (shapes_of shapes)) (rows_repeated c.args.items.now) in
     subst (ReportsLimit p) (sym c.from.ensures) (maker_told _ c.in-Err-try_new.fault p c.in-Err-try_new.ensures.refused
-    (λ m is. or_left _ _ (tuples_past shapes _ c.push_fields.new.fields.items _ c.in-Ok-row_count.count c.in-Ok.validity m (c.in_default.ensures.fields fit) c.in_ok-fields.ensures.items c.in-Ok-row_count.ensures.count c.in-Ok.ensures.covers is)))
+    (λ m is. or_left _ _ (tuples_past shapes _ c.push_fields.new.fields.items _ c.in-Ok.made.0 c.in-Ok.made.1 m (c.in_default.ensures.fields fit) c.in_ok-fields.ensures.items c.in-Ok.ensures.count c.in-Ok.ensures.covers is)))

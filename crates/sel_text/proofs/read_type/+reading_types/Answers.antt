@@ -1,4 +1,4 @@
-use Rattle.std.proofs.Common.{◌≡◌, ◌<◌, ◌≤◌, ◌++◌, ◌∷◌, [], true, length, drop, map, ap, sym, refl, subst, arith, ◌∙◌, length-append}
+use Rattle.std.proofs.Common.{◌≡◌, ◌<◌, ◌≤◌, ◌++◌, ◌∷◌, [], true, length, map, ap, sym, refl, subst, arith, ◌∙◌, length-append}
 use Rattle.sel_text.proofs.Common.{map-append, shape_of, next_shape, shapes_of, of_struct, of_fixed_size_list, angled, type_texts, deepest, depth, widths_written, all_widths_written}
 use Rattle.sel_arrow.proofs.Types.{shape_of-Struct}
 use Rattle.sel_text.proofs.Commas.{after, bracket_or_comma, commas, comma_more, comma_last}
@@ -64,7 +64,7 @@ read_fields-loop-preserved t c =
 pub read_struct_type-returns-in-Some : goal.read_struct_type-returns-in-Some
 read_struct_type-returns-in-Some t c =
     let none = shape_of-Struct c.new.result ∙ ap (λ l. of_struct (shapes_of (map shape_of l))) c.new.ensures.items in
-    let here : c.args.bytes.now ≡ 60 ∷ 62 ∷ c.in-Some.rest.now = c.in_ok-rest.ensures.rest ∙ ap (λ l. 60 ∷ l) c.in-Some.ensures in
+    let here : c.args.bytes.now ≡ 60 ∷ 62 ∷ c.in-Some.rest.now = c.in-Ok.ensures.rest ∙ ap (λ l. 60 ∷ l) c.in-Some.ensures in
     record {
       text = struct_behind c.new.result [] _ _ c.new.ensures.items here;
       levels = subst (λ s. depth s ≤ c.args.levels) (sym none) c.requires;
@@ -75,33 +75,28 @@ read_struct_type-returns-in-Some t c =
           (none ∙ ap of_struct (sym parts.0) ∙ sym told.1, parts.1);
     }
 
-pub read_struct_type-returns : goal.read_struct_type-returns
-read_struct_type-returns t c =
-    let rest = c.in_ok-rest.ensures.rest in
-    let fields = c.in_ok-fields.ensures in
-    let shape = shape_of-Struct c.in_ok-fields.fields in
+pub read_struct_type-returns-in-Ok-read_fields : goal.read_struct_type-returns-in-Ok-read_fields
+read_struct_type-returns-in-Ok-read_fields t c =
+    let rest = c.in-Ok.ensures.rest in
+    let fields = c.in-Ok-read_fields.ensures in
+    let shape = shape_of-Struct c.in-Ok-read_fields.fields in
     record {
-      text = struct_behind c.in_ok-fields.fields _ _ _ refl (rest ∙ fields.text);
+      text = struct_behind c.in-Ok-read_fields.fields _ _ _ refl (rest ∙ fields.text);
       levels = subst (λ s. depth s ≤ c.args.levels) (sym shape) (omega (arith, fields.levels));
       widths = ap widths_written shape ∙ fields.widths;
       whole = λ s more few is.
           let told = tuples_told s c.args.bytes.now more is in
           let here = sym rest ∙ told.2 in
-          let some = some_types told.0 c.in_ok-rest.rest.now more here c.in_default.ensures in
+          let some = some_types told.0 c.in-Ok.rest.now more here c.in_default.ensures in
           let narrow : all_widths_written (next_shape some.0 some.1) ≡ true = ap all_widths_written (sym some.2) ∙ ap widths_written (sym told.1) ∙ few in
           let read = fields.whole some.0 some.1 more narrow (here ∙ ap (λ l. angled (type_texts l) ++ more) some.2) in
           (shape ∙ ap of_struct (read.0 ∙ sym some.2) ∙ sym told.1, read.1);
     }
 
-pub read_blocks-returns-clause-whole : goal.read_blocks-returns-clause-whole
-read_blocks-returns-clause-whole t c = λ s more few is.
+pub read_blocks-returns-in-Ok-read_child-clause-whole : goal.read_blocks-returns-in-Ok-read_child-clause-whole
+read_blocks-returns-in-Ok-read_child-clause-whole t c = λ s more few is.
     let told = blocks_told s c.args.bytes.now more is in
     let fits = block_narrow told.0 told.1 (ap widths_written (sym told.2) ∙ few) in
-    let start = ap (drop 1) (sym c.in_ok-rest.ensures.rest ∙ told.3) in
-    let size = c.in_ok-size.ensures.whole told.1 _ fits.0 (omega arith) start in
-    let next = ap (drop 1) (sym c.in_ok-rest-2.ensures.rest ∙ size.1) in
-    let child = c.in_ok-child.ensures.whole told.0 (62 ∷ more) fits.1 next in
-    let end = ap (drop 1) (sym c.in_ok-rest-3.ensures.rest ∙ child.1) in (
-      ap (λ x. of_fixed_size_list (shape_of x) c.in_ok-size.size) c.in_ok-child-2.ensures.ok ∙ ap (λ x. of_fixed_size_list x c.in_ok-size.size) child.0 ∙ ap (of_fixed_size_list told.0) size.0 ∙ sym told.2,
-      end,
-    )
+    let size = c.in-Ok.ensures.whole told.1 _ fits.0 told.3 in
+    let child = c.in-Ok-read_child.ensures.whole told.0 more fits.1 size.1 in
+    (ap (λ x. of_fixed_size_list x c.in-Ok.read.0) child.0 ∙ ap (of_fixed_size_list told.0) size.0 ∙ sym told.2, child.1)

@@ -14,6 +14,9 @@ decreases-read_list l = 3 * l.levels + 2
 abbrev pub decreases-read_blocks : goal.decreases-read_blocks
 decreases-read_blocks l = 3 * l.levels + 2
 
+abbrev pub decreases-read_child : goal.decreases-read_child
+decreases-read_child l = 3 * l.levels + 1
+
 abbrev pub decreases-read_struct_type : goal.decreases-read_struct_type
 decreases-read_struct_type l = 3 * l.levels + 2
 
