@@ -293,7 +293,8 @@ fn byte_views(alloc: Global, items: &[RowRun<'_>], beneath: NullSlots) -> Result
     }
 }
 
-/// Builds the array of a binary view column; byte strings longer than 12 bytes go to a single data buffer.
+/// Builds the array of a binary view column; byte strings longer than 12 bytes go to a single data
+/// buffer.
 fn views(alloc: Global, items: &[RowRun<'_>], beneath: NullSlots) -> Result<BinaryViewArray, Fault>
     ensures views { IfOk result (λ array. (shape : Shape) → is_view_shape shape ≡ true →
         list_all (fits shape) (rows_repeated items.now) ≡ true →
