@@ -119,6 +119,11 @@ few_chosen (m ∷ ms) (t ∷ ts) (f ∷ fs) = omega (arith, few_chosen ms ts fs)
 pub chosen_grows : {A : Type 0} → (items ts fs : List A) (ms : List Bool) (at : ℕ) → length (items ++ choose (take at ms) (take at ts) (take at fs)) ≤ length items + at
 chosen_grows items ts fs ms at = omega (arith, length-append items (choose (take at ms) (take at ts) (take at fs)), few_chosen (take at ms) (take at ts) (take at fs), length-take at ms)
 
+-- As many entries are appended as there are positions, at most.
+pub filled_size : {A : Type 0} → (ms : List Bool) (ts fs items : List A) (capacity at : ℕ) (out : Vec A Global) → IsFilled items (chosen_to ms ts fs at) capacity out →
+    length out.items ≤ length items + at
+filled_size ms ts fs items capacity at out was = omega (arith, ap length was.appended, chosen_grows items ts fs ms at)
+
 -- As many as there are positions, if nothing was there before.
 pub few_filled : {A : Type 0} → (ms : List Bool) (ts fs : List A) (capacity at : ℕ) (out : Vec A Global) → IsFilled [] (chosen_to ms ts fs at) capacity out → length out.items ≤ at
 few_filled ms ts fs capacity at out was = omega (arith, ap length was.appended, chosen_grows [] ts fs ms at)

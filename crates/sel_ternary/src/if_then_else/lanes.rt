@@ -64,7 +64,6 @@ impl ChooseLanes for i16 {
 
 impl ChooseLanes for i32 {
     #[inline(always)]
-    #[tactic(auto, using(crate::proofs::Lanes::filling))]
     fn push_sides(mask: u16, if_true: &Side<i32>, if_false: &Side<i32>, out: &mut Vec<i32>) {
         for k in 0..2 {
             let at = 8 * k;
@@ -78,7 +77,6 @@ impl ChooseLanes for i32 {
 
 impl ChooseLanes for i64 {
     #[inline(always)]
-    #[tactic(auto, using(crate::proofs::Lanes::filling))]
     fn push_sides(mask: u16, if_true: &Side<i64>, if_false: &Side<i64>, out: &mut Vec<i64>) {
         for k in 0..4 {
             let at = 4 * k;
@@ -110,7 +108,6 @@ impl ChooseLanes for u16 {
 
 impl ChooseLanes for u32 {
     #[inline(always)]
-    #[tactic(auto, using(crate::proofs::Lanes::filling))]
     fn push_sides(mask: u16, if_true: &Side<u32>, if_false: &Side<u32>, out: &mut Vec<u32>) {
         for k in 0..2 {
             let at = 8 * k;
@@ -124,7 +121,6 @@ impl ChooseLanes for u32 {
 
 impl ChooseLanes for u64 {
     #[inline(always)]
-    #[tactic(auto, using(crate::proofs::Lanes::filling))]
     fn push_sides(mask: u16, if_true: &Side<u64>, if_false: &Side<u64>, out: &mut Vec<u64>) {
         for k in 0..4 {
             let at = 4 * k;
