@@ -1,6 +1,6 @@
 //! If-then-else of columns of lists, by row references.
 
-ghost use Rattle.std.specs.Prelude.{◌≡◌, ◌≤◌, ◌∷◌, [], Bool, true, length, IfOk, IfErr};
+ghost use Rattle.std.specs.Prelude.{◌≡◌, ◌≤◌, ◌∷◌, [], Bool, true, length, IfOk, IfErr, Ok};
 ghost use Rattle.sel_bits.specs.Faults.{IsOutOfMemory};
 ghost use Rattle.sel_bits.specs.Limits.{max_rows};
 ghost use Rattle.sel_arrow.specs.Nested.{list_of};
@@ -129,6 +129,29 @@ impl Lists for FixedSizeListArray {
     }
 }
 
+// Returns both columns, or the first error.
+fn both(
+    first: PolarsResult<ArrayRef>,
+    second: PolarsResult<ArrayRef>,
+) -> PolarsResult<(ArrayRef, ArrayRef)>
+    ensures found { IfOk result (λ pair. (first ≡ Ok pair.0) × (second ≡ Ok pair.1)) }
+    ensures refusal { IfErr first IsOutOfMemory → IfErr second IsOutOfMemory →
+        IfErr result IsOutOfMemory }
+{
+    match (first, second) {
+        (Ok(first), Ok(second)) => Ok((first, second)),
+        (Ok(first), Err(fault)) => {
+            drop(first);
+            Err(fault)
+        }
+        (Err(fault), Ok(second)) => {
+            drop(second);
+            Err(fault)
+        }
+        (Err(fault), Err(_)) => Err(fault),
+    }
+}
+
 /// Returns the if-then-else of two columns.
 #[tactic(auto, using(crate::proofs::ListChoices::few_bits))]
 pub(crate) fn choose_lists<L: Lists>(
@@ -150,9 +173,8 @@ pub(crate) fn choose_lists<L: Lists>(
         (L.shape if_true.now) (column if_true.now) (column if_false.now)
         (choose mask.now.bits (L.rows if_true.now) (L.rows if_false.now)))) }
 {
-    let first = if_true.shared(alloc)?;
-    let second = if_false.shared(alloc)?;
-    choose_shared(alloc, mask, first, second, true, true)
+    let pair = both(if_true.shared(alloc), if_false.shared(alloc))?;
+    choose_shared(alloc, mask, pair.0, pair.1, true, true)
 }
 
 /// Returns the if-then-else of one list and a column.
@@ -177,9 +199,8 @@ pub(crate) fn choose_one_or_lists<L: Lists>(
         (broadcast_true mask.now.bits (list_of (column_rows if_true.now.column))
         (L.rows if_false.now)))) }
 {
-    let first = L::of_one(alloc, if_true)?;
-    let second = if_false.shared(alloc)?;
-    choose_shared(alloc, mask, first, second, false, true)
+    let pair = both(L::of_one(alloc, if_true), if_false.shared(alloc))?;
+    choose_shared(alloc, mask, pair.0, pair.1, false, true)
 }
 
 /// Returns the if-then-else of a column and one list.
@@ -204,9 +225,8 @@ pub(crate) fn choose_lists_or_one<L: Lists>(
         (broadcast_false mask.now.bits (L.rows if_true.now)
         (list_of (column_rows if_false.now.column))))) }
 {
-    let first = if_true.shared(alloc)?;
-    let second = L::of_one(alloc, if_false)?;
-    choose_shared(alloc, mask, first, second, true, false)
+    let pair = both(if_true.shared(alloc), L::of_one(alloc, if_false))?;
+    choose_shared(alloc, mask, pair.0, pair.1, true, false)
 }
 
 /// Returns the if-then-else of two lists.
@@ -233,9 +253,8 @@ pub(crate) fn choose_ones<L: Lists>(
     if mask.len() > MOST_ROWS {
         return Err(PolarsError::SizeLimit(Limit::Rows));
     }
-    let first = L::of_one(alloc, if_true)?;
-    let second = L::of_one(alloc, if_false)?;
-    choose_shared(alloc, mask, first, second, false, false)
+    let pair = both(L::of_one(alloc, if_true), L::of_one(alloc, if_false))?;
+    choose_shared(alloc, mask, pair.0, pair.1, false, false)
 }
 
 // Returns the if-then-else of columns of this kind. If its flag is false, a column has one row,
