@@ -32,8 +32,11 @@ def crates_below(name: str, uses: dict[str, list[str]]) -> list[str]:
     return [it for it in found if it in uses]
 
 
-def words(verb: str, name: str, folder: pathlib.Path) -> list[str]:
-    """Returns the prover's command line for a crate, or for a copy of it in the folder."""
+def words(verb: str, name: str, folder: pathlib.Path, links: str = "") -> list[str]:
+    """Returns the prover's command line for a crate, or for a copy of it in the folder.
+
+    `links` is a label for what defines the C functions that the crate declares; none declares any but a copy for mutants.
+    """
     place, marks = kit(), lines()[name][0]
     uses = {crate: below for crate, (_, below) in lines().items()}
     root = "src/main.rt" if (folder / "src" / "main.rt").exists() else "src/lib.rt"
@@ -48,4 +51,4 @@ def words(verb: str, name: str, folder: pathlib.Path) -> list[str]:
         said += ["-L", f"dependency={ROOT}/crates/{library}/out/rlib"]
     said += ["--antt-project", f"{place}/rattle/logic/antt-project.json", "--logic-built", f"{place}/logic_built"]
     said += ["--crate-type", "staticlib"] if "staticlib" in marks else []
-    return [*said, "--links", f"{name}="]
+    return [*said, "--links", f"{name}={links}"]
