@@ -12,14 +12,16 @@ use Rattle.sel_arrow.specs.contracts.column.Column as Column
 use Rattle.sel_arrow.specs.contracts.array_ref.ArrayRef as ArrayRef
 use Rattle.sel_arrow.specs.contracts.array_ref.ArrayRef.{the_row, the_type}
 
-column_send : IsSend Column.the_field.row
-column_send = send-Column (search sendable) (search (sendable, bitmap.the_send) depth 10) (search (sendable, buffer.the_send, bitmap.the_send) depth 20) (search (sendable, buffer.the_send, bitmap.the_send) depth 20) (search (sendable, buffer.the_send, bitmap.the_send) depth 20) (search (sendable, buffer.the_send, bitmap.the_send) depth 20) (search (sendable, buffer.the_send, bitmap.the_send) depth 20) (search (sendable, buffer.the_send, bitmap.the_send) depth 20) (search (sendable, buffer.the_send, bitmap.the_send) depth 20) (search (sendable, buffer.the_send, bitmap.the_send) depth 20) (search (sendable, buffer.the_send, bitmap.the_send) depth 20) (search (sendable, buffer.the_send, bitmap.the_send) depth 20) (search (sendable, offsets.the_send, buffer.the_send, bitmap.the_send) depth 20) binview.the_field_send utf8view.the_field_send (search (sendable, offsets.the_send, buffer.the_send) depth 20) std.Box-send (search (sendable, bitmap.the_send) depth 10) (search sendable) std.Vec-send
+pub column_send : IsSend Column.the_field.row
+column_send = send-Column (search sendable) (search (sendable, bitmap.the_send) depth 10) (search (sendable, buffer.the_send, bitmap.the_send) depth 20) (search (sendable, buffer.the_send, bitmap.the_send) depth 20) (search (sendable, buffer.the_send, bitmap.the_send) depth 20) (search (sendable, buffer.the_send, bitmap.the_send) depth 20) (search (sendable, buffer.the_send, bitmap.the_send) depth 20) (search (sendable, buffer.the_send, bitmap.the_send) depth 20) (search (sendable, buffer.the_send, bitmap.the_send) depth 20) (search (sendable, buffer.the_send, bitmap.the_send) depth 20) (search (sendable, buffer.the_send, bitmap.the_send) depth 20) (search (sendable, buffer.the_send, bitmap.the_send) depth 20) (search (sendable, offsets.the_send, buffer.the_send, bitmap.the_send) depth 20) binview.the_field_send utf8view.the_field_send (search (sendable, offsets.the_send) depth 20) std.Box-send (search (sendable, bitmap.the_send) depth 10) (search sendable) std.Vec-send
 
-column_sync : IsSync Column.the_field.row
-column_sync = sync-Column (search sendable) (search (sendable, bitmap.the_sync) depth 10) (search (sendable, buffer.the_sync, bitmap.the_sync) depth 20) (search (sendable, buffer.the_sync, bitmap.the_sync) depth 20) (search (sendable, buffer.the_sync, bitmap.the_sync) depth 20) (search (sendable, buffer.the_sync, bitmap.the_sync) depth 20) (search (sendable, buffer.the_sync, bitmap.the_sync) depth 20) (search (sendable, buffer.the_sync, bitmap.the_sync) depth 20) (search (sendable, buffer.the_sync, bitmap.the_sync) depth 20) (search (sendable, buffer.the_sync, bitmap.the_sync) depth 20) (search (sendable, buffer.the_sync, bitmap.the_sync) depth 20) (search (sendable, buffer.the_sync, bitmap.the_sync) depth 20) (search (sendable, offsets.the_sync, buffer.the_sync, bitmap.the_sync) depth 20) binview.the_field_sync utf8view.the_field_sync (search (sendable, offsets.the_sync, buffer.the_sync) depth 20) std.Box-sync (search (sendable, bitmap.the_sync) depth 10) (search sendable) std.Vec-sync
+pub column_sync : IsSync Column.the_field.row
+column_sync = sync-Column (search sendable) (search (sendable, bitmap.the_sync) depth 10) (search (sendable, buffer.the_sync, bitmap.the_sync) depth 20) (search (sendable, buffer.the_sync, bitmap.the_sync) depth 20) (search (sendable, buffer.the_sync, bitmap.the_sync) depth 20) (search (sendable, buffer.the_sync, bitmap.the_sync) depth 20) (search (sendable, buffer.the_sync, bitmap.the_sync) depth 20) (search (sendable, buffer.the_sync, bitmap.the_sync) depth 20) (search (sendable, buffer.the_sync, bitmap.the_sync) depth 20) (search (sendable, buffer.the_sync, bitmap.the_sync) depth 20) (search (sendable, buffer.the_sync, bitmap.the_sync) depth 20) (search (sendable, buffer.the_sync, bitmap.the_sync) depth 20) (search (sendable, offsets.the_sync, buffer.the_sync, bitmap.the_sync) depth 20) binview.the_field_sync utf8view.the_field_sync (search (sendable, offsets.the_sync) depth 20) std.Box-sync (search (sendable, bitmap.the_sync) depth 10) (search sendable) std.Vec-sync
 
 pub array_send : IsSend the_row
 array_send = recorded_send ArrayRef.the_field.row _ _ the_type.to_one (struct_send (shape the_type) (column_send, tt))
 
 pub array_sync : IsSync the_row
 array_sync = recorded_sync ArrayRef.the_field.row _ _ the_type.to_one (struct_sync (shape the_type) (column_sync, tt))
+
+pub ruleset columns_cross = (column_send, column_sync)

@@ -64,7 +64,7 @@ pub fn column<T: NativeType>(
 
 /// Returns the numbers, with the given number for nulls.
 fn values_of<T: NativeType>(alloc: Global, rows: &[Option<T>], hidden: T) -> PolarsResult<Vec<T>> {
-    let mut values = Vec::new(alloc);
+    let mut values = Vec::with_capacity(alloc, rows.len())?;
     for row in rows {
         values.push(row.unwrap_or(hidden))?;
     }
@@ -73,7 +73,7 @@ fn values_of<T: NativeType>(alloc: Global, rows: &[Option<T>], hidden: T) -> Pol
 
 /// Returns whether each row is not null.
 fn flags_of<T: NativeType>(alloc: Global, rows: &[Option<T>]) -> PolarsResult<Vec<bool>> {
-    let mut flags = Vec::new(alloc);
+    let mut flags = Vec::with_capacity(alloc, rows.len())?;
     for row in rows {
         flags.push(row.is_some())?;
     }

@@ -21,6 +21,7 @@ fn may_cross<T: Send + Sync>(_value: &T)
 {}
 
 /// Accepts columns of any type.
+#[tactic(auto, using(sel_arrow::proofs::Crossing::columns_cross))]
 pub fn any_column_may_cross(column: &ArrayRef) {
     may_cross(column);
 }
@@ -45,6 +46,7 @@ pub fn flat_arrays_may_cross(
 }
 
 /// Accepts the arrays with children.
+#[tactic(auto, using(sel_arrow::proofs::Crossing::columns_cross))]
 pub fn nested_arrays_may_cross(
     lists: &ListArray<i64>,
     fixed_size_lists: &FixedSizeListArray,
