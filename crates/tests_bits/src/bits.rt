@@ -3,7 +3,9 @@
 use crate::column_fixtures::offsets;
 use crate::fixtures::{begins_with, has_bits};
 use sel_bits::bitmap::Bitmap;
+use sel_bits::buffer::Buffer;
 use sel_bits::faults::{Limit, MakeError, Malformed, PolarsError, PolarsResult};
+use sel_bits::lent::Lent;
 use sel_bits::native::{Index, NativeType, Offset};
 use sel_bits::number::{load_padded_le_u64, negative_to_usize, prefix_xorsum};
 use sel_bits::offsets::OffsetsBuffer;
@@ -24,6 +26,24 @@ fn bitmap_as_slice(rt: HostRuntime) -> Result<(), Fail> {
     let part = Bitmap::from_u8_vec(bytes, 24)?.sliced(11, 5);
     assert!(rt; lends_bytes(&part));
     Ok(())
+}
+
+/// Returns whether a buffer gives lent memory without values back, or refuses it if out of memory.
+fn gives_back(alloc: Global, memory: Lent<u8>) -> bool {
+    match Buffer::from_lent(alloc, memory) {
+        Ok(buffer) => match buffer.into_lent() {
+            Ok(lent) => lent.counted().0 == 0,
+            Err(_buffer) => false,
+        },
+        Err(lent) => lent.counted().0 == 0,
+    }
+}
+
+#[test]
+fn no_lent_memory_has_no_values(rt: HostRuntime) {
+    let (count, memory) = Lent::none().counted();
+    assert!(rt; gives_back(rt.alloc(), memory));
+    assert!(rt; count == 0);
 }
 
 /// Returns whether sixty leading and sixty-six trailing zeros are removed, and three bits remain.
