@@ -14,6 +14,14 @@ use sel_bits::lent::Lent;
 use std::alloc::Global;
 use std::mem::replace;
 
+/// Stores a buffer in `out`, in the memory of `place`, and frees the one that `out` had.
+fn put(out: &mut BufferHandle, mut place: Box<SharedBuffer>, buffer: SharedBuffer)
+    ensures { out.new.buffer ≡ Some buffer }
+{
+    *place = buffer;
+    *out = BufferHandle::of(place);
+}
+
 /// Stores a buffer of the values in `out`, without a copy, and frees the one that `out` had.
 ///
 /// Returns the values if an allocation fails; then `out` is unchanged.
@@ -22,13 +30,12 @@ pub fn lend<T: Lendable>(alloc: Global, values: Lent<T>, out: &mut BufferHandle)
     ensures values { IfSome result (λ lent. lent.items ≡ values.items) }
     ensures unchanged { IfSome result (λ _. out.new.buffer ≡ out.old.buffer) }
 {
-    let Ok(mut place) = Box::new(alloc, SharedBuffer::Empty) else {
+    let Ok(place) = Box::new(alloc, SharedBuffer::Empty) else {
         return Some(values);
     };
     match Buffer::from_lent(alloc, values) {
         Ok(buffer) => {
-            *place = T::share(buffer);
-            *out = BufferHandle::of(place);
+            put(out, place, T::share(buffer));
             None
         }
         Err(lent) => {
@@ -57,14 +64,12 @@ pub fn give_back<T: Lendable>(alloc: Global, of: &mut BufferHandle) -> Option<Le
                 Some(lent)
             }
             Err(buffer) => {
-                *place = T::share(buffer);
-                *of = BufferHandle::of(place);
+                put(of, place, T::share(buffer));
                 None
             }
         },
         Err(other) => {
-            *place = other;
-            *of = BufferHandle::of(place);
+            put(of, place, other);
             None
         }
     }
@@ -89,13 +94,12 @@ pub fn lend_bits(
     ensures values { IfSome result (λ lent. lent.items ≡ bytes.items) }
     ensures unchanged { IfSome result (λ _. out.new.buffer ≡ out.old.buffer) }
 {
-    let Ok(mut place) = Box::new(alloc, SharedBuffer::Empty) else {
+    let Ok(place) = Box::new(alloc, SharedBuffer::Empty) else {
         return Some(bytes);
     };
     match Bitmap::from_lent(alloc, bytes, 0, len) {
         Ok(bits) => {
-            *place = SharedBuffer::Bits(bits);
-            *out = BufferHandle::of(place);
+            put(out, place, SharedBuffer::Bits(bits));
             None
         }
         Err(lent) => {
@@ -124,14 +128,12 @@ pub fn give_back_bits(alloc: Global, of: &mut BufferHandle) -> Option<Lent<u8>>
                 Some(lent)
             }
             Err(bits) => {
-                *place = SharedBuffer::Bits(bits);
-                *of = BufferHandle::of(place);
+                put(of, place, SharedBuffer::Bits(bits));
                 None
             }
         },
         other => {
-            *place = other;
-            *of = BufferHandle::of(place);
+            put(of, place, other);
             None
         }
     }
