@@ -1,6 +1,7 @@
 -- A text begins with the text of at most one type.
-use Rattle.std.proofs.Common.{◌≡◌, ◌≢◌, ℕ, true, List, [], ◌∷◌, ◌++◌, get_or, drop, refl, ap, sym, ◌∙◌, arith, codes, ◌==◌, if◌then◌else◌}
-use Rattle.sel_text.proofs.Common.{common_steps, decimal, Shape, Shapes, no_shapes, of_null, of_boolean, of_int8, of_int16, of_int32, of_int64, of_int128, of_uint8, of_uint16, of_uint32, of_uint64, of_uint128, of_large_binary, of_binary_view, of_utf8_view, of_large_list, of_fixed_size_list, of_struct, is_plain, angled, type_text, type_texts}
+use Rattle.std.proofs.Common.{◌≡◌, ◌≢◌, ◌<◌, ◌+◌, ◌-◌, nat_lt, ℕ, true, List, [], ◌∷◌, ◌++◌, get_or, drop, refl, ap, sym, ◌∙◌, arith, codes, ◌==◌, if◌then◌else◌}
+use Rattle.sel_text.proofs.Making.{told_more}
+use Rattle.sel_text.proofs.Common.{common_steps, nat_tests, Fault, ReportsLimit, decimal, Shape, Shapes, no_shapes, of_null, of_boolean, of_int8, of_int16, of_int32, of_int64, of_int128, of_uint8, of_uint16, of_uint32, of_uint64, of_uint128, of_large_binary, of_binary_view, of_utf8_view, of_large_list, of_fixed_size_list, of_struct, is_plain, angled, type_text, type_texts}
 
 -- The type whose text a text begins with, without its children; it is determined by the bytes in
 -- which the names of types differ.
@@ -49,6 +50,14 @@ pub blocks_told : (s : Shape) (text more : List ℕ) → codes "fixed" ++ text �
     (child : Shape) × (size : ℕ) × (s ≡ of_fixed_size_list child size) × (text ≡ 60 ∷ (decimal size ++ (44 ∷ (type_text child ++ (62 ∷ more)))))
 blocks_told (of_fixed_size_list child size) text more is = grind (arith, common_steps)
 blocks_told s text more is = let first = ap (λ l. get_or l 0 0) is in absurd (omega (arith, first))
+
+pub lists_told : (s : Shape) (text more : List ℕ) → codes "list" ++ text ≡ type_text s ++ more → (child : Shape) × (s ≡ of_large_list child) × (text ≡ 60 ∷ (type_text child ++ (62 ∷ more)))
+lists_told (of_large_list child) text more is = (child, refl, grind (arith, common_steps, is))
+lists_told s text more is = let first = ap (λ l. get_or l 0 0) is in absurd (omega (arith, first))
+
+-- A child that is too deep for the levels below makes its parent too deep.
+pub deeper_told : (levels d : ℕ) (fault : Fault) → 0 < levels → ReportsLimit (nat_lt (levels - 1) d) fault → ReportsLimit (nat_lt levels (d + 1)) fault
+deeper_told levels d fault some = told_more _ _ fault (λ deep. grind (arith, nat_tests, deep, some))
 
 pub tuples_told : (s : Shape) (text more : List ℕ) → codes "struct" ++ text ≡ type_text s ++ more → (parts : Shapes) × (s ≡ of_struct parts) × (text ≡ angled (type_texts parts) ++ more)
 tuples_told (of_struct parts) text more is = (parts, refl, ap (drop 6) is)

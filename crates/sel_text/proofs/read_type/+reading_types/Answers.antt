@@ -1,10 +1,10 @@
-use Rattle.std.proofs.Common.{◌≡◌, ◌<◌, ◌≤◌, ◌++◌, ◌∷◌, [], true, length, map, ap, sym, refl, subst, arith, ◌∙◌, length-append}
-use Rattle.sel_text.proofs.Common.{map-append, shape_of, next_shape, shapes_of, of_struct, of_fixed_size_list, angled, type_texts, deepest, depth, widths_written, all_widths_written}
+use Rattle.std.proofs.Common.{◌≡◌, ◌<◌, ◌≤◌, ◌++◌, ◌∷◌, [], true, length, map, ap, sym, refl, subst, arith, ◌∙◌, length-append, drop}
+use Rattle.sel_text.proofs.Common.{map-append, shape_of, next_shape, shapes_of, of_struct, of_fixed_size_list, of_large_list, angled, type_texts, deepest, depth, widths_written, all_widths_written, ReportsLimit, nat_lt}
 use Rattle.sel_arrow.proofs.Types.{shape_of-Struct}
 use Rattle.sel_text.proofs.Commas.{after, bracket_or_comma, commas, comma_more, comma_last}
 use Rattle.sel_text.proofs.Fields.{IsLeft, all_left, last_read, more_left, left_narrow, no_types, some_types, block_narrow, field_told, grown_depth, grown_narrow}
 use Rattle.sel_text.proofs.TypeTexts.{text_of_type, struct_behind}
-use Rattle.sel_text.proofs.TypesTold.{tuples_told, blocks_told}
+use Rattle.sel_text.proofs.TypesTold.{plain_told, tuples_told, blocks_told, lists_told, deeper_told}
 use Rattle.sel_text.proofs.read_type.+reading_types.Goals as goal
 
 pub read_fields-loop-init : goal.read_fields-loop-init
@@ -100,3 +100,25 @@ read_blocks-returns-in-Ok-read_child-clause-whole t c = λ s more few is.
     let size = c.in-Ok.ensures.whole told.1 _ fits.0 told.3 in
     let child = c.in-Ok-read_child.ensures.whole told.0 more fits.1 size.1 in
     (ap (λ x. of_fixed_size_list x c.in-Ok.read.0) child.0 ∙ ap (of_fixed_size_list told.0) size.0 ∙ sym told.2, child.1)
+
+pub read_blocks-returns-in-Err-read_child-clause-whole : goal.read_blocks-returns-in-Err-read_child-clause-whole
+read_blocks-returns-in-Err-read_child-clause-whole t c = λ s more few is.
+    let told = blocks_told s c.args.bytes.now more is in
+    let fits = block_narrow told.0 told.1 (ap widths_written (sym told.2) ∙ few) in
+    let child = c.in-Err-read_child.ensures.whole told.0 more fits.1 (c.in-Ok.ensures.whole told.1 _ fits.0 told.3).1 in
+    subst (λ s. ReportsLimit (nat_lt c.args.levels (depth s)) c.in-Err-read_child.fault) (sym told.2) (deeper_told c.args.levels (depth told.0) _ c.requires child)
+
+pub read_list-returns-in-Ok-read_child-clause-whole : goal.read_list-returns-in-Ok-read_child-clause-whole
+read_list-returns-in-Ok-read_child-clause-whole t c = λ s more few is.
+    let told = lists_told s c.args.bytes.now more is in
+    let child = c.in-Ok-read_child.ensures.whole told.0 more (ap widths_written (sym told.1) ∙ few) (ap (drop 1) (sym c.in-Ok.ensures.rest ∙ told.2)) in
+    (ap of_large_list child.0 ∙ sym told.1, child.1)
+
+pub read_list-returns-in-Err-read_child-clause-whole : goal.read_list-returns-in-Err-read_child-clause-whole
+read_list-returns-in-Err-read_child-clause-whole t c = λ s more few is.
+    let told = lists_told s c.args.bytes.now more is in
+    let child = c.in-Err-read_child.ensures.whole told.0 more (ap widths_written (sym told.1) ∙ few) (ap (drop 1) (sym c.in-Ok.ensures.rest ∙ told.2)) in
+    subst (λ s. ReportsLimit (nat_lt c.args.levels (depth s)) c.in-Err-read_child.fault) (sym told.1) (deeper_told c.args.levels (depth told.0) _ c.requires child)
+
+pub read_type-returns-in-Some-clause-whole : goal.read_type-returns-in-Some-clause-whole
+read_type-returns-in-Some-clause-whole t c = λ s more few is. plain_told (shape_of c.in-Some.read.0) s c.args.bytes.now _ more c.in-Some.ensures.plain c.in-Some.ensures.text is
