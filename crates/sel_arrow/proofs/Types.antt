@@ -1,17 +1,17 @@
 -- The types of columns with children.
-use Rattle.std.proofs.Common.{◌≡◌, ℕ, ◌+◌, ◌<◌, ◌&&◌, List, [], ◌∷◌, ◌++◌, length, take, map, Option, Vec, Box, Global, refl, sym, ap, ◌∙◌, arith, get_or, Bool, true, false, true≢false}
-use Rattle.std.specs.Prelude.{◌↔◌, IsTrue}
+use Rattle.std.proofs.Common.{◌≡◌, ℕ, ◌+◌, ◌<◌, ◌&&◌, List, [], ◌∷◌, ◌++◌, length, take, map, Option, Vec, Global, refl, sym, ap, ◌∙◌, arith, get_or}
+use Rattle.std.specs.Prelude.{◌↔◌}
 use Rattle.std.specs.List.{flat_map, list_all}
 use Rattle.std.proofs.lemmas.List.{length-map, get_or-map, map_more, take_all}
 use mathlib.Core.Former.{Count}
 use Rattle.sel_bits.specs.Bits.{Bits}
 use Rattle.sel_arrow.specs.DataType.{shape_of, shapes_of_each, widths_fit, all_widths_fit}
 use Rattle.sel_arrow.specs.Rows.{type_of, types_of_each, buffers_held, buffers_of_each}
-use Rattle.sel_arrow.specs.Shape.{Shape, next_shape, of_struct, of_large_list, of_fixed_size_list, is_list_shape, is_block_shape, shapes_of, shape_list}
-use Rattle.sel_arrow.specs.declared.column.Column.{Column, LargeList as ListColumn, FixedSizeList as BlockColumn, Struct as StructColumn, Row_of-Column, end_of-Column, more_of-Column, items-the_row-Column, items_hidden-the_row-Column-0}
-use Rattle.sel_arrow.specs.declared.column.Column.TheVariants.{LargeList' as ListColumn', FixedSizeList' as BlockColumn', Struct' as StructColumn'}
-use Rattle.sel_arrow.specs.declared.datatype.ArrowDataType.{ArrowDataType, LargeList, FixedSizeList, Struct, Row_of-ArrowDataType, end_of-ArrowDataType, more_of-ArrowDataType, items-the_row-ArrowDataType, items_hidden-the_row-ArrowDataType-0}
-use Rattle.sel_arrow.specs.declared.datatype.ArrowDataType.TheVariants.{LargeList', FixedSizeList', Struct'}
+use Rattle.sel_arrow.specs.Shape.{Shape, next_shape, of_struct, shapes_of, shape_list}
+use Rattle.sel_arrow.specs.declared.column.Column.{Column, Struct as StructColumn, Row_of-Column, end_of-Column, more_of-Column, items-the_row-Column, items_hidden-the_row-Column-0}
+use Rattle.sel_arrow.specs.declared.column.Column.TheVariants.{Struct' as StructColumn'}
+use Rattle.sel_arrow.specs.declared.datatype.ArrowDataType.{ArrowDataType, Struct, Row_of-ArrowDataType, end_of-ArrowDataType, more_of-ArrowDataType, items-the_row-ArrowDataType, items_hidden-the_row-ArrowDataType-0}
+use Rattle.sel_arrow.specs.declared.datatype.ArrowDataType.TheVariants.{Struct'}
 
 -- ---- the definitions in terms of the list of fields
 
@@ -81,39 +81,6 @@ one_struct ss ts e = sym (list_of_shapes ss) ∙ ap fields_of e ∙ list_of_shap
 -- A condition for equal field types is a condition for equal struct types.
 pub by_fields : {P : Type 0} (s t : Shape) (ss ts : List Shape) → s ≡ of_struct (shapes_of ss) → t ≡ of_struct (shapes_of ts) → (P ↔ (ss ≡ ts)) → (P ↔ (s ≡ t))
 by_fields s t ss ts is of same = grind (arith, one_struct)
-
--- ---- equality of types with one child
-
-abbrev child_of : Shape → Shape
-child_of (of_large_list s) = s
-child_of (of_fixed_size_list s n) = s
-child_of s = s
-
-pub by_child : {P : Type 0} (s t u v : Shape) → s ≡ of_large_list u → t ≡ of_large_list v → (P ↔ (u ≡ v)) → (P ↔ (s ≡ t))
-by_child s t u v is of same = (λ h. is ∙ ap of_large_list (same.0 h) ∙ sym of, λ e. same.1 (ap child_of (sym is ∙ e ∙ of)))
-
-pub by_block : {P : Type 0} (s t u v : Shape) (m n : ℕ) → s ≡ of_fixed_size_list u m → t ≡ of_fixed_size_list v n → m ≡ n → (P ↔ (u ≡ v)) → (P ↔ (s ≡ t))
-by_block s t u v m n is of wide same = (λ h. is ∙ (λ i. of_fixed_size_list (same.0 h i) (wide i)) ∙ sym of, λ e. same.1 (ap child_of (sym is ∙ e ∙ of)))
-
--- Types of different kinds differ.
-pub kinds_differ : (kind : Shape → Bool) (s t : Shape) → kind s ≡ true → kind t ≡ false → (IsTrue false ↔ (s ≡ t))
-kinds_differ kind s t high never = (λ h. absurd (true≢false (sym h)), λ e. absurd (true≢false (sym high ∙ ap kind e ∙ never)))
-
-pub no_list_type : (d : ArrowDataType) → ((child : Box ArrowDataType Global) → d ≡ LargeList child → ⊥) → is_list_shape (shape_of d) ≡ false
-no_list_type (LargeList' p child) never = absurd (never _ refl)
-no_list_type d never = refl
-
-pub no_block_type : (d : ArrowDataType) → ((child : Box ArrowDataType Global) (size : ℕ) → d ≡ FixedSizeList child size → ⊥) → is_block_shape (shape_of d) ≡ false
-no_block_type (FixedSizeList' p child size) never = absurd (never _ size refl)
-no_block_type d never = refl
-
-pub no_list : (c : Column) → ((offsets : List ℕ) (values : Box Column Global) (validity : Option Bits) → c ≡ ListColumn offsets values validity → ⊥) → is_list_shape (type_of c) ≡ false
-no_list (ListColumn' offsets p values validity) never = absurd (never offsets _ validity refl)
-no_list c never = refl
-
-pub no_block : (c : Column) → ((size len : ℕ) (values : Box Column Global) (validity : Option Bits) → c ≡ BlockColumn size len values validity → ⊥) → is_block_shape (type_of c) ≡ false
-no_block (BlockColumn' size len p values validity) never = absurd (never size len _ validity refl)
-no_block c never = refl
 
 -- ---- two lists whose elements have the same images
 
