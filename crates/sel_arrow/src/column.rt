@@ -1,11 +1,12 @@
 //! Columns of every type.
 
-ghost use Rattle.std.specs.Prelude.{◌≡◌, ◌≤◌, ◌+◌, ◌↔◌, length, take, drop, map, All, IfOk, IfErr, IsTrue};
+ghost use Rattle.std.specs.Prelude.{◌≡◌, ◌≤◌, ◌+◌, ◌↔◌, [], length, take, drop, map, All, IfOk, IfErr, IsTrue};
 ghost use Rattle.std.specs.Option.{option_copied};
 ghost use Rattle.sel_bits.specs.Faults.{IsOutOfMemory};
 ghost use Rattle.sel_bits.specs.Limits.{max_rows};
 ghost use Rattle.sel_arrow.specs.DataType.{shape_of};
 ghost use Rattle.sel_arrow.specs.Made.{MakesRows};
+ghost use Rattle.sel_arrow.specs.Masked.{number_rows};
 ghost use Rattle.sel_arrow.specs.Nulls.{IsValidityOf};
 ghost use Rattle.sel_arrow.specs.Rows.{rows, type_of, well_formed, IsField, IsWellFormed, buffers_held};
 
@@ -18,7 +19,7 @@ use crate::datatype::ArrowDataType;
 use crate::fixed_size_list::FixedSizeListArray;
 use crate::list::ListArray;
 use crate::null::NullArray;
-use crate::primitive::PrimitiveArray;
+use crate::primitive::{ArrowPrimitive, PrimitiveArray};
 use crate::rules::{fault_of_blocks, fault_of_lists, fault_of_struct};
 use crate::structure::StructArray;
 use crate::utf8view::Utf8ViewArray;
@@ -85,10 +86,15 @@ macro_rules! match_numbers {
 }
 
 /// Matches a column: `$each` for columns without children, whose array is `$array`, and an arm for
-/// each other column.
+/// each other column. Integers may have an expression of their own: a call that names the type of
+/// the integers alone is proved faster than one that names the type of the array.
 macro_rules! match_column {
     ($column:expr, $array:ident => $each:expr, $($nested:tt)+) => {
-        match_numbers! { $column, $array => $each,
+        match_column! { $column, of numbers: $array => $each, others: $array => $each, $($nested)+ }
+    };
+    ($column:expr, of numbers: $numbers:ident => $number:expr,
+     others: $array:ident => $each:expr, $($nested:tt)+) => {
+        match_numbers! { $column, $numbers => $number,
             Column::Null($array) => $each,
             Column::Boolean($array) => $each,
             Column::LargeBinary($array) => $each,
@@ -267,7 +273,8 @@ impl Column {
         ensures { MakesRows result (take len (drop off (rows self.now)))
             (type_of self.now) (buffers_held self.now) }
     {
-        match_column! { self, column => part_of(column, alloc, off, len),
+        match_column! { self, of numbers: column => numbers_part(column, alloc, off, len),
+            others: column => part_of(column, alloc, off, len),
             Column::LargeList {
                 offsets,
                 values,
@@ -310,7 +317,8 @@ impl Column {
         requires { IsWellFormed self.now }
         ensures { MakesRows result (rows self.now) (type_of self.now) (buffers_held self.now) }
     {
-        match_column! { self, column => copy_of(column, alloc),
+        match_column! { self, of numbers: column => numbers_copy(column, alloc),
+            others: column => copy_of(column, alloc),
             Column::LargeList {
                 offsets,
                 values,
@@ -410,6 +418,32 @@ fn copy_of<A: Array + Drop>(column: &A, alloc: Global) -> PolarsResult<Column>
 {
     let ArrayRef { column } = column.try_clone(alloc)?.into_ref();
     Ok(column)
+}
+
+/// Returns a slice of a column of integers as a `Column`. Fails only with `OutOfMemory`.
+fn numbers_part<T: ArrowPrimitive>(
+    column: &PrimitiveArray<T>,
+    alloc: Global,
+    off: usize,
+    len: usize,
+) -> PolarsResult<Column>
+    requires inside { off + len ≤ length
+        (number_rows T.number column.now.values column.now.validity) }
+    ensures { MakesRows result (take len (drop off
+        (number_rows T.number column.now.values column.now.validity))) T.shape [] }
+{
+    part_of(column, alloc, off, len)
+}
+
+/// Returns a copy of a column of integers as a `Column`. Fails only with `OutOfMemory`.
+fn numbers_copy<T: ArrowPrimitive>(
+    column: &PrimitiveArray<T>,
+    alloc: Global,
+) -> PolarsResult<Column>
+    ensures { MakesRows result (number_rows T.number column.now.values column.now.validity)
+        T.shape [] }
+{
+    copy_of(column, alloc)
 }
 
 /// Returns whether each column is well-formed and has `len` rows.

@@ -9,7 +9,6 @@ use sel_bits::faults::PolarsResult;
 use std::alloc::Global;
 
 /// Returns a bitmap with a set bit for each row that is `Some`. Fails only with `OutOfMemory`.
-#[tactic(auto, using(crate::proofs::Lists::push_more))]
 pub(crate) fn valid_rows<T: Copy>(alloc: Global, rows: &[Option<T>]) -> PolarsResult<Bitmap>
     ensures bits { IfOk result (λ valid. valid.bits ≡ map is_some rows.now) }
     ensures refusal { IfErr result IsOutOfMemory }
@@ -22,7 +21,6 @@ pub(crate) fn valid_rows<T: Copy>(alloc: Global, rows: &[Option<T>]) -> PolarsRe
 }
 
 /// Returns the rows, with `hidden` in place of each `None`. Fails only with `OutOfMemory`.
-#[tactic(auto, using(crate::proofs::Lists::push_more))]
 pub(crate) fn values_or<T: Copy>(
     alloc: Global,
     rows: &[Option<T>],

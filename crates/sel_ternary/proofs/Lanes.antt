@@ -1,6 +1,6 @@
 -- If-then-else by vector operations.
 use Rattle.sel_ternary.proofs.Common.{common_steps, ◌≡◌, ℕ, ℤ, zero, suc, ◌+◌, ◌*◌, ◌/◌, ◌^◌, ◌<◌, ◌≤◌, ◌∙◌, sym, refl, ap, arith, List, [], ◌∷◌, ◌++◌, length}
-use Rattle.sel_ternary.proofs.Common.{map, take, drop, Bool, true, false, ◌==◌, if◌then◌else◌, vec_capacity, subst, eq-eqb, append_assoc, append-nil, length-append}
+use Rattle.sel_ternary.proofs.Common.{map, take, drop, Bool, true, false, ◌==◌, if◌then◌else◌, vec_capacity, subst, eq-eqb, append_assoc, append-nil, length-append, length-map}
 use Rattle.sel_ternary.proofs.Common.{bits, is_set, get_bits, length_bits, length_part, choose, all_ones}
 use Rattle.std.proofs.Common.{◌%◌, bit_and, nat_eq, pow_pos}
 use Rattle.std.specs.{Prelude.Vec, Int.bit_at, Global.Global, List.range_with_len, Simd.Lanes.sel_l, Simd.Lanes.Each1}
@@ -87,6 +87,19 @@ module _ (t : ℕ → Bool) (u : ℤ → ℕ) (high : t (u (all_ones true)) ≡ 
       → new ≡ items ++ map h (sel_l (map t (map u lanes)) (map g xs) (map g ys)) → new ≡ items ++ choose ms ts fs
   signed_lanes g h ts fs items new xs ys trues falses p q appended =
       appended ∙ (λ i. items ++ map h (sel_l (set_bits i) (map g (trues i)) (map g (falses i)))) ∙ ap (λ l. items ++ l) (sel_signed g h ms ts fs p q)
+
+-- As many values are chosen as there are lanes.
+sel_length : {A : Type 0} → (ms : List Bool) (xs ys : List A) → length xs ≡ length ms → length ys ≡ length ms → length (sel_l ms xs ys) ≡ length ms
+sel_length [] xs ys p q = refl
+sel_length (m ∷ ms) [] ys p q = absurd (omega (arith, p))
+sel_length (m ∷ ms) (x ∷ xs) [] p q = absurd (omega (arith, q))
+sel_length (m ∷ ms) (x ∷ xs) (y ∷ ys) p q = ap suc (sel_length ms xs ys (omega (arith, p)) (omega (arith, q)))
+
+pub signed_length : {A : Type 0} → (t : ℕ → Bool) (u : ℤ → ℕ) (g : A → ℕ) (h : ℕ → A) (n mask : ℕ) (lanes : List ℤ) (xs ys : List A) → lanes ≡ map all_ones (bits n mask) → length xs ≡ n → length ys ≡ n
+    → length (map h (sel_l (map t (map u lanes)) (map g xs) (map g ys))) ≡ n
+signed_length t u g h n mask lanes xs ys is p q =
+    let marks : length (map t (map u lanes)) ≡ n = length-map (map u lanes) t ∙ length-map lanes u ∙ ap length is ∙ length-map (bits n mask) all_ones ∙ length_bits n mask in
+    length-map (sel_l (map t (map u lanes)) (map g xs) (map g ys)) h ∙ sel_length (map t (map u lanes)) (map g xs) (map g ys) (length-map xs g ∙ p ∙ sym marks) (length-map ys g ∙ q ∙ sym marks) ∙ marks
 
 -- ---- values that are appended
 

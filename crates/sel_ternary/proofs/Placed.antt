@@ -50,13 +50,6 @@ none_raised : (views : List View) → map (λ view. raised view 0) views ≡ vie
 none_raised [] = refl
 none_raised (view ∷ views) = (λ i. not_raised view i ∷ none_raised views i)
 
--- A view with a raised buffer index, by its length.
-pub inline_stays : (view : View) (k : ℕ) → view.length ≤ 12 → view ≡ raised view k
-inline_stays view k small = rw (le-leb view.length 12 small) refl
-
-pub far_rises : (view : View) (k : ℕ) → 12 < view.length → record { length = view.length; prefix = view.prefix; buffer_idx = view.buffer_idx + k; offset = view.offset } ≡ raised view k
-far_rises view k long = rw (lt-leb view.length 12 long) refl
-
 -- Views into the first data buffers are in bounds for all, and have the same bytes.
 module _ (own more : List (List ℕ)) (views : List View) (placed : list_all (is_placed own) views ≡ true) where
   pub front_placed : list_all (is_placed (own ++ more)) views ≡ true

@@ -1,6 +1,6 @@
 //! If-then-else for columns of any type.
 
-ghost use Rattle.std.specs.Prelude.{◌≡◌, ◌≤◌, ◌<◌, ◌∷◌, [], All, length, map, true, IfOk, IfErr};
+ghost use Rattle.std.specs.Prelude.{◌≡◌, ◌≤◌, ◌<◌, ◌+◌, ◌∷◌, [], All, length, map, true, IfOk, IfErr};
 ghost use Rattle.sel_bits.specs.Limits.{max_buffers, max_rows};
 ghost use Rattle.sel_arrow.specs.Rows.{rows, type_of, IsField};
 ghost use Rattle.sel_arrow.specs.Shape.{of_struct, shapes_of};
@@ -9,19 +9,20 @@ ghost use Rattle.sel_ternary.specs.Choose.{choose, broadcast_true, broadcast_fal
 ghost use Rattle.sel_ternary.specs.Chosen.{chosen_rows, first_row, AreSides};
 ghost use Rattle.sel_ternary.specs.ChosenPicks.{bit_pick, chosen_picks, place_on};
 ghost use Rattle.sel_ternary.specs.Structs.{is_bare};
-ghost use Rattle.sel_ternary.specs.WordKernels.{ChoosesSome};
+ghost use Rattle.sel_ternary.specs.WordKernels.{has_word_kernel, ChoosesSome};
 ghost use Rattle.sel_gather.specs.Children.{field, fields_of, part_at};
 ghost use Rattle.sel_gather.specs.Gathers.{Collects, GathersFrom};
 ghost use Rattle.sel_gather.specs.Need.{buffer_count, exceeded_in_fields, ExceedsNone, IsLimitOrMemory};
 ghost use Rattle.sel_gather.specs.Steps.{parts_of};
 
 use crate::if_then_else::by_words::choose_by_words;
+use crate::if_then_else::lanes::ChooseLanes;
 use sel_arrow::array::Array;
 use sel_arrow::array_ref::ArrayRef;
 use sel_arrow::binview::{BinaryViewArray, MOST_BUFFERS};
 use sel_arrow::boolean::BooleanArray;
 use sel_arrow::column::Column;
-use sel_arrow::primitive::PrimitiveArray;
+use sel_arrow::primitive::{ArrowPrimitive, PrimitiveArray};
 use sel_arrow::utf8view::Utf8ViewArray;
 use sel_bits::bitmap::Bitmap;
 use sel_bits::faults::{Limit, PolarsError, PolarsResult};
@@ -342,7 +343,7 @@ fn word_choice(
     }
     macro_rules! choose_numbers {
         ($number:ty) => {
-            choose!(PrimitiveArray<$number>)
+            number_choice::<$number>(alloc, mask, if_true, if_false, true_column, false_column)
         };
     }
     match_number_types! { if_true.as_column(), choose_numbers,
@@ -351,6 +352,29 @@ fn word_choice(
         Column::Utf8View(_) => choose!(Utf8ViewArray),
         _ => Ok(None),
     }
+}
+
+// The same for columns of one type of integers. Each arm of a match on types names an integer type
+// alone, which is proved faster than an array type.
+fn number_choice<T: ArrowPrimitive + ChooseLanes>(
+    alloc: Global,
+    mask: &Bitmap,
+    if_true: &ArrayRef,
+    if_false: &ArrayRef,
+    true_column: bool,
+    false_column: bool,
+) -> PolarsResult<Option<ArrayRef>>
+    requires kernel { has_word_kernel (type_of if_true.now.column) ≡ true }
+    requires sides { AreSides true_column false_column mask.now.bits if_true.now.column
+        if_false.now.column }
+    requires room { buffer_count if_true.now.column + buffer_count if_false.now.column ≤
+        max_buffers }
+    ensures { ChoosesSome result (type_of if_true.now.column)
+        (if_true.now.column ∷ if_false.now.column ∷ [])
+        (chosen_rows true_column false_column mask.now.bits (rows if_true.now.column)
+        (rows if_false.now.column)) }
+{
+    choose_by_words::<PrimitiveArray<T>>(alloc, mask, if_true, if_false, true_column, false_column)
 }
 
 // Returns the number of data buffers of a view column; 0 for any other column.

@@ -10,6 +10,7 @@ ghost use Rattle.sel_ternary.specs.SideValues.{side_values};
 use crate::if_then_else::lanes::{ChooseLanes, push_bits};
 use crate::if_then_else::side::Side;
 use sel_bits::bitmap::Bitmap;
+use sel_bits::buffer::Buffer;
 use sel_bits::faults::PolarsResult;
 use sel_bits::words::{first_word, whole_word};
 use std::alloc::Global;
@@ -22,10 +23,10 @@ pub(crate) fn choose_columns<T: ChooseLanes>(
     mask: &Bitmap,
     if_true: &[T],
     if_false: &[T],
-) -> PolarsResult<Vec<T>>
+) -> PolarsResult<Buffer<T>>
     requires true_side { length if_true.now ≡ length mask.now.bits }
     requires false_side { length if_false.now ≡ length mask.now.bits }
-    ensures items { IfOk result (λ out. out.items ≡
+    ensures items { IfOk result (λ out. out ≡
         choose mask.now.bits if_true.now if_false.now) }
     ensures refusal { IfErr result IsOutOfMemory }
 {
@@ -39,9 +40,9 @@ pub(crate) fn choose_scalar_or_column<T: ChooseLanes>(
     mask: &Bitmap,
     if_true: T,
     if_false: &[T],
-) -> PolarsResult<Vec<T>>
+) -> PolarsResult<Buffer<T>>
     requires { length if_false.now ≡ length mask.now.bits }
-    ensures items { IfOk result (λ out. out.items ≡ broadcast_true mask.now.bits if_true
+    ensures items { IfOk result (λ out. out ≡ broadcast_true mask.now.bits if_true
         if_false.now) }
     ensures refusal { IfErr result IsOutOfMemory }
 {
@@ -57,9 +58,9 @@ pub(crate) fn choose_column_or_scalar<T: ChooseLanes>(
     mask: &Bitmap,
     if_true: &[T],
     if_false: T,
-) -> PolarsResult<Vec<T>>
+) -> PolarsResult<Buffer<T>>
     requires { length if_true.now ≡ length mask.now.bits }
-    ensures items { IfOk result (λ out. out.items ≡
+    ensures items { IfOk result (λ out. out ≡
         broadcast_false mask.now.bits if_true.now if_false) }
     ensures refusal { IfErr result IsOutOfMemory }
 {
@@ -75,8 +76,8 @@ pub(crate) fn choose_scalars<T: ChooseLanes>(
     mask: &Bitmap,
     if_true: T,
     if_false: T,
-) -> PolarsResult<Vec<T>>
-    ensures items { IfOk result (λ out. out.items ≡ broadcast_both mask.now.bits if_true
+) -> PolarsResult<Buffer<T>>
+    ensures items { IfOk result (λ out. out ≡ broadcast_both mask.now.bits if_true
         if_false) }
     ensures refusal { IfErr result IsOutOfMemory }
 {
@@ -93,10 +94,10 @@ fn choose_sides<T: ChooseLanes>(
     mask: &Bitmap,
     if_true: &Side<T>,
     if_false: &Side<T>,
-) -> PolarsResult<Vec<T>>
+) -> PolarsResult<Buffer<T>>
     requires true_side { length (side_values if_true.now) ≡ length mask.now.bits }
     requires false_side { length (side_values if_false.now) ≡ length mask.now.bits }
-    ensures items { IfOk result (λ out. out.items ≡
+    ensures items { IfOk result (λ out. out ≡
         choose mask.now.bits (side_values if_true.now) (side_values if_false.now)) }
     ensures refusal { IfErr result IsOutOfMemory }
 {
@@ -111,13 +112,12 @@ fn choose_sides<T: ChooseLanes>(
     let word = first_word(&bytes[at / 8..], shift, count);
     let (trues, falses) = (if_true.part(at, count), if_false.part(at, count));
     push_word(word, count, &trues, &falses, &mut out);
-    Ok(out)
+    Buffer::from_vec(out)
 }
 
 /// Appends for each `i` below `count` the value of row `i` of `if_true` if bit `i` of `mask` is set,
 /// else that of `if_false`.
 #[inline(always)]
-#[tactic(auto, using(crate::proofs::Lanes::filling))]
 fn push_word<T: ChooseLanes>(
     mask: u64,
     count: usize,

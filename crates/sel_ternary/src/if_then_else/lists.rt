@@ -82,10 +82,7 @@ impl Lists for ListArray<i64> {
     }
 
     fn of_one(alloc: Global, entries: &ArrayRef) -> PolarsResult<ArrayRef> {
-        let mut ends = Vec::with_capacity(alloc, 2)?;
-        ends.push(0)?;
-        ends.push(entries.len() as i64)?;
-        let offsets = OffsetsBuffer::of_rising(ends)?;
+        let offsets = one_end(alloc, entries.len())?;
         let values = Box::new(alloc, entries.as_column().try_clone(alloc)?)?;
         let lists = ListArray {
             offsets,
@@ -127,6 +124,18 @@ impl Lists for FixedSizeListArray {
         };
         Ok(lists.into_ref())
     }
+}
+
+// Returns the offsets of one list with this many entries.
+fn one_end(alloc: Global, len: usize) -> PolarsResult<OffsetsBuffer<i64>>
+    requires { len ≤ max_rows }
+    ensures offsets { IfOk result (λ offsets. offsets ≡ 0 ∷ len ∷ []) }
+    ensures refusal { IfErr result IsOutOfMemory }
+{
+    let mut ends = Vec::with_capacity(alloc, 2)?;
+    ends.push(0)?;
+    ends.push(len as i64)?;
+    OffsetsBuffer::of_rising(ends)
 }
 
 // Returns both columns, or the first error.

@@ -13,7 +13,6 @@ use sel_arrow::datatype::ArrowDataType;
 use sel_arrow::primitive::{ArrowPrimitive, PrimitiveArray};
 use sel_arrow::validity::MOST_ROWS;
 use sel_bits::bitmap::Bitmap;
-use sel_bits::buffer::Buffer;
 use sel_bits::faults::{Limit, PolarsError, PolarsResult};
 use std::alloc::Global;
 
@@ -47,7 +46,6 @@ impl<T: ArrowPrimitive + ChooseLanes> IfThenElseKernel for PrimitiveArray<T> {
             if_true.validity.as_ref(),
             if_false.validity.as_ref(),
         )?;
-        let values = Buffer::from_vec(values)?;
         Ok(PrimitiveArray { values, validity })
     }
 
@@ -59,7 +57,6 @@ impl<T: ArrowPrimitive + ChooseLanes> IfThenElseKernel for PrimitiveArray<T> {
     ) -> PolarsResult<Self> {
         let values = choose_scalar_or_column(alloc, mask, *if_true, if_false.values.as_slice())?;
         let validity = if_then_else_validity(alloc, mask, None, if_false.validity.as_ref())?;
-        let values = Buffer::from_vec(values)?;
         Ok(PrimitiveArray { values, validity })
     }
 
@@ -71,7 +68,6 @@ impl<T: ArrowPrimitive + ChooseLanes> IfThenElseKernel for PrimitiveArray<T> {
     ) -> PolarsResult<Self> {
         let values = choose_column_or_scalar(alloc, mask, if_true.values.as_slice(), *if_false)?;
         let validity = if_then_else_validity(alloc, mask, if_true.validity.as_ref(), None)?;
-        let values = Buffer::from_vec(values)?;
         Ok(PrimitiveArray { values, validity })
     }
 
@@ -86,7 +82,6 @@ impl<T: ArrowPrimitive + ChooseLanes> IfThenElseKernel for PrimitiveArray<T> {
             return Err(PolarsError::SizeLimit(Limit::Rows));
         }
         let values = choose_scalars(alloc, mask, *if_true, *if_false)?;
-        let values = Buffer::from_vec(values)?;
         Ok(PrimitiveArray {
             values,
             validity: None,

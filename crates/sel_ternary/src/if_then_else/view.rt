@@ -12,6 +12,7 @@ use crate::if_then_else::view_lanes::{added, chosen_pair, pair_lanes, raised_lan
 use sel_arrow::view::{INLINE_BYTES, View};
 use sel_bits::aligned_words::AlignedWords;
 use sel_bits::bitmap::Bitmap;
+use sel_bits::buffer::Buffer;
 use sel_bits::faults::PolarsResult;
 use std::alloc::Global;
 
@@ -153,11 +154,11 @@ pub(crate) fn choose_views(
     if_true: &[View],
     if_false: &[View],
     offset: u32,
-) -> PolarsResult<Vec<View>>
+) -> PolarsResult<Buffer<View>>
     requires true_side { length if_true.now ≡ length mask.now.bits }
     requires false_side { length if_false.now ≡ length mask.now.bits }
     requires rises { IsTrue (all_rise offset if_false.now) }
-    ensures items { IfOk result (λ out. out.items ≡
+    ensures items { IfOk result (λ out. out ≡
         choose mask.now.bits if_true.now (map (λ view. raised view offset) if_false.now)) }
     ensures refusal { IfErr result IsOutOfMemory }
 {
@@ -168,5 +169,5 @@ pub(crate) fn choose_views(
         offset,
     };
     choose_blocks(&choice, &mut AlignedWords::new(mask), &mut out);
-    Ok(out)
+    Buffer::from_vec(out)
 }

@@ -54,7 +54,6 @@ pub(crate) fn choose_columns(
     )?;
     let (trues, falses) = (if_true.views.as_slice(), if_false.views.as_slice());
     let views = choose_views(alloc, mask, trues, falses, before as u32)?;
-    let views = Buffer::from_vec(views)?;
     let buffers = joined_buffers(
         alloc,
         if_true.buffers.as_slice(),
@@ -91,9 +90,7 @@ pub(crate) fn choose_bytes_true(
     let validity = if_then_else_validity(alloc, mask, None, if_false.validity.as_ref())?;
     let view = View::new_from_bytes(if_true, before as u32, 0);
     let views = choose_scalar_or_column(alloc, mask, view, if_false.views.as_slice())?;
-    let views = Buffer::from_vec(views)?;
-    let scalar = buffers_of_scalar(alloc, if_true)?;
-    let buffers = joined_buffers(alloc, if_false.buffers.as_slice(), &scalar)?;
+    let buffers = buffers_and_scalar(alloc, if_false.buffers.as_slice(), if_true)?;
     Ok(BinaryViewArray {
         views,
         buffers,
@@ -128,9 +125,7 @@ pub(crate) fn choose_bytes_false(
     let validity = if_then_else_validity(alloc, mask, if_true.validity.as_ref(), None)?;
     let view = View::new_from_bytes(if_false, before as u32, 0);
     let views = choose_column_or_scalar(alloc, mask, if_true.views.as_slice(), view)?;
-    let views = Buffer::from_vec(views)?;
-    let scalar = buffers_of_scalar(alloc, if_false)?;
-    let buffers = joined_buffers(alloc, if_true.buffers.as_slice(), &scalar)?;
+    let buffers = buffers_and_scalar(alloc, if_true.buffers.as_slice(), if_false)?;
     Ok(BinaryViewArray {
         views,
         buffers,
@@ -167,7 +162,7 @@ pub(crate) fn choose_bytes(
     )?;
     let first = View::new_from_bytes(if_true, 0, 0);
     let second = View::new_from_bytes(if_false, before as u32, 0);
-    let views = Buffer::from_vec(choose_scalars(alloc, mask, first, second)?)?;
+    let views = choose_scalars(alloc, mask, first, second)?;
     let trues = buffers_of_scalar(alloc, if_true)?;
     let falses = buffers_of_scalar(alloc, if_false)?;
     let buffers = joined_buffers(alloc, &trues, &falses)?;
@@ -217,6 +212,20 @@ fn buffers_of_scalar(alloc: Global, bytes: &[u8]) -> PolarsResult<Vec<Buffer<u8>
     }
     buffers.push(Buffer::from_vec(Vec::from_slice(alloc, bytes)?)?)?;
     Ok(buffers)
+}
+
+/// Returns the data buffers of a column, followed by those of a scalar, or `OutOfMemory`.
+fn buffers_and_scalar(
+    alloc: Global,
+    first: &[Buffer<u8>],
+    bytes: &[u8],
+) -> PolarsResult<Buffer<Buffer<u8>>>
+    requires { length first.now + length (scalar_buffers bytes.now) ≤ max_buffers }
+    ensures buffers { IfOk result (λ joined. joined ≡ first.now ++ scalar_buffers bytes.now) }
+    ensures refusal { IfErr result IsOutOfMemory }
+{
+    let second = buffers_of_scalar(alloc, bytes)?;
+    joined_buffers(alloc, first, &second)
 }
 
 /// Returns the data buffers of both inputs, concatenated, or `OutOfMemory`.

@@ -1,4 +1,4 @@
-use Rattle.sel_ternary.proofs.Common.{◌≡◌, ◌+◌, ◌*◌, ◌/◌, ◌≤◌, ◌∙◌, [], length, length_part, take, drop, subst, ap, arith, vec_capacity, bits, choose}
+use Rattle.sel_ternary.proofs.Common.{◌≡◌, ◌+◌, ◌*◌, ◌/◌, ◌≤◌, ◌∙◌, [], length, length_part, take, drop, subst, ap, arith, vec_capacity, bits, choose, IfOk-weaker}
 use Rattle.std.specs.Prelude.{◌%◌}
 use Rattle.std.proofs.lemmas.List.{take_rest}
 use Rattle.sel_bits.specs.{Bits.bits_from, Words.word_of}
@@ -61,4 +61,14 @@ returns-clause-items g c =
     let marks = block_bits ms bytes shift len block width c.first_word-word.result c.as_slice-shift.ensures.bits le made in
     let now = filled_next n ms ts fs long [] capacity (64 * block) c.loop-block.out c.loop-block.invariant width c.push_word-2.new.out (choose (bits width c.first_word-word.result) (side_values c.part-trues-2.result) (side_values c.part-falses-2.result)) c.push_word-2.ensures.items c.push_word-2.ensures.capacity
     (λ i. choose (marks i) ((c.part-trues-2.ensures ∙ ap (λ k. take width (drop k ts)) here) i) ((c.part-falses-2.ensures ∙ ap (λ k. take width (drop k fs)) here) i)) in
-    filled_all n ms ts fs long [] capacity (64 * block + width) c.push_word-2.new.out now all
+    IfOk-weaker c.from_vec.result _ _ (λ _ is. is ∙ filled_all n ms ts fs long [] capacity (64 * block + width) c.push_word-2.new.out now all) c.from_vec.ensures.items
+
+pub push_word-requires-2-clause-true_side : goal.push_word-requires-2-clause-true_side
+push_word-requires-2-clause-true_side g c =
+    let len = c.as_slice-shift.result.2 in
+    ap length c.part-trues-2.ensures ∙ length_part (len / 64 * 64) (len % 64) _ (omega (arith, c.requires.true_side, c.as_slice-shift.ensures.len))
+
+pub push_word-requires-2-clause-false_side : goal.push_word-requires-2-clause-false_side
+push_word-requires-2-clause-false_side g c =
+    let len = c.as_slice-shift.result.2 in
+    ap length c.part-falses-2.ensures ∙ length_part (len / 64 * 64) (len % 64) _ (omega (arith, c.requires.false_side, c.as_slice-shift.ensures.len))

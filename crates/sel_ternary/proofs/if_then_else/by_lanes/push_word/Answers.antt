@@ -1,5 +1,5 @@
-use Rattle.sel_ternary.proofs.Common.{◌≡◌, ◌∙◌, ◌+◌, ◌-◌, ◌*◌, ◌/◌, ◌^◌, ◌++◌, subst, ap, arith, vec_capacity, bits, choose}
-use Rattle.sel_ternary.proofs.{Chosen.chosen_to, Lanes.IsFilled, Lanes.bits_low, Lanes.word_all, Lanes.word_next}
+use Rattle.sel_ternary.proofs.Common.{◌≡◌, ◌∙◌, ◌+◌, ◌-◌, ◌*◌, ◌/◌, ◌^◌, ◌++◌, length, length_part, subst, ap, arith, vec_capacity, bits, choose}
+use Rattle.sel_ternary.proofs.{Chosen.chosen_to, Lanes.IsFilled, Lanes.bits_low, Lanes.filled_size, Lanes.word_all, Lanes.word_next}
 use Rattle.sel_ternary.specs.SideValues.{side_values}
 use Rattle.sel_ternary.proofs.if_then_else.by_lanes.push_word.Goals as goal
 
@@ -25,3 +25,27 @@ returns-then-rest-gt0-clause-items g c =
 pub returns-else-rest-gt0-clause-items : goal.returns-else-rest-gt0-clause-items
 returns-else-rest-gt0-clause-items g c =
     word_all c.args.count c.args.mask _ _ c.requires.true_side c.requires.false_side _ _ (16 * c.loop-k.k) c.loop-k.out c.loop-k.invariant (omega (arith, c.if-rest-gt0.false, c.loop-k-test.false, c.loop-k.auto.k-end))
+
+pub push_sides-requires-clause-true_side : goal.push_sides-requires-clause-true_side
+push_sides-requires-clause-true_side g c = ap length c.part-trues.ensures ∙ length_part (16 * c.loop-k.k) 16 _ (omega (arith, c.requires.true_side, c.loop-k-test.true))
+
+pub push_sides-requires-clause-false_side : goal.push_sides-requires-clause-false_side
+push_sides-requires-clause-false_side g c = ap length c.part-falses.ensures ∙ length_part (16 * c.loop-k.k) 16 _ (omega (arith, c.requires.false_side, c.loop-k-test.true))
+
+pub push_sides-requires-clause-room : goal.push_sides-requires-clause-room
+push_sides-requires-clause-room g c =
+    omega (arith, filled_size _ _ _ _ _ _ _ c.loop-k.invariant, c.requires.room, c.loop-k.invariant.room, c.loop-k-test.true)
+
+pub push_bits-requires-clause-true_side : goal.push_bits-requires-clause-true_side
+push_bits-requires-clause-true_side g c =
+    let n = c.args.count in
+    ap length c.part-trues-then-rest-gt0.ensures ∙ length_part (n / 16 * 16) (n - n / 16 * 16) _ (omega (arith, c.requires.true_side))
+
+pub push_bits-requires-clause-false_side : goal.push_bits-requires-clause-false_side
+push_bits-requires-clause-false_side g c =
+    let n = c.args.count in
+    ap length c.part-falses-then-rest-gt0.ensures ∙ length_part (n / 16 * 16) (n - n / 16 * 16) _ (omega (arith, c.requires.false_side))
+
+pub push_bits-requires-clause-room : goal.push_bits-requires-clause-room
+push_bits-requires-clause-room g c =
+    omega (arith, filled_size _ _ _ _ _ _ _ c.loop-k.invariant, c.requires.room, c.loop-k.invariant.room, c.loop-k-test.false, c.loop-k.auto.k-end)

@@ -11,7 +11,7 @@ invariant_of-result c =
     let y = c.new_from_bytes-second.result in
     let joined : c.in_ok-buffers.buffers ≡ scalar_buffers first ++ scalar_buffers second =
     c.in_ok-buffers.ensures.buffers ∙ (λ i. (c.deref.ensures.value ∙ c.in_ok-trues.ensures.buffers) i ++ (c.deref-2.ensures.value ∙ c.in_ok-falses.ensures.buffers) i) in
-    let out : c.in_ok-views.views ≡ broadcast_both ms x y = c.in_ok-views.ensures.items ∙ c.in_ok-choose_scalars.ensures.items in
+    let out : c.in_ok-views.views ≡ broadcast_both ms x y = c.in_ok-views.ensures.items in
     let long : length c.in_ok-views.views ≡ length ms = ap length out ∙ length-choose_of_two ms x y in
     record {
       rows_fit = omega (arith, long, c.requires);

@@ -18,13 +18,13 @@ invariant_of-result c =
     let p = side_long (view_value a.buffers) ms a.views a.validity c.requires.true_side in
     let q = side_long (view_value b.buffers) ms b.views b.validity c.requires.false_side in
     let joined : c.in_ok-buffers.buffers ≡ a.buffers ++ b.buffers = c.in_ok-buffers.ensures.buffers ∙ (λ i. c.as_slice.ensures i ++ c.as_slice-2.ensures i) in
-    let out : c.in_ok-views-2.views ≡ choose ms a.views (map (λ (view : View). raised view (length a.buffers)) b.views) =
-    c.in_ok-views-2.ensures.items ∙ c.in_ok-views.ensures.items ∙ (λ i. choose ms (c.as_slice-trues.ensures i) (map (λ (view : View). raised view (c.len-before.ensures i)) (c.as_slice-falses.ensures i))) in
-    let long : length c.in_ok-views-2.views ≡ length ms = ap length out ∙ length-choose ms a.views (map (λ (view : View). raised view (length a.buffers)) b.views) p (length-map b.views (λ (view : View). raised view (length a.buffers)) ∙ q) in
+    let out : c.in_ok-views.views ≡ choose ms a.views (map (λ (view : View). raised view (length a.buffers)) b.views) =
+    c.in_ok-views.ensures.items ∙ (λ i. choose ms (c.as_slice-trues.ensures i) (map (λ (view : View). raised view (c.len-before.ensures i)) (c.as_slice-falses.ensures i))) in
+    let long : length c.in_ok-views.views ≡ length ms = ap length out ∙ length-choose ms a.views (map (λ (view : View). raised view (length a.buffers)) b.views) p (length-map b.views (λ (view : View). raised view (length a.buffers)) ∙ q) in
     record {
       rows_fit = omega (arith, long, p, a.rows_fit);
       buffers_fit = omega (arith, ap length joined, length-append a.buffers b.buffers, c.in_ok-check_limits.ensures.buffers, c.len-before.ensures, c.len.ensures);
-      validity_fits = choice_covers ms _ _ c.in_ok-validity.validity c.in_ok-views-2.views long
+      validity_fits = choice_covers ms _ _ c.in_ok-validity.validity c.in_ok-views.views long
           (side_covers (view_value a.buffers) ms a.views a.validity _ a.validity_fits c.requires.true_side c.as_ref.ensures.value) (side_covers (view_value b.buffers) ms b.views b.validity _ b.validity_fits c.requires.false_side c.as_ref-2.ensures.value) c.in_ok-validity.ensures.value;
-      placed = both_placed a.buffers b.buffers a.views b.views a.placed b.placed ms c.in_ok-views-2.views _ joined out;
+      placed = both_placed a.buffers b.buffers a.views b.views a.placed b.placed ms c.in_ok-views.views _ joined out;
     }

@@ -11,20 +11,11 @@ loop-k-preserved c =
     _ _ _ _ _ _ c.lanes_u64-one.ensures c.lanes_u64-other.ensures c.push_lanes.ensures.items)
     c.push_lanes.ensures.capacity
 
-pub part-trues-requires : goal.part-trues-requires
-part-trues-requires c = omega (arith, c.requires.true_side, c.loop-k-test.true)
-
-pub part-falses-requires : goal.part-falses-requires
-part-falses-requires c = omega (arith, c.requires.false_side, c.loop-k-test.true)
-
 pub lanes_u64-one-requires : goal.lanes_u64-one-requires
 lanes_u64-one-requires c = ap length c.part-trues.ensures ∙ length_part (4 * c.loop-k.k) 4 _ (omega (arith, c.requires.true_side, c.loop-k-test.true))
 
 pub lanes_u64-other-requires : goal.lanes_u64-other-requires
 lanes_u64-other-requires c = ap length c.part-falses.ensures ∙ length_part (4 * c.loop-k.k) 4 _ (omega (arith, c.requires.false_side, c.loop-k-test.true))
-
-pub set_lanes_64-requires : goal.set_lanes_64-requires
-set_lanes_64-requires c = omega (arith, c.loop-k-test.true)
 
 pub push_lanes-requires-clause-room : goal.push_lanes-requires-clause-room
 push_lanes-requires-clause-room c =
@@ -33,6 +24,3 @@ push_lanes-requires-clause-room c =
 pub returns-clause-items : goal.returns-clause-items
 returns-clause-items c =
     word_all 16 c.args.mask _ _ c.requires.true_side c.requires.false_side _ _ (4 * c.loop-k.k) c.loop-k.out c.loop-k.invariant (omega (arith, c.loop-k-test.false, c.loop-k.auto.k-end))
-
-pub returns-clause-capacity : goal.returns-clause-capacity
-returns-clause-capacity c = c.loop-k.invariant.room
