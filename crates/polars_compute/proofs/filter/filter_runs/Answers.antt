@@ -10,15 +10,14 @@ returns-in_err-column c =
     let column = c.args.column.now in
     let mask = c.args.mask.now.bits in
     let picked = pick Null (rows column ∷ []) (map place_pick (kept mask)) in
-    record {
-      rows = search rules;
-      dtype = search rules;
-      refusal =
-          rw (p.1, p.2)
-          (memory_alone (exceeded_taken (type_of column) (column ∷ []) picked) c.in_err-column.field-0.0
+    rw (p.1, p.2)
+    (record {
+      rows = tt;
+      dtype = tt;
+      refusal = (memory_alone (exceeded_taken (type_of column) (column ∷ []) picked) c.in_err-column.field-0.0
           (λ limit h. kept_fits column c.requires.formed mask limit (subst (λ l. exceeded_limits (type_of column) l limit) (picked_kept Null (rows column) mask c.requires.long) (one_source column c.requires.formed picked limit h)))
           c.in_err-column.ensures.refusal);
-    }
+    })
 
 pub returns : goal.returns
 returns c =

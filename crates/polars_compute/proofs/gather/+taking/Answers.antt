@@ -11,11 +11,8 @@ use Rattle.polars_compute.proofs.gather.+taking.Goals as goal
 pub take_any-returns-in_err-take_binary-in-LargeBinary : goal.take_any-returns-in_err-take_binary-in-LargeBinary
 take_any-returns-in_err-take_binary-in-LargeBinary t c =
     let p = err_from_is_err_and c.from_residual-in_err-take_binary-in-LargeBinary.result c.from_residual-in_err-take_binary-in-LargeBinary.ensures.1 in
-    record {
-      rows = search rules;
-      dtype = search rules;
-      refusal = rw (p.1, p.2, c.in-LargeBinary.is) c.in_err-take_binary-in-LargeBinary.ensures.refusal;
-    }
+    rw (p.1, p.2, c.in-LargeBinary.is)
+    (record { rows = tt; dtype = tt; refusal = c.in_err-take_binary-in-LargeBinary.ensures.refusal })
 
 pub take_any-take_struct-requires : goal.take_any-take_struct-requires
 take_any-take_struct-requires t c =
@@ -51,13 +48,8 @@ take_struct-returns-in_err-fields t c =
     let same : exceeded_in_taken c.deref.result.now (primitive_rows c.in_ok-live.live) ≡ exceeded_in_taken fields.items (map (live_index validity) indices) =
     λ i. exceeded_in_taken (c.deref.ensures.value i) (c.in_ok-live.ensures.rows i)
     in
-    record {
-      rows = search rules;
-      dtype = search rules;
-      refusal =
-          rw (p.1, p.2)
-          (refused_more _ _ c.in_err-fields.field-0.0 (λ limit h. struct_exceeded c.args.count fields validity c.requires.formed indices limit c.requires.inside (subst (λ f. f limit) same h)) c.in_err-fields.ensures.refusal);
-    }
+    rw (p.1, p.2)
+    (record { rows = tt; dtype = tt; refusal = (refused_more _ _ c.in_err-fields.field-0.0 (λ limit h. struct_exceeded c.args.count fields validity c.requires.formed indices limit c.requires.inside (subst (λ f. f limit) same h)) c.in_err-fields.ensures.refusal) })
 
 pub take_struct-invariant_of-result : goal.take_struct-invariant_of-result
 take_struct-invariant_of-result t c =

@@ -18,33 +18,28 @@ returns-in_err-text-clause-step g c =
 pub returns-in_err-sent-clause-step : goal.returns-in_err-sent-clause-step
 returns-in_err-sent-clause-step g c =
     let p = err_from_is_err_and c.from_residual-in_err-sent.result c.from_residual-in_err-sent.ensures.1 in
-    let is = c.as_bytes.ensures.value ∙ c.in_ok-text.ensures.text ∙ ap (λ l. output_from c.args.number (lines_in c.in_ok-end.end l)) c.deref.ensures.value in
     let cut = c.in_err-sent.ensures.err in
-    rw (p.1, p.2, c.in_err-sent.ensures.fault) (stopped c.args.number c.in_ok-end.end c.read_line.new.line.items _ _ _ c.in_ok-end.ensures.ok c.as_bytes.result.now is _ cut.0 cut.1)
+    rw (p.1, p.2, c.in_err-sent.ensures.fault) (stopped c.args.number c.in_ok-end.end c.read_line.new.line.items _ _ _ c.in_ok-end.ensures.ok _ _ c.deref.ensures.value (c.as_bytes.ensures.value ∙ c.in_ok-text.ensures.text) _ cut.0 cut.1)
 
 pub returns-in_err-flush-clause-step : goal.returns-in_err-flush-clause-step
 returns-in_err-flush-clause-step g c =
     let p = err_from_is_err_and c.from_residual-in_err-flush.result c.from_residual-in_err-flush.ensures.1 in
-    let is = c.as_bytes.ensures.value ∙ c.in_ok-text.ensures.text ∙ ap (λ l. output_from c.args.number (lines_in c.in_ok-end.end l)) c.deref.ensures.value in
-    rw (p.1, p.2, c.in_err-flush.ensures.fault) (unflushed c.args.number c.in_ok-end.end c.read_line.new.line.items _ _ _ c.in_ok-end.ensures.ok c.as_bytes.result.now is _ (Appends-kept _ _ _ _ c.in_ok-sent.ensures.ok c.in_err-flush.ensures.bytes))
+    rw (p.1, p.2, c.in_err-flush.ensures.fault) (unflushed c.args.number c.in_ok-end.end c.read_line.new.line.items _ _ _ c.in_ok-end.ensures.ok _ _ c.deref.ensures.value (c.as_bytes.ensures.value ∙ c.in_ok-text.ensures.text) _ (Appends-kept _ _ _ _ c.in_ok-sent.ensures.ok c.in_err-flush.ensures.bytes))
 
 pub returns-in_err-flush-2-clause-step : goal.returns-in_err-flush-2-clause-step
 returns-in_err-flush-2-clause-step g c =
     let p = err_from_is_err_and c.from_residual-in_err-flush-2.result c.from_residual-in_err-flush-2.ensures.1 in
-    let is = c.as_bytes.ensures.value ∙ c.in_ok-text.ensures.text ∙ ap (λ l. output_from c.args.number (lines_in c.in_ok-end.end l)) c.deref.ensures.value in
-    rw (p.1, p.2, c.in_err-flush-2.ensures.fault) (unflushed c.args.number c.in_ok-end.end c.read_line.new.line.items _ _ _ c.in_ok-end.ensures.ok c.as_bytes.result.now is _ (Appends-kept _ _ _ _ c.in_ok-sent.ensures.ok c.in_err-flush-2.ensures.bytes))
+    rw (p.1, p.2, c.in_err-flush-2.ensures.fault) (unflushed c.args.number c.in_ok-end.end c.read_line.new.line.items _ _ _ c.in_ok-end.ensures.ok _ _ c.deref.ensures.value (c.as_bytes.ensures.value ∙ c.in_ok-text.ensures.text) _ (Appends-kept _ _ _ _ c.in_ok-sent.ensures.ok c.in_err-flush-2.ensures.bytes))
 
 pub returns-then-not-is_good-clause-step : goal.returns-then-not-is_good-clause-step
 returns-then-not-is_good-clause-step g c =
-    let is = c.as_bytes.ensures.value ∙ c.in_ok-text.ensures.text ∙ ap (λ l. output_from c.args.number (lines_in c.in_ok-end.end l)) c.deref.ensures.value in
-    bad c.args.number c.in_ok-end.end c.read_line.new.line.items _ _ _ c.in_ok-end.ensures.ok c.as_bytes.result.now is _ (Appends-kept _ _ _ _ c.in_ok-sent.ensures.ok c.flush.ensures.bytes)
-    (ap (λ l. first_bad_from c.args.number (lines_in c.in_ok-end.end l)) (sym c.deref.ensures.value) ∙ c.in_ok-text.ensures.good ∙ ap (λ b. cond b None (Some c.args.number)) c.if-not-is_good.true)
+    bad c.args.number c.in_ok-end.end c.read_line.new.line.items _ _ _ c.in_ok-end.ensures.ok _ _ c.deref.ensures.value (c.as_bytes.ensures.value ∙ c.in_ok-text.ensures.text) _ (Appends-kept _ _ _ _ c.in_ok-sent.ensures.ok c.flush.ensures.bytes)
+    (c.in_ok-text.ensures.good ∙ ap (λ b. cond b None (Some c.args.number)) c.if-not-is_good.true)
 
 pub returns-then-eq-clause-step : goal.returns-then-eq-clause-step
 returns-then-eq-clause-step g c =
-    let is = c.as_bytes.ensures.value ∙ c.in_ok-text.ensures.text ∙ ap (λ l. output_from c.args.number (lines_in c.in_ok-end.end l)) c.deref.ensures.value in
-    fed c.args.number c.in_ok-end.end c.read_line.new.line.items _ _ _ c.in_ok-end.ensures.ok c.as_bytes.result.now is _ c.in_ok-sent.ensures.ok (search rules)
-    (ap (λ l. first_bad_from c.args.number (lines_in c.in_ok-end.end l)) (sym c.deref.ensures.value) ∙ c.in_ok-text.ensures.good ∙ ap (λ b. cond b None (Some c.args.number)) c.if-not-is_good.false)
+    fed c.args.number c.in_ok-end.end c.read_line.new.line.items _ _ _ c.in_ok-end.ensures.ok _ _ c.deref.ensures.value (c.as_bytes.ensures.value ∙ c.in_ok-text.ensures.text) _ c.in_ok-sent.ensures.ok (search rules)
+    (c.in_ok-text.ensures.good ∙ ap (λ b. cond b None (Some c.args.number)) c.if-not-is_good.false)
 
 pub returns-clause-step : goal.returns-clause-step
 returns-clause-step g c =

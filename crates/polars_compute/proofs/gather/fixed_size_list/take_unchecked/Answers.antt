@@ -27,17 +27,16 @@ returns-in_err-count c =
     let list = c.in-FixedSizeList in
     let indices = primitive_rows c.args.indices.now in
     let p = err_from_is_err_and c.from_residual-in_err-count.result c.from_residual-in_err-count.ensures.1 in
-    record {
-      rows = search rules;
-      dtype = search rules;
-      refusal =
-          rw (p.1, p.2)
-          (refused_more _ _ c.in_err-count.field-0.0
+    rw (p.1, p.2)
+    (record {
+      rows = tt;
+      dtype = tt;
+      refusal = (refused_more _ _ c.in_err-count.field-0.0
           (λ limit h.
           past_taken_blocks c.args.values.now list.size list.len list.child list.validity list.is c.requires.formed indices limit
           (inl (subst (λ n. ExceedsRows (n * list.size) limit) c.len.ensures.len h)))
           c.in_err-count.ensures.refusal);
-    }
+    })
 
 pub returns-in_err-below : goal.returns-in_err-below
 returns-in_err-below c =
@@ -45,17 +44,16 @@ returns-in_err-below c =
     let indices = primitive_rows c.args.indices.now in
     let p = err_from_is_err_and c.from_residual-in_err-below.result c.from_residual-in_err-below.ensures.1 in
     let count = c.in_ok-count.ensures.below ∙ ap (λ n. n * list.size) c.len.ensures.len in
-    record {
-      rows = search rules;
-      dtype = search rules;
-      refusal =
-          rw (p.1, p.2)
-          (refused_more _ _ c.in_err-below.field-0.0
+    rw (p.1, p.2)
+    (record {
+      rows = tt;
+      dtype = tt;
+      refusal = (refused_more _ _ c.in_err-below.field-0.0
           (λ limit h.
           past_taken_blocks c.args.values.now list.size list.len list.child list.validity list.is c.requires.formed indices limit
           (inr (subst (λ (d : _). exceeded_blocks (type_of d) (length indices * list.size) limit) c.deref.ensures (subst (λ n. exceeded_blocks (type_of c.deref.result.now) n limit) count h))))
           c.in_err-below.ensures.refusal);
-    }
+    })
 
 pub returns : goal.returns
 returns c =
