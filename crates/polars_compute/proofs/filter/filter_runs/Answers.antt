@@ -1,4 +1,4 @@
-use Rattle.polars_compute.proofs.Common.{rules, ◌∷◌, [], ◌∙◌, subst, map, err_from_is_err_and, rows, type_of, Null, pick, memory_alone, exceeded_limits}
+use Rattle.polars_compute.proofs.Common.{◌∷◌, [], ◌∙◌, subst, map, err_from_is_err_and, rows, type_of, Null, pick, memory_alone, exceeded_limits}
 use Rattle.polars_compute.proofs.Common.{exceeded_taken, place_pick, kept}
 use Rattle.sel_gather.proofs.OneSource.{one_source}
 use Rattle.polars_compute.proofs.{Selects.picked_kept, LawProofs.kept_fits}
@@ -21,8 +21,4 @@ returns-in_err-column c =
 
 pub returns : goal.returns
 returns c =
-    record {
-      rows = c.in_ok-column.ensures.rows ∙ picked_kept Null (rows c.args.column.now) c.args.mask.now.bits c.requires.long;
-      dtype = c.in_ok-column.ensures.dtype;
-      refusal = tt;
-    }
+    record { rows = c.in_ok-column.ensures.rows ∙ picked_kept Null (rows c.args.column.now) c.args.mask.now.bits c.requires.long; dtype = c.in_ok-column.ensures.dtype; refusal = tt }

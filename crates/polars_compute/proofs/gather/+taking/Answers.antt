@@ -1,7 +1,7 @@
 use Rattle.polars_compute.proofs.Common.{◌≡◌, ◌≤◌, ◌∙◌, All, pos, ap, sym, subst, map, length, arith, length-map, All-get_or, err_from_is_err_and, max_rows}
 use Rattle.polars_compute.proofs.Common.{primitive_rows, rows, type_of, well_formed, IsField, shapes_of, tuples_type, length-rows, length-number_rows}
 use Rattle.polars_compute.proofs.Common.{has_fields, type_of-Struct, refused_more, size_of, sizes_of, one_size, all_within, exceeded_in_taken, live_index, Null}
-use Rattle.polars_compute.proofs.Common.{rules, [], ◌∷◌, take_rows}
+use Rattle.polars_compute.proofs.Common.{[], ◌∷◌, take_rows}
 use Rattle.polars_compute.specs.TakenFields.{Takes}
 use Rattle.polars_compute.proofs.{Takes.validity_within, Takes.within_as, Takes.length-pick, SelectedRows.fields_more}
 use Rattle.polars_compute.proofs.TakenStructs.{taken_of, length-whole, live_within, past_field, struct_exceeded, struct_fits, struct_taken}

@@ -1,6 +1,6 @@
 use Rattle.polars_compute.proofs.Common.{◌≡◌, ◌*◌, ◌∙◌, inl, inr, refl, sym, ap, subst, length, map, true, err_from_is_err_and, primitive_rows, Bits, masked, blocks}
 use Rattle.polars_compute.proofs.Common.{list_of, rows, row_count, type_of, well_formed, length-blocks, refused_more, finished, pick_of, valid_pick, blocks_within}
-use Rattle.polars_compute.proofs.Common.{rules, of_fixed_size_list, exceeded_blocks, HoldsBlocks, ExceedsRows}
+use Rattle.polars_compute.proofs.Common.{of_fixed_size_list, exceeded_blocks, HoldsBlocks, ExceedsRows}
 use Rattle.polars_compute.proofs.BlockTakes.{blocks_taken, past_taken_blocks, whole_has, whole_validity, whole_within}
 use Rattle.polars_compute.proofs.gather.fixed_size_list.take_unchecked.Goals as goal
 
