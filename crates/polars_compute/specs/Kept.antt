@@ -24,7 +24,8 @@ pub record Keeps (result : Result ArrayRef PolarsError) (shape : Shape) (values 
 -- selects, or `OutOfMemory`.
 pub record KeepsBlocks (result : Result (Option Column) PolarsError) (size : ℕ) (shape : Shape)
     (values : List Value) (mask : List Bool) : Type 0 where
-  pub blocks : IfOk result (λ kept. ForSome kept (λ column. blocks size (count_true mask) (rows column)
+  pub blocks : IfOk result
+      (λ kept. ForSome kept (λ column. blocks size (count_true mask) (rows column)
       ≡ select (blocks size (length mask) values) mask))
   pub count : IfOk result
       (λ kept. ForSome kept (λ column. row_count column ≡ count_true mask * size))

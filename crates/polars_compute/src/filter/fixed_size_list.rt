@@ -1,15 +1,10 @@
 //! Filters for the values of fixed-size list columns.
 
-ghost use Rattle.std.specs.Prelude.{◌≡◌, ◌≤◌, ◌<◌, ◌*◌, None, length, IfOk, IfErr};
+ghost use Rattle.std.specs.Prelude.{◌≡◌, ◌≤◌, ◌<◌, ◌*◌, length};
 ghost use Rattle.std.specs.Mem.{type_size};
-ghost use Rattle.std.specs.Option.{ForSome};
-ghost use Rattle.sel_bits.specs.Faults.{IsOutOfMemory};
 ghost use Rattle.sel_bits.specs.Limits.{max_rows};
-ghost use Rattle.sel_bits.specs.Bits.{count_true};
 ghost use Rattle.sel_arrow.specs.Columns.{primitive_rows};
-ghost use Rattle.sel_arrow.specs.Masked.{number_rows};
-ghost use Rattle.sel_arrow.specs.Nested.{blocks};
-ghost use Rattle.sel_arrow.specs.Rows.{rows, row_count, type_of, IsWellFormed};
+ghost use Rattle.sel_arrow.specs.Rows.{rows, type_of};
 ghost use Rattle.polars_compute.specs.Kept.{KeepsBlocks};
 
 use sel_arrow::column::Column;

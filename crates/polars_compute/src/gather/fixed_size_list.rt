@@ -9,7 +9,7 @@ ghost use Rattle.sel_arrow.specs.Rows.{rows, row_count, type_of, IsWellFormed};
 ghost use Rattle.polars_compute.specs.Blocks.{block_items, blocks_within, is_block_within, IsBeginning};
 ghost use Rattle.polars_compute.specs.Steps.{after_block_copy};
 ghost use Rattle.polars_compute.specs.BareBlocks.{holds_bare, is_bare, TakesBlocks};
-ghost use Rattle.polars_compute.specs.Need.{ExceedsRows, IsLimitOrMemory, exceeded_limits};
+ghost use Rattle.polars_compute.specs.Need.{ExceedsRows, IsLimitOrMemory};
 ghost use Rattle.polars_compute.specs.Pick.{all_within, take_rows};
 ghost use Rattle.polars_compute.specs.TakenFields.{Takes};
 

@@ -7,7 +7,7 @@ ghost use Rattle.sel_arrow.specs.Rows.{rows, type_of, IsField, IsWellFormed};
 ghost use Rattle.sel_arrow.specs.declared.column.Column.{Struct};
 ghost use Rattle.sel_gather.specs.Gathers.{SelectsFrom};
 ghost use Rattle.polars_compute.specs.Blocks.{blocks_within};
-ghost use Rattle.polars_compute.specs.Need.{IsLimitOrMemory, exceeded_limits};
+ghost use Rattle.polars_compute.specs.Need.{IsLimitOrMemory};
 ghost use Rattle.sel_arrow.specs.Masked.{number_value};
 ghost use Rattle.sel_arrow.specs.Value.{Null};
 ghost use Rattle.polars_compute.specs.Pick.{is_within, all_within, all_below, take_rows};
