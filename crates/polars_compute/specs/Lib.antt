@@ -8,6 +8,7 @@ pub mod FixedSizeLists
 pub mod Flatten
 pub mod FlattenPicks
 pub mod JoinedBytes
+pub mod Kept
 pub mod Lanes
 pub mod Laws
 pub mod Lists

@@ -1,16 +1,11 @@
 //! Filters for the values of fixed-size list columns.
 
-ghost use Rattle.std.specs.Prelude.{◌≡◌, ◌≤◌, ◌<◌, ◌*◌, None, length, IfOk, IfErr};
+ghost use Rattle.std.specs.Prelude.{◌≡◌, ◌≤◌, ◌<◌, ◌*◌, length};
 ghost use Rattle.std.specs.Mem.{type_size};
-ghost use Rattle.std.specs.Option.{ForSome};
-ghost use Rattle.sel_bits.specs.Faults.{IsOutOfMemory};
 ghost use Rattle.sel_bits.specs.Limits.{max_rows};
-ghost use Rattle.sel_bits.specs.Bits.{count_true};
 ghost use Rattle.sel_arrow.specs.Columns.{primitive_rows};
-ghost use Rattle.sel_arrow.specs.Masked.{number_rows};
-ghost use Rattle.sel_arrow.specs.Nested.{blocks};
-ghost use Rattle.sel_arrow.specs.Rows.{rows, row_count, type_of, IsWellFormed};
-ghost use Rattle.polars_compute.specs.Select.{select};
+ghost use Rattle.sel_arrow.specs.Rows.{rows, type_of};
+ghost use Rattle.polars_compute.specs.Kept.{KeepsBlocks};
 
 use sel_arrow::column::Column;
 use sel_arrow::primitive::{ArrowPrimitive, PrimitiveArray};
@@ -35,15 +30,7 @@ pub(crate) fn filter_child(
 ) -> PolarsResult<Option<Column>>
     requires fills { length (rows values.now) ≡ length mask.now.bits * size }
     requires few { length (rows values.now) ≤ max_rows }
-    ensures blocks { IfOk result (λ kept. ForSome kept (λ column.
-        blocks size (count_true mask.now.bits) (rows column) ≡
-        select (blocks size (length mask.now.bits) (rows values.now)) mask.now.bits)) }
-    ensures count { IfOk result (λ kept. ForSome kept (λ column.
-        row_count column ≡ count_true mask.now.bits * size)) }
-    ensures dtype { IfOk result (λ kept. ForSome kept (λ column.
-        type_of column ≡ type_of values.now)) }
-    ensures formed { IfOk result (λ kept. ForSome kept (λ column. IsWellFormed column)) }
-    ensures refusal { IfErr result IsOutOfMemory }
+    ensures { KeepsBlocks result size (type_of values.now) (rows values.now) mask.now.bits }
 {
     match values {
         Column::Int8(numbers) => filter_numbers(alloc, numbers, size, mask, count),
@@ -71,54 +58,39 @@ fn filter_numbers<T: ArrowPrimitive>(
     requires sized { type_size T.row ≤ 16 }
     requires fills { length (primitive_rows numbers.now) ≡ length mask.now.bits * size }
     requires few { length (primitive_rows numbers.now) ≤ max_rows }
-    ensures blocks { IfOk result (λ kept. ForSome kept (λ column.
-        blocks size (count_true mask.now.bits) (rows column) ≡
-        select (blocks size (length mask.now.bits) (primitive_rows numbers.now)) mask.now.bits)) }
-    ensures count { IfOk result (λ kept. ForSome kept (λ column.
-        row_count column ≡ count_true mask.now.bits * size)) }
-    ensures dtype { IfOk result (λ kept. ForSome kept (λ column. type_of column ≡ T.shape)) }
-    ensures formed { IfOk result (λ kept. ForSome kept (λ column. IsWellFormed column)) }
-    ensures refusal { IfErr result IsOutOfMemory }
+    ensures { KeepsBlocks result size T.shape (primitive_rows numbers.now) mask.now.bits }
 {
-    if numbers.validity.is_some() {
-        return Ok(None);
-    }
-    let values = numbers.values.as_slice();
     match size {
-        1 => filter_sized::<T, 1>(alloc, values, mask, count),
-        2 => filter_sized::<T, 2>(alloc, values, mask, count),
-        3 => filter_sized::<T, 3>(alloc, values, mask, count),
-        4 => filter_sized::<T, 4>(alloc, values, mask, count),
-        8 => filter_sized::<T, 8>(alloc, values, mask, count),
-        16 => filter_sized::<T, 16>(alloc, values, mask, count),
-        32 => filter_sized::<T, 32>(alloc, values, mask, count),
+        1 => filter_sized::<T, 1>(alloc, numbers, mask, count),
+        2 => filter_sized::<T, 2>(alloc, numbers, mask, count),
+        3 => filter_sized::<T, 3>(alloc, numbers, mask, count),
+        4 => filter_sized::<T, 4>(alloc, numbers, mask, count),
+        8 => filter_sized::<T, 8>(alloc, numbers, mask, count),
+        16 => filter_sized::<T, 16>(alloc, numbers, mask, count),
+        32 => filter_sized::<T, 32>(alloc, numbers, mask, count),
         _ => Ok(None),
     }
 }
 
-/// Returns the column of the values of the lists of `N` values whose bit is set.
+/// Returns the column of the values of the lists of `N` values whose bit is set, or `None` if the
+/// values have a validity.
 fn filter_sized<T: ArrowPrimitive, const N: usize>(
     alloc: Global,
-    values: &[T],
+    numbers: &PrimitiveArray<T>,
     mask: &Bitmap,
     count: usize,
 ) -> PolarsResult<Option<Column>>
     requires some { 0 < N }
     requires small { N ≤ 64 }
     requires sized { type_size T.row ≤ 16 }
-    requires fills { length values.now ≡ length mask.now.bits * N }
-    requires few { length values.now ≤ max_rows }
-    ensures blocks { IfOk result (λ kept. ForSome kept (λ column.
-        blocks N (count_true mask.now.bits) (rows column) ≡
-        select (blocks N (length mask.now.bits) (number_rows T.number values.now None))
-        mask.now.bits)) }
-    ensures count { IfOk result (λ kept. ForSome kept (λ column.
-        row_count column ≡ count_true mask.now.bits * N)) }
-    ensures dtype { IfOk result (λ kept. ForSome kept (λ column. type_of column ≡ T.shape)) }
-    ensures formed { IfOk result (λ kept. ForSome kept (λ column. IsWellFormed column)) }
-    ensures refusal { IfErr result IsOutOfMemory }
+    requires fills { length (primitive_rows numbers.now) ≡ length mask.now.bits * N }
+    requires few { length (primitive_rows numbers.now) ≤ max_rows }
+    ensures { KeepsBlocks result N T.shape (primitive_rows numbers.now) mask.now.bits }
 {
-    let (lists, _) = values.as_chunks::<N>();
+    if numbers.validity.is_some() {
+        return Ok(None);
+    }
+    let (lists, _) = numbers.values.as_slice().as_chunks::<N>();
     let kept = filter_arrays(alloc, lists, mask, count)?;
     let values = Buffer::from_vec(kept)?;
     Ok(Some(T::into_column(values, None)))

@@ -6,11 +6,12 @@ ghost use Rattle.sel_bits.specs.Limits.{max_rows};
 ghost use Rattle.sel_bits.specs.Bits.{count_true};
 ghost use Rattle.sel_arrow.specs.Columns.{null_rows, boolean_rows, primitive_rows, binview_rows, utf8view_rows};
 ghost use Rattle.sel_arrow.specs.Rows.{rows, type_of, IsField, IsWellFormed};
-ghost use Rattle.sel_arrow.specs.declared.column.Column.{Struct};
+ghost use Rattle.sel_arrow.specs.declared.column.Column.{Boolean, Struct};
 ghost use Rattle.sel_arrow.specs.Value.{Null};
 ghost use Rattle.sel_gather.specs.Gathers.{Collects};
 ghost use Rattle.sel_gather.specs.Picks.{pick};
 ghost use Rattle.polars_compute.specs.FixedSizeLists.{IsFixedSizeList};
+ghost use Rattle.polars_compute.specs.Kept.{Keeps};
 ghost use Rattle.polars_compute.specs.Pick.{place_pick};
 ghost use Rattle.polars_compute.specs.Select.{select, effective_mask, kept};
 
@@ -125,7 +126,6 @@ pub fn filter_selected(
 /// field, fixed-size lists of primitive values list by list, and binary and other list columns by
 /// runs of set bits.
 #[cycle(filtering)]
-#[tactic(auto, using(crate::proofs::KeptColumns::row_counts))]
 fn filter_column(
     alloc: Global,
     column: &Column,
@@ -135,14 +135,11 @@ fn filter_column(
     requires formed { IsWellFormed column.now }
     requires long { length (rows column.now) ≡ length mask.now.bits }
     requires count { count ≡ count_true mask.now.bits }
-    ensures rows { IfOk result (λ kept. rows kept.column ≡ select (rows column.now)
-        mask.now.bits) }
-    ensures dtype { IfOk result (λ kept. type_of kept.column ≡ type_of column.now) }
-    ensures refusal { IfErr result IsOutOfMemory }
+    ensures { Keeps result (type_of column.now) (rows column.now) mask.now.bits }
 {
     match column {
         Column::Null(column) => Ok(filter_null(column, mask, count).into_ref()),
-        Column::Boolean(column) => Ok(filter_boolean(alloc, column, mask, count)?.into_ref()),
+        Column::Boolean(column) => filter_boolean(alloc, column, mask, count),
         Column::Int8(column) => filter_numbers(alloc, column, mask, count),
         Column::Int16(column) => filter_numbers(alloc, column, mask, count),
         Column::Int32(column) => filter_numbers(alloc, column, mask, count),
@@ -167,7 +164,7 @@ fn filter_column(
             ..
         } => filter_lists(alloc, column, *size, values, validity, mask, count),
         Column::LargeBinary(_) | Column::LargeList { .. } => {
-            Ok(filter_runs(alloc, column, mask, count)?)
+            filter_runs(alloc, column, mask, count)
         }
     }
 }
@@ -185,11 +182,8 @@ fn filter_struct(
     requires formed { IsWellFormed (Struct _len fields.now validity.now) }
     requires long { _len ≡ length mask.now.bits }
     requires count { count ≡ count_true mask.now.bits }
-    ensures rows { IfOk result (λ kept. rows kept.column ≡
-        select (rows (Struct _len fields.now validity.now)) mask.now.bits) }
-    ensures dtype { IfOk result (λ kept. type_of kept.column ≡
-        type_of (Struct _len fields.now validity.now)) }
-    ensures refusal { IfErr result IsOutOfMemory }
+    ensures { Keeps result (type_of (Struct _len fields.now validity.now))
+        (rows (Struct _len fields.now validity.now)) mask.now.bits }
 {
     let validity = filter_validity(alloc, validity.as_ref(), mask, count)?;
     let fields = filter_fields(alloc, fields, mask, count)?;
@@ -226,6 +220,7 @@ fn filter_fields(
 }
 
 /// Returns the primitive values whose bit is set, as a column of any type.
+#[tactic(auto, using(crate::proofs::Selects::kept_columns))]
 fn filter_numbers<T: ArrowPrimitive>(
     alloc: Global,
     column: &PrimitiveArray<T>,
@@ -234,12 +229,16 @@ fn filter_numbers<T: ArrowPrimitive>(
 ) -> PolarsResult<ArrayRef>
     requires long { length (primitive_rows column.now) ≡ length mask.now.bits }
     requires count { count ≡ count_true mask.now.bits }
-    ensures rows { IfOk result (λ kept. rows kept.column ≡
-        select (primitive_rows column.now) mask.now.bits) }
-    ensures dtype { IfOk result (λ kept. type_of kept.column ≡ T.shape) }
-    ensures refusal { IfErr result IsOutOfMemory }
+    ensures { Keeps result T.shape (primitive_rows column.now) mask.now.bits }
 {
-    Ok(filter_primitive(alloc, column, mask, count)?.into_ref())
+    let (values, validity) = filter_counted_buffer(
+        alloc,
+        &column.values,
+        &column.validity,
+        mask,
+        count,
+    )?;
+    Ok(PrimitiveArray { values, validity }.into_ref())
 }
 
 /// Returns the fixed-size lists whose bit is set; `column` has these parts.
@@ -257,10 +256,7 @@ fn filter_lists(
     requires parts { IsFixedSizeList column.now size values.now validity.now }
     requires long { length (rows column.now) ≡ length mask.now.bits }
     requires count { count ≡ count_true mask.now.bits }
-    ensures rows { IfOk result (λ kept. rows kept.column ≡ select (rows column.now)
-        mask.now.bits) }
-    ensures dtype { IfOk result (λ kept. type_of kept.column ≡ type_of column.now) }
-    ensures refusal { IfErr result IsOutOfMemory }
+    ensures { Keeps result (type_of column.now) (rows column.now) mask.now.bits }
 {
     let validity = filter_validity(alloc, validity.as_ref(), mask, count)?;
     let Some(child) = filter_child(alloc, values, size, mask, count)? else {
@@ -289,10 +285,7 @@ fn filter_runs(
     requires long { length (rows column.now) ≡ length mask.now.bits }
     requires few { length mask.now.bits ≤ max_rows }
     requires count { count ≡ count_true mask.now.bits }
-    ensures rows { IfOk result (λ kept. rows kept.column ≡ select (rows column.now)
-        mask.now.bits) }
-    ensures dtype { IfOk result (λ kept. type_of kept.column ≡ type_of column.now) }
-    ensures refusal { IfErr result IsOutOfMemory }
+    ensures { Keeps result (type_of column.now) (rows column.now) mask.now.bits }
 {
     let column = collect_kept(alloc, column, mask, count)?;
     Ok(ArrayRef { column })
@@ -361,19 +354,17 @@ fn filter_null(_array: &NullArray, _mask: &Bitmap, count: usize) -> NullArray
     NullArray { length: count }
 }
 
-/// Returns the booleans whose bit is set.
+/// Returns the booleans whose bit is set, as a column of any type.
 #[tactic(auto, using(crate::proofs::Selects::kept_columns))]
 fn filter_boolean(
     alloc: Global,
     array: &BooleanArray,
     mask: &Bitmap,
     count: usize,
-) -> PolarsResult<BooleanArray>
+) -> PolarsResult<ArrayRef>
     requires long { length (boolean_rows array.now) ≡ length mask.now.bits }
     requires count { count ≡ count_true mask.now.bits }
-    ensures rows { IfOk result (λ kept. boolean_rows kept ≡
-        select (boolean_rows array.now) mask.now.bits) }
-    ensures refusal { IfErr result IsOutOfMemory }
+    ensures { Keeps result (type_of (Boolean array.now)) (boolean_rows array.now) mask.now.bits }
 {
     let (values, validity) = filter_counted_booleans(
         alloc,
@@ -382,31 +373,7 @@ fn filter_boolean(
         mask,
         count,
     )?;
-    Ok(BooleanArray { values, validity })
-}
-
-/// Returns the primitive values whose bit is set.
-#[tactic(auto, using(crate::proofs::Selects::kept_columns))]
-fn filter_primitive<T: ArrowPrimitive>(
-    alloc: Global,
-    array: &PrimitiveArray<T>,
-    mask: &Bitmap,
-    count: usize,
-) -> PolarsResult<PrimitiveArray<T>>
-    requires long { length (primitive_rows array.now) ≡ length mask.now.bits }
-    requires count { count ≡ count_true mask.now.bits }
-    ensures rows { IfOk result (λ kept. primitive_rows kept ≡
-        select (primitive_rows array.now) mask.now.bits) }
-    ensures refusal { IfErr result IsOutOfMemory }
-{
-    let (values, validity) = filter_counted_buffer(
-        alloc,
-        &array.values,
-        &array.validity,
-        mask,
-        count,
-    )?;
-    Ok(PrimitiveArray { values, validity })
+    Ok(BooleanArray { values, validity }.into_ref())
 }
 
 /// Returns the views whose bit is set; the data buffers are shared.

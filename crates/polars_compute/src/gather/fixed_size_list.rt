@@ -8,9 +8,10 @@ ghost use Rattle.sel_arrow.specs.Masked.{number_value};
 ghost use Rattle.sel_arrow.specs.Rows.{rows, row_count, type_of, IsWellFormed};
 ghost use Rattle.polars_compute.specs.Blocks.{block_items, blocks_within, is_block_within, IsBeginning};
 ghost use Rattle.polars_compute.specs.Steps.{after_block_copy};
-ghost use Rattle.polars_compute.specs.BareBlocks.{holds_bare, is_bare, exceeded_blocks, HoldsBlocks};
-ghost use Rattle.polars_compute.specs.Need.{ExceedsRows, IsLimitOrMemory, exceeded_limits};
+ghost use Rattle.polars_compute.specs.BareBlocks.{holds_bare, is_bare, TakesBlocks};
+ghost use Rattle.polars_compute.specs.Need.{ExceedsRows, IsLimitOrMemory};
 ghost use Rattle.polars_compute.specs.Pick.{all_within, take_rows};
+ghost use Rattle.polars_compute.specs.TakenFields.{Takes};
 
 use crate::gather::blocks::take_block_values;
 use crate::gather::validity::take_validity;
@@ -142,13 +143,8 @@ pub(crate) fn take_unchecked(
     requires formed { IsWellFormed values.now }
     requires bare { IsTrue (holds_bare values.now) }
     requires inside { IsTrue (all_within (length (rows values.now)) (primitive_rows indices.now)) }
-    ensures rows { IfOk result
-        (λ taken. rows taken.column ≡ take_rows (rows values.now) (primitive_rows indices.now)) }
-    ensures dtype { IfOk result (λ taken. type_of taken.column ≡ type_of values.now) }
-    ensures refusal { IfErr result
-        (IsLimitOrMemory
-        (exceeded_limits (type_of values.now)
-        (take_rows (rows values.now) (primitive_rows indices.now)))) }
+    ensures { Takes result (type_of values.now)
+        (take_rows (rows values.now) (primitive_rows indices.now)) }
 {
     let Column::FixedSizeList {
         size,
@@ -213,12 +209,8 @@ fn take_level(
     requires some { 0 < length (primitive_rows indices.now) }
     requires count { count ≡ length (primitive_rows indices.now) * size }
     requires few { count ≤ max_rows }
-    ensures blocks { IfOk result
-        (λ taken. HoldsBlocks size (rows column.now) (primitive_rows indices.now) (rows taken)) }
-    ensures count { IfOk result (λ taken. row_count taken ≡ count) }
-    ensures dtype { IfOk result (λ taken. type_of taken ≡ type_of column.now) }
-    ensures formed { IfOk result (λ taken. IsWellFormed taken) }
-    ensures refusal { IfErr result (IsLimitOrMemory (exceeded_blocks (type_of column.now) count)) }
+    ensures { TakesBlocks result size (type_of column.now) (rows column.now)
+        (primitive_rows indices.now) count }
 {
     match column {
         Column::Int8(numbers) => take_leaf(alloc, numbers, size, indices),
@@ -261,15 +253,8 @@ fn take_leaf<T: ArrowPrimitive>(
     requires inside { IsTrue
         (blocks_within size (length (primitive_rows numbers.now)) (primitive_rows indices.now)) }
     requires few { length (primitive_rows indices.now) * size ≤ max_rows }
-    ensures blocks { IfOk result
-        (λ taken.
-        HoldsBlocks size (primitive_rows numbers.now) (primitive_rows indices.now)
-        (rows taken)) }
-    ensures count { IfOk result
-        (λ taken. row_count taken ≡ length (primitive_rows indices.now) * size) }
-    ensures dtype { IfOk result (λ taken. type_of taken ≡ T.shape) }
-    ensures formed { IfOk result (λ taken. IsWellFormed taken) }
-    ensures refusal { IfErr result IsOutOfMemory }
+    ensures { TakesBlocks result size T.shape (primitive_rows numbers.now)
+        (primitive_rows indices.now) (length (primitive_rows indices.now) * size) }
 {
     let zero = T::from_usize(0).unwrap_or(T::LEAST);
     let values = take_block_values(alloc, numbers.values.as_slice(), size, indices, zero)?;

@@ -7,11 +7,11 @@ ghost use Rattle.sel_arrow.specs.Rows.{rows, type_of, IsField, IsWellFormed};
 ghost use Rattle.sel_arrow.specs.declared.column.Column.{Struct};
 ghost use Rattle.sel_gather.specs.Gathers.{SelectsFrom};
 ghost use Rattle.polars_compute.specs.Blocks.{blocks_within};
-ghost use Rattle.polars_compute.specs.Need.{IsLimitOrMemory, exceeded_limits};
+ghost use Rattle.polars_compute.specs.Need.{IsLimitOrMemory};
 ghost use Rattle.sel_arrow.specs.Masked.{number_value};
 ghost use Rattle.sel_arrow.specs.Value.{Null};
 ghost use Rattle.polars_compute.specs.Pick.{is_within, all_within, all_below, take_rows};
-ghost use Rattle.polars_compute.specs.TakenFields.{exceeded_in_taken};
+ghost use Rattle.polars_compute.specs.TakenFields.{Takes, exceeded_in_taken};
 
 pub mod binary;
 mod binview;
@@ -71,11 +71,8 @@ pub fn take_unchecked(alloc: Global, values: &ArrayRef, indices: &IdxArr) -> Pol
 fn take_any(alloc: Global, values: &Column, indices: &IdxArr) -> PolarsResult<ArrayRef>
     requires formed { IsWellFormed values.now }
     requires inside { IsTrue (all_within (length (rows values.now)) (primitive_rows indices.now)) }
-    ensures rows { IfOk result (λ taken. rows taken.column ≡
-        take_rows (rows values.now) (primitive_rows indices.now)) }
-    ensures dtype { IfOk result (λ taken. type_of taken.column ≡ type_of values.now) }
-    ensures refusal { IfErr result (IsLimitOrMemory (exceeded_limits (type_of values.now)
-        (take_rows (rows values.now) (primitive_rows indices.now)))) }
+    ensures { Takes result (type_of values.now)
+        (take_rows (rows values.now) (primitive_rows indices.now)) }
 {
     match values {
         Column::Null(column) => Ok(take_nulls(column, indices).into_ref()),
@@ -96,7 +93,7 @@ fn take_any(alloc: Global, values: &Column, indices: &IdxArr) -> PolarsResult<Ar
         Column::BinaryView(column) => Ok(take_views(alloc, column, indices)?.into_ref()),
         Column::Utf8View(column) => Ok(take_texts(alloc, column, indices)?.into_ref()),
         Column::LargeList { .. } | Column::FixedSizeList { .. } => {
-            Ok(take_lists(alloc, values, indices)?)
+            take_lists(alloc, values, indices)
         }
         Column::Struct {
             len,
@@ -119,13 +116,8 @@ fn take_struct(
 ) -> PolarsResult<ArrayRef>
     requires formed { IsWellFormed (Struct count fields.now validity.now) }
     requires inside { IsTrue (all_within count (primitive_rows indices.now)) }
-    ensures rows { IfOk result (λ taken. rows taken.column ≡
-        take_rows (rows (Struct count fields.now validity.now)) (primitive_rows indices.now)) }
-    ensures dtype { IfOk result (λ taken. type_of taken.column ≡
-        type_of (Struct count fields.now validity.now)) }
-    ensures refusal { IfErr result (IsLimitOrMemory
-        (exceeded_limits (type_of (Struct count fields.now validity.now))
-        (take_rows (rows (Struct count fields.now validity.now)) (primitive_rows indices.now)))) }
+    ensures { Takes result (type_of (Struct count fields.now validity.now))
+        (take_rows (rows (Struct count fields.now validity.now)) (primitive_rows indices.now)) }
 {
     let live = live_indices(alloc, validity, indices)?;
     let fields = take_fields(alloc, fields, count, &live)?;
@@ -168,12 +160,8 @@ fn take_fields(
 fn take_lists(alloc: Global, values: &Column, indices: &IdxArr) -> PolarsResult<ArrayRef>
     requires formed { IsWellFormed values.now }
     requires inside { IsTrue (all_within (length (rows values.now)) (primitive_rows indices.now)) }
-    ensures rows { IfOk result (λ taken. rows taken.column ≡
-        take_rows (rows values.now) (primitive_rows indices.now)) }
-    ensures dtype { IfOk result (λ taken. type_of taken.column ≡ type_of values.now) }
-    ensures refusal { IfErr result
-        (IsLimitOrMemory (exceeded_limits (type_of values.now)
-        (take_rows (rows values.now) (primitive_rows indices.now)))) }
+    ensures { Takes result (type_of values.now)
+        (take_rows (rows values.now) (primitive_rows indices.now)) }
 {
     if fixed_size_list::holds_numbers(values) {
         return fixed_size_list::take_unchecked(alloc, values, indices);
@@ -197,12 +185,8 @@ fn take_numbers<T: ArrowPrimitive>(
 ) -> PolarsResult<ArrayRef>
     requires { IsTrue (all_within (length (primitive_rows values.now))
         (primitive_rows indices.now)) }
-    ensures rows { IfOk result (λ taken. rows taken.column ≡
-        take_rows (primitive_rows values.now) (primitive_rows indices.now)) }
-    ensures dtype { IfOk result (λ taken. type_of taken.column ≡ T.shape) }
-    ensures refusal { IfErr result
-        (IsLimitOrMemory (exceeded_limits T.shape
-        (take_rows (primitive_rows values.now) (primitive_rows indices.now)))) }
+    ensures { Takes result T.shape
+        (take_rows (primitive_rows values.now) (primitive_rows indices.now)) }
 {
     Ok(take_primitive_unchecked(alloc, values, indices)?.into_ref())
 }

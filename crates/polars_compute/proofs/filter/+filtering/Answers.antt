@@ -1,6 +1,6 @@
 use Rattle.polars_compute.proofs.Common.{◌∙◌, All, ap, sym, subst, map, length, arith, All-get_or, count_true, rows, type_of, well_formed, IsField, shapes_of}
 use Rattle.polars_compute.proofs.Common.{tuples_type, length-rows, length-tuple_rows, rows-Struct, has_fields, type_of-Struct, size_of, sizes_of, one_size}
-use Rattle.polars_compute.proofs.Common.{length-select}
+use Rattle.polars_compute.proofs.Common.{length-select, few_rows}
 use Rattle.polars_compute.proofs.{KeptColumns.kept_of, KeptColumns.kept_struct_formed, KeptColumns.kept_struct_rows, SelectedRows.fields_more}
 use Rattle.polars_compute.proofs.filter.+filtering.Goals as goal
 
@@ -11,6 +11,9 @@ filter_column-filter_struct-requires t c =
     let validity = c.in-Struct.validity in
     let count = ap length (rows-Struct len fields validity) ∙ length-tuple_rows len (map rows fields.items) validity in
     (omega (arith, c.decreases, ap size_of (ap type_of c.in-Struct.is ∙ type_of-Struct len fields validity)), (ap well_formed (sym c.in-Struct.is) ∙ c.requires.formed, (sym count ∙ ap (λ x. length (rows x)) (sym c.in-Struct.is) ∙ c.requires.long, c.requires.count)))
+
+pub filter_column-filter_runs-requires-clause-few : goal.filter_column-filter_runs-requires-clause-few
+filter_column-filter_runs-requires-clause-few t c = omega (arith, few_rows c.args.column.now c.requires.formed, length-rows c.args.column.now, c.requires.long)
 
 pub filter_struct-filter_fields-requires : goal.filter_struct-filter_fields-requires
 filter_struct-filter_fields-requires t c =
@@ -24,16 +27,16 @@ filter_struct-invariant_of-result t c =
       formed = kept_struct_formed c.args._len c.args.count c.args.fields.now c.in_ok-fields.fields c.args.validity.now c.in_ok-validity.validity c.args.mask.now.bits c.requires.formed c.requires.long c.requires.count c.in_ok-fields.ensures.fields validity;
     }
 
-pub filter_struct-returns-clause-rows : goal.filter_struct-returns-clause-rows
-filter_struct-returns-clause-rows t c =
+pub filter_struct-returns : goal.filter_struct-returns
+filter_struct-returns t c =
     let ms = c.args.mask.now.bits in
     let validity = rw c.as_ref.ensures.value at c.in_ok-validity.ensures.validity in
-    kept_struct_rows c.args._len c.args.count c.args.fields.now c.in_ok-fields.fields c.args.validity.now c.in_ok-validity.validity ms c.requires.formed c.requires.long c.requires.count
-    (c.in_ok-fields.ensures.rows ∙ ap (map (kept_of ms)) c.deref.ensures.value) validity
-
-pub filter_struct-returns-clause-dtype : goal.filter_struct-returns-clause-dtype
-filter_struct-returns-clause-dtype t c =
-    tuples_type c.args._len c.args.count c.args.fields.now c.in_ok-fields.fields c.args.validity.now c.in_ok-validity.validity (c.in_ok-fields.ensures.dtypes ∙ ap (map type_of) c.deref.ensures.value)
+    record {
+      rows = kept_struct_rows c.args._len c.args.count c.args.fields.now c.in_ok-fields.fields c.args.validity.now c.in_ok-validity.validity ms c.requires.formed c.requires.long c.requires.count
+          (c.in_ok-fields.ensures.rows ∙ ap (map (kept_of ms)) c.deref.ensures.value) validity;
+      dtype = tuples_type c.args._len c.args.count c.args.fields.now c.in_ok-fields.fields c.args.validity.now c.in_ok-validity.validity (c.in_ok-fields.ensures.dtypes ∙ ap (map type_of) c.deref.ensures.value);
+      refusal = tt;
+    }
 
 pub filter_fields-filter_column-requires : goal.filter_fields-filter_column-requires
 filter_fields-filter_column-requires t c =

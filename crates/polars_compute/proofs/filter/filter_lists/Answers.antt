@@ -28,14 +28,15 @@ invariant_of-result c =
           (ap row_count boxed ∙ made.count child c.in-Some.is) (ap well_formed boxed ∙ made.formed child c.in-Some.is);
     }
 
-pub returns-clause-rows : goal.returns-clause-rows
-returns-clause-rows c =
+pub returns : goal.returns
+returns c =
     let valid = rw c.as_ref.ensures.value at c.in_ok-validity.ensures.validity in
-    list_rows_kept c.args.column.now c.args.size c.args.count c.args.values.now c.args.validity.now c.in_ok-validity.validity c.in_ok-values.values c.args.mask.now.bits c.requires.parts c.requires.formed c.requires.long c.requires.count valid
-    (ap (λ x. blocks c.args.size (count_true c.args.mask.now.bits) (rows x)) c.in_ok-values.ensures.ok ∙ c.in_ok-child.ensures.blocks c.in-Some.child c.in-Some.is)
-
-pub returns-clause-dtype : goal.returns-clause-dtype
-returns-clause-dtype c =
     let child = c.in-Some.child in
     let made = c.in_ok-child.ensures in
-    list_type c.args.column.now c.args.size c.args.count c.args.values.now c.args.validity.now c.in_ok-validity.validity c.in_ok-values.values c.requires.parts (ap type_of c.in_ok-values.ensures.ok ∙ made.dtype child c.in-Some.is)
+    let boxed = c.in_ok-values.ensures.ok in
+    record {
+      rows = list_rows_kept c.args.column.now c.args.size c.args.count c.args.values.now c.args.validity.now c.in_ok-validity.validity c.in_ok-values.values c.args.mask.now.bits c.requires.parts c.requires.formed c.requires.long c.requires.count valid
+          (ap (λ x. blocks c.args.size (count_true c.args.mask.now.bits) (rows x)) boxed ∙ made.blocks child c.in-Some.is);
+      dtype = list_type c.args.column.now c.args.size c.args.count c.args.values.now c.args.validity.now c.in_ok-validity.validity c.in_ok-values.values c.requires.parts (ap type_of boxed ∙ made.dtype child c.in-Some.is);
+      refusal = tt;
+    }

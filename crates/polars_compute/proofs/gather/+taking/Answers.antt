@@ -1,16 +1,18 @@
 use Rattle.polars_compute.proofs.Common.{◌≡◌, ◌≤◌, ◌∙◌, All, pos, ap, sym, subst, map, length, arith, length-map, All-get_or, err_from_is_err_and, max_rows}
 use Rattle.polars_compute.proofs.Common.{primitive_rows, rows, type_of, well_formed, IsField, shapes_of, tuples_type, length-rows, length-number_rows}
 use Rattle.polars_compute.proofs.Common.{has_fields, type_of-Struct, refused_more, size_of, sizes_of, one_size, all_within, exceeded_in_taken, live_index, Null}
-use Rattle.polars_compute.proofs.Common.{[], ◌∷◌}
+use Rattle.polars_compute.proofs.Common.{[], ◌∷◌, take_rows}
+use Rattle.polars_compute.specs.TakenFields.{Takes}
 use Rattle.polars_compute.proofs.{Takes.validity_within, Takes.within_as, Takes.length-pick, SelectedRows.fields_more}
 use Rattle.polars_compute.proofs.TakenStructs.{taken_of, length-whole, live_within, past_field, struct_exceeded, struct_fits, struct_taken}
 use Rattle.polars_compute.proofs.gather.+taking.Goals as goal
 
 -- Only a binary column has a limit that its rows can exceed.
-pub take_any-returns-in_err-take_binary-in-LargeBinary-clause-refusal : goal.take_any-returns-in_err-take_binary-in-LargeBinary-clause-refusal
-take_any-returns-in_err-take_binary-in-LargeBinary-clause-refusal t c =
+pub take_any-returns-in_err-take_binary-in-LargeBinary : goal.take_any-returns-in_err-take_binary-in-LargeBinary
+take_any-returns-in_err-take_binary-in-LargeBinary t c =
     let p = err_from_is_err_and c.from_residual-in_err-take_binary-in-LargeBinary.result c.from_residual-in_err-take_binary-in-LargeBinary.ensures.1 in
-    rw (p.1, p.2, c.in-LargeBinary.is) c.in_err-take_binary-in-LargeBinary.ensures.refusal
+    rw (p.1, p.2, c.in-LargeBinary.is)
+    (record { rows = tt; dtype = tt; refusal = c.in_err-take_binary-in-LargeBinary.ensures.refusal })
 
 pub take_any-take_struct-requires : goal.take_any-take_struct-requires
 take_any-take_struct-requires t c =
@@ -33,11 +35,12 @@ take_struct-take_fields-requires t c =
     let live = live_within c.args.count c.args.validity.now (primitive_rows c.args.indices.now) c.requires.inside in
     (omega (arith, c.decreases, ap (λ l. sizes_of (shapes_of (map type_of l))) c.deref.ensures.value), (subst (All fits) (sym c.deref.ensures.value) has.fields, ap (all_within c.args.count) c.in_ok-live.ensures.rows ∙ live))
 
-pub take_any-returns-in-Struct-clause-refusal : goal.take_any-returns-in-Struct-clause-refusal
-take_any-returns-in-Struct-clause-refusal t c = rw c.in-Struct.is c.take_struct.ensures.refusal
+pub take_any-returns-in-Struct : goal.take_any-returns-in-Struct
+take_any-returns-in-Struct t c =
+    subst (λ x. Takes c.take_struct.result (type_of x) (take_rows (rows x) (primitive_rows c.args.indices.now))) (sym c.in-Struct.is) c.take_struct.ensures
 
-pub take_struct-returns-in_err-fields-clause-refusal : goal.take_struct-returns-in_err-fields-clause-refusal
-take_struct-returns-in_err-fields-clause-refusal t c =
+pub take_struct-returns-in_err-fields : goal.take_struct-returns-in_err-fields
+take_struct-returns-in_err-fields t c =
     let fields = c.args.fields.now in
     let validity = c.args.validity.now in
     let indices = primitive_rows c.args.indices.now in
@@ -46,7 +49,7 @@ take_struct-returns-in_err-fields-clause-refusal t c =
     λ i. exceeded_in_taken (c.deref.ensures.value i) (c.in_ok-live.ensures.rows i)
     in
     rw (p.1, p.2)
-    (refused_more _ _ c.in_err-fields.field-0.0 (λ limit h. struct_exceeded c.args.count fields validity c.requires.formed indices limit c.requires.inside (subst (λ f. f limit) same h)) c.in_err-fields.ensures.refusal)
+    (record { rows = tt; dtype = tt; refusal = (refused_more _ _ c.in_err-fields.field-0.0 (λ limit h. struct_exceeded c.args.count fields validity c.requires.formed indices limit c.requires.inside (subst (λ f. f limit) same h)) c.in_err-fields.ensures.refusal) })
 
 pub take_struct-invariant_of-result : goal.take_struct-invariant_of-result
 take_struct-invariant_of-result t c =
@@ -58,15 +61,15 @@ take_struct-invariant_of-result t c =
       formed = struct_fits c.args.count c.args.fields.now c.args.validity.now c.requires.formed c.len.result c.in_ok-fields.fields c.in_ok-live.live.validity (primitive_rows indices) few c.len.ensures.len all c.in_ok-live.ensures.bits;
     }
 
-pub take_struct-returns-clause-rows : goal.take_struct-returns-clause-rows
-take_struct-returns-clause-rows t c =
+pub take_struct-returns : goal.take_struct-returns
+take_struct-returns t c =
     let indices = primitive_rows c.args.indices.now in
     let made = c.in_ok-fields.ensures.rows ∙ (λ i. map (taken_of (c.in_ok-live.ensures.rows i)) (c.deref.ensures.value i)) in
-    struct_taken c.args.count c.args.fields.now c.args.validity.now c.requires.formed c.len.result c.in_ok-fields.fields c.in_ok-live.live.validity indices c.requires.inside c.len.ensures.len made c.in_ok-live.ensures.bits
-
-pub take_struct-returns-clause-dtype : goal.take_struct-returns-clause-dtype
-take_struct-returns-clause-dtype t c =
-    tuples_type c.args.count c.len.result c.args.fields.now c.in_ok-fields.fields c.args.validity.now c.in_ok-live.live.validity (c.in_ok-fields.ensures.dtypes ∙ ap (map type_of) c.deref.ensures.value)
+    record {
+      rows = struct_taken c.args.count c.args.fields.now c.args.validity.now c.requires.formed c.len.result c.in_ok-fields.fields c.in_ok-live.live.validity indices c.requires.inside c.len.ensures.len made c.in_ok-live.ensures.bits;
+      dtype = tuples_type c.args.count c.len.result c.args.fields.now c.in_ok-fields.fields c.args.validity.now c.in_ok-live.live.validity (c.in_ok-fields.ensures.dtypes ∙ ap (map type_of) c.deref.ensures.value);
+      refusal = tt;
+    }
 
 pub take_fields-returns-in_err-column-clause-refusal : goal.take_fields-returns-in_err-column-clause-refusal
 take_fields-returns-in_err-column-clause-refusal t c =

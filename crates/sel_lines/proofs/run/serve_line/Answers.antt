@@ -1,6 +1,7 @@
 use Rattle.std.proofs.Common.{◌≡◌, ◌∙◌, sym, ap, None, Some, cond}
 use Rattle.std.proofs.{lemmas.Result.err_from_is_err_and, KnownBytes.Appends-kept}
 use Rattle.sel_lines.{specs.Output.first_bad_from, specs.Output.output_from, specs.Step.lines_in, proofs.Steps.failed_step, proofs.Steps.last_line}
+use Rattle.sel_lines.proofs.Steps.{stopped, unflushed}
 use Rattle.sel_lines.proofs.run.serve_line.Goals as goal
 
 pub returns-in_err-end-clause-step : goal.returns-in_err-end-clause-step
@@ -8,6 +9,22 @@ returns-in_err-end-clause-step g c =
     let p = err_from_is_err_and c.from_residual.result c.from_residual.ensures.1 in
     let rest = c.in_err-end.ensures.err in
     rw (p.1, p.2) (failed_step c.args.number c.in_err-end.field-0.0 rest.0 _ _ _ c.in_err-end.ensures.fault rest.1 rest.2)
+
+pub returns-in_err-sent-clause-step : goal.returns-in_err-sent-clause-step
+returns-in_err-sent-clause-step g c =
+    let p = err_from_is_err_and c.from_residual-in_err-sent.result c.from_residual-in_err-sent.ensures.1 in
+    let cut = c.in_err-sent.ensures.err in
+    rw (p.1, p.2, c.in_err-sent.ensures.fault) (stopped c.args.number c.in_ok-end.end c.read_line.new.line.items _ _ _ c.in_ok-end.ensures.ok _ _ c.deref.ensures.value (c.as_bytes.ensures.value ∙ c.in_ok-text.ensures.text) _ cut.0 cut.1)
+
+pub returns-in_err-flush-clause-step : goal.returns-in_err-flush-clause-step
+returns-in_err-flush-clause-step g c =
+    let p = err_from_is_err_and c.from_residual-in_err-flush.result c.from_residual-in_err-flush.ensures.1 in
+    rw (p.1, p.2, c.in_err-flush.ensures.fault) (unflushed c.args.number c.in_ok-end.end c.read_line.new.line.items _ _ _ c.in_ok-end.ensures.ok _ _ c.deref.ensures.value (c.as_bytes.ensures.value ∙ c.in_ok-text.ensures.text) _ (Appends-kept _ _ _ _ c.in_ok-sent.ensures.ok c.in_err-flush.ensures.bytes))
+
+pub returns-in_err-flush-2-clause-step : goal.returns-in_err-flush-2-clause-step
+returns-in_err-flush-2-clause-step g c =
+    let p = err_from_is_err_and c.from_residual-in_err-flush-2.result c.from_residual-in_err-flush-2.ensures.1 in
+    rw (p.1, p.2, c.in_err-flush-2.ensures.fault) (unflushed c.args.number c.in_ok-end.end c.read_line.new.line.items _ _ _ c.in_ok-end.ensures.ok _ _ c.deref.ensures.value (c.as_bytes.ensures.value ∙ c.in_ok-text.ensures.text) _ (Appends-kept _ _ _ _ c.in_ok-sent.ensures.ok c.in_err-flush-2.ensures.bytes))
 
 pub returns-clause-step : goal.returns-clause-step
 returns-clause-step g c =

@@ -10,18 +10,17 @@ into_column-requires-clause-few g c =
     let count = numbers_count g.T.NativeType.number c.args.size c.unwrap_or-zero.result numbers.values c.in_ok-values-2.values numbers.validity indices c.requires.inside items in
     omega (arith, count, c.requires.few)
 
-pub returns-clause-blocks : goal.returns-clause-blocks
-returns-clause-blocks g c =
-    let numbers = c.args.numbers.now in
-    let indices = primitive_rows c.args.indices.now in
-    let items = rw c.as_slice.ensures at (c.in_ok-values-2.ensures.items ∙ c.in_ok-values.ensures.items) in
-    let holds = numbers_hold g.T.NativeType.number c.args.size c.unwrap_or-zero.result numbers.values c.in_ok-values-2.values numbers.validity indices c.requires.bare c.requires.inside items in
-    subst (λ l. HoldsBlocks c.args.size (primitive_rows numbers) indices l) (sym c.into_column.ensures.rows) holds
-
-pub returns-clause-count : goal.returns-clause-count
-returns-clause-count g c =
+pub returns : goal.returns
+returns g c =
     let numbers = c.args.numbers.now in
     let indices = primitive_rows c.args.indices.now in
     let items = rw c.as_slice.ensures at (c.in_ok-values-2.ensures.items ∙ c.in_ok-values.ensures.items) in
     let count = numbers_count g.T.NativeType.number c.args.size c.unwrap_or-zero.result numbers.values c.in_ok-values-2.values numbers.validity indices c.requires.inside items in
-    sym (length-rows c.into_column.result) ∙ ap length c.into_column.ensures.rows ∙ length-map c.in_ok-values-2.values _ ∙ count
+    let holds = numbers_hold g.T.NativeType.number c.args.size c.unwrap_or-zero.result numbers.values c.in_ok-values-2.values numbers.validity indices c.requires.bare c.requires.inside items in
+    record {
+      blocks = subst (λ l. HoldsBlocks c.args.size (primitive_rows numbers) indices l) (sym c.into_column.ensures.rows) holds;
+      count = sym (length-rows c.into_column.result) ∙ ap length c.into_column.ensures.rows ∙ length-map c.in_ok-values-2.values _ ∙ count;
+      dtype = c.into_column.ensures.dtype;
+      formed = c.into_column.ensures.formed;
+      refusal = tt;
+    }

@@ -19,3 +19,14 @@ overflow_sub-result g c =
     let second = end_shown number c.args.offsets.now c.requires.rising c.args.place c.args.valid c.requires.inside c.zero_unless-next.result c.index-offsets-next.result c.zero_unless-next.ensures c.index-offsets-next.is in
     let first = start_shown number c.args.offsets.now c.requires.rising c.args.place c.args.valid c.requires.inside c.zero_unless-first.result c.index-offsets-first.result c.zero_unless-first.ensures c.index-offsets-first.is in
     omega (arith, ap magnitude (c.to_position-start.ensures ∙ first), ap magnitude (c.to_position.ensures ∙ second), span_rises number c.args.offsets.now c.requires.rising c.args.place c.args.valid c.requires.inside)
+
+pub returns-clause-start : goal.returns-clause-start
+returns-clause-start g c =
+    ap magnitude (c.to_position-start.ensures ∙ start_shown g.O.NativeType.number c.args.offsets.now c.requires.rising c.args.place c.args.valid c.requires.inside c.zero_unless-first.result c.index-offsets-first.result c.zero_unless-first.ensures c.index-offsets-first.is)
+
+pub returns-clause-len : goal.returns-clause-len
+returns-clause-len g c =
+    let number = g.O.NativeType.number in
+    let second = end_shown number c.args.offsets.now c.requires.rising c.args.place c.args.valid c.requires.inside c.zero_unless-next.result c.index-offsets-next.result c.zero_unless-next.ensures c.index-offsets-next.is in
+    let first = start_shown number c.args.offsets.now c.requires.rising c.args.place c.args.valid c.requires.inside c.zero_unless-first.result c.index-offsets-first.result c.zero_unless-first.ensures c.index-offsets-first.is in
+    omega (arith, ap magnitude (c.to_position-start.ensures ∙ first), ap magnitude (c.to_position.ensures ∙ second), span_rises number c.args.offsets.now c.requires.rising c.args.place c.args.valid c.requires.inside)

@@ -3,6 +3,7 @@ use Rattle.polars_compute.proofs.Common.{ends_from, bytes_needed, take_rows, bit
 use Rattle.polars_compute.specs.Spans.{AreStarts, BeginsAt, plain_rows}
 use Rattle.polars_compute.proofs.TakenSpans.{count, ended_more, needed_below, needed_more, placed, spanned, started_more}
 use Rattle.polars_compute.proofs.gather.generic_binary.spans_at.{Given.Over, Goals.After-span_if-start}
+use Rattle.polars_compute.proofs.Common.{err_from_is_err_and}
 use Rattle.polars_compute.proofs.gather.generic_binary.spans_at.Goals as goal
 
 pub span_if-start-requires-clause-rising : goal.span_if-start-requires-clause-rising
@@ -40,6 +41,16 @@ span g c =
 
 pub offset_of-requires-in-loop-k : goal.offset_of-requires-in-loop-k
 offset_of-requires-in-loop-k g c = omega (arith, ints, (span g (goal.at.offset_of-requires-in-loop-k g c).After-span_if-start).0.0, c.requires.narrow)
+
+pub returns-in_err-ends : goal.returns-in_err-ends
+returns-in_err-ends g c =
+    let p = err_from_is_err_and c.from_residual.result c.from_residual.ensures.1 in
+    rw (p.1, p.2) (record { ends = tt; starts = tt; count = tt; fits = tt; refusal = tt })
+
+pub returns-in_err-starts : goal.returns-in_err-starts
+returns-in_err-starts g c =
+    let p = err_from_is_err_and c.from_residual-in_err-starts.result c.from_residual-in_err-starts.ensures.1 in
+    rw (p.1, p.2) (record { ends = tt; starts = tt; count = tt; fits = tt; refusal = tt })
 
 pub returns-then-len-most-clause-refusal : goal.returns-then-len-most-clause-refusal
 returns-then-len-most-clause-refusal g c =
