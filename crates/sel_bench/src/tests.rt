@@ -132,8 +132,8 @@ fn each_read_fails(rt: HostRuntime) -> Result<(), Fail> {
     Ok(())
 }
 
-// Returns whether a run over the two lines, into a writer of one byte per write with a fault at write
-// `at`, fails at this write only, after the bytes before it and without a flush.
+// Returns whether a run over the two lines, into a writer of one byte per write with a fault at
+// write `at`, fails at this write only, after the bytes before it and without a flush.
 fn fails_by_output(alloc: Global, at: u64, fault: Fault) -> bool {
     let (result, failures, fake) = run_into(alloc, 1, fault);
     (result == Err(RunError::Output))

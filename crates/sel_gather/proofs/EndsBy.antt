@@ -44,7 +44,7 @@ module _ {A : Type 0} (part : Value → List A) where
   -- The pieces after `before` are the parts.
   pub pieces_by : (before : List A) (vs : List Value) → pieces_after (length before) (ends_by (length before) vs) (before ++ flat_map part vs) ≡ map part vs
   pieces_by before [] = refl
-  pieces_by before (v ∷ vs) = grind (arith, common_steps, common_steps, length-append, append_assoc, (pieces_by (before ++ part v) vs))
+  pieces_by before (v ∷ vs) = grind (arith, common_steps, length-append, append_assoc, (pieces_by (before ++ part v) vs))
 
 -- The ends of lists, and of bytes.
 pub list_ends : (start : ℕ) (vs : List Value) → item_ends start vs ≡ ends_by (items_in 0) start vs

@@ -165,7 +165,8 @@ fn is_filled(item: &Item) -> bool
 
 /// Builds a column of the null type.
 fn nulls(items: &[RowRun<'_>]) -> Result<ArrayRef, Fault>
-    ensures { (beneath : NullSlots) → list_all (fits of_null) (rows_repeated items.now) ≡ true →
+    ensures { (beneath : NullSlots) →
+        list_all (fits of_null) (rows_repeated items.now) ≡ true →
         MakesColumn beneath of_null (rows_repeated items.now) result }
 {
     let count = row_count(items)?;
@@ -554,10 +555,10 @@ fn block_column(
     items: &[RowRun<'_>],
     child: ArrayRef,
 ) -> Result<ArrayRef, Fault>
-    ensures { (beneath : NullSlots) (shape : Shape) → list_all (fits (of_fixed_size_list shape size))
-        (rows_repeated items.now) ≡ true → MakesColumn beneath shape
-        (flat_map (block_in size) (rows_repeated items.now)) (Ok child) → MakesColumn beneath
-        (of_fixed_size_list shape size) (rows_repeated items.now) result }
+    ensures { (beneath : NullSlots) (shape : Shape) →
+        list_all (fits (of_fixed_size_list shape size)) (rows_repeated items.now) ≡ true →
+        MakesColumn beneath shape (flat_map (block_in size) (rows_repeated items.now)) (Ok child) →
+        MakesColumn beneath (of_fixed_size_list shape size) (rows_repeated items.now) result }
 {
     let (count, validity) = match count_and_validity(alloc, items) {
         Ok(made) => made,

@@ -293,9 +293,9 @@ fn filter_runs(
 
 /// Returns the rows of `column` whose bit is set, as `filter_runs` does.
 ///
-/// Lists are read one by one, by the bits of the mask, if most runs are short. If most are long, the
-/// items of all lists of a run are copied at once. The runs of the mask are not listed for lists,
-/// since they would take memory beside the runs of the items.
+/// Lists are read one by one, by the bits of the mask, if most runs are short. If most are long,
+/// the items of all lists of a run are copied at once. The runs of the mask are not listed for
+/// lists, since they would take memory beside the runs of the items.
 fn collect_kept(alloc: Global, column: &Column, mask: &Bitmap, count: usize) -> PolarsResult<Column>
     requires formed { IsWellFormed column.now }
     requires long { length (rows column.now) ≡ length mask.now.bits }
@@ -323,6 +323,14 @@ fn collect_kept(alloc: Global, column: &Column, mask: &Bitmap, count: usize) -> 
     collect_plan(alloc, &sources, &plan, are_long && !is_list)
 }
 
+// From this average number of rows on, a run of set bits is long: copying its items at once is then
+// faster than copying them row by row. docs/BENCHMARKS.md has the measurements.
+const LONG_RUN: usize = 3;
+
+const LONG_RUN_OF_NULLABLE_LISTS: usize = 5;
+
+const LONG_LIST_RUN_IN_QUARTERS: usize = 9;
+
 /// Returns how many runs are few for `count` kept rows, so that most are long. No contract depends
 /// on the result.
 ///
@@ -330,9 +338,9 @@ fn collect_kept(alloc: Global, column: &Column, mask: &Bitmap, count: usize) -> 
 /// longer runs to take little memory.
 fn few_runs(column: &Column, count: usize) -> usize {
     match column {
-        Column::LargeList { validity: None, .. } => count / 9 * 4,
-        Column::LargeList { .. } => count / 5,
-        _ => count / 3,
+        Column::LargeList { validity: None, .. } => count / LONG_LIST_RUN_IN_QUARTERS * 4,
+        Column::LargeList { .. } => count / LONG_RUN_OF_NULLABLE_LISTS,
+        _ => count / LONG_RUN,
     }
 }
 

@@ -62,7 +62,8 @@ fn take_bits_at<R: PlaceRule>(
     taken.into_bitmap(indices.len())
 }
 
-/// Packs the bits at the positions of `indices` into a word; bit 0 is bit `shift` of the first byte.
+/// Packs the bits at the positions of `indices` into a word; bit 0 is bit `shift` of the first
+/// byte.
 #[inline]
 #[tactic(auto, using(crate::proofs::Takes::word_ends))]
 fn word_of_places<R: PlaceRule>(bytes: &[u8], shift: usize, len: usize, indices: &[u32]) -> u64

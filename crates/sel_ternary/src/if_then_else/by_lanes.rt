@@ -115,8 +115,8 @@ fn choose_sides<T: ChooseLanes>(
     Buffer::from_vec(out)
 }
 
-/// Appends for each `i` below `count` the value of row `i` of `if_true` if bit `i` of `mask` is set,
-/// else that of `if_false`.
+/// Appends for each `i` below `count` the value of row `i` of `if_true` if bit `i` of `mask` is
+/// set, else that of `if_false`.
 #[inline(always)]
 fn push_word<T: ChooseLanes>(
     mask: u64,

@@ -144,8 +144,8 @@ impl ChooseLanes for u128 {
     }
 }
 
-/// Appends for each `i` below `count` the value of row `i` of `if_true` if bit `i` of `mask` is set,
-/// else that of `if_false`.
+/// Appends for each `i` below `count` the value of row `i` of `if_true` if bit `i` of `mask` is
+/// set, else that of `if_false`.
 ///
 /// # Requires
 /// Both sides have `count` rows, at most 64, and `out` has spare capacity for as many values.

@@ -5,8 +5,8 @@ ghost use Rattle.sel_ternary.specs.SideValues.{side_values};
 
 /// The true or the false values of some rows.
 ///
-/// The loops over sides are inlined where the kind of a side is known, so that no row costs a branch
-/// on it.
+/// The loops over sides are inlined where the kind of a side is known, so that no row costs a
+/// branch on it.
 #[derive(Clone, Copy)]
 pub enum Side<'a, T> {
     /// A value for each row.
