@@ -14,7 +14,7 @@ use Rattle.polars_compute.specs.Select.{select}
 
 -- The result is a column of this type with those of these rows that the mask selects, or
 -- `OutOfMemory`.
-pub record Keeps (result : Result ArrayRef PolarsError) (shape : Shape) (values : List Value)
+pub record KeepsColumn (result : Result ArrayRef PolarsError) (shape : Shape) (values : List Value)
     (mask : List Bool) : Type 0 where
   pub rows : IfOk result (λ kept. rows kept.column ≡ select values mask)
   pub dtype : IfOk result (λ kept. type_of kept.column ≡ shape)

@@ -19,7 +19,7 @@ exceeded_in_taken (column ∷ columns) indices limit =
 
 -- The result is a column of this type with these rows; or an error: out of memory, or a limit that
 -- they exceed.
-pub record Takes (result : Result ArrayRef PolarsError) (shape : Shape) (values : List Value)
+pub record TakesColumn (result : Result ArrayRef PolarsError) (shape : Shape) (values : List Value)
     : Type 0 where
   pub rows : IfOk result (λ taken. rows taken.column ≡ values)
   pub dtype : IfOk result (λ taken. type_of taken.column ≡ shape)

@@ -11,7 +11,7 @@ ghost use Rattle.sel_arrow.specs.Value.{Null};
 ghost use Rattle.sel_gather.specs.Gathers.{Collects};
 ghost use Rattle.sel_gather.specs.Picks.{pick};
 ghost use Rattle.polars_compute.specs.FixedSizeLists.{IsFixedSizeList};
-ghost use Rattle.polars_compute.specs.Kept.{Keeps};
+ghost use Rattle.polars_compute.specs.Kept.{KeepsColumn};
 ghost use Rattle.polars_compute.specs.Pick.{place_pick};
 ghost use Rattle.polars_compute.specs.Select.{select, effective_mask, kept};
 
@@ -135,7 +135,7 @@ fn filter_column(
     requires formed { IsWellFormed column.now }
     requires long { length (rows column.now) ≡ length mask.now.bits }
     requires count { count ≡ count_true mask.now.bits }
-    ensures { Keeps result (type_of column.now) (rows column.now) mask.now.bits }
+    ensures { KeepsColumn result (type_of column.now) (rows column.now) mask.now.bits }
 {
     match column {
         Column::Null(column) => Ok(filter_null(column, mask, count).into_ref()),
@@ -182,7 +182,7 @@ fn filter_struct(
     requires formed { IsWellFormed (Struct _len fields.now validity.now) }
     requires long { _len ≡ length mask.now.bits }
     requires count { count ≡ count_true mask.now.bits }
-    ensures { Keeps result (type_of (Struct _len fields.now validity.now))
+    ensures { KeepsColumn result (type_of (Struct _len fields.now validity.now))
         (rows (Struct _len fields.now validity.now)) mask.now.bits }
 {
     let validity = filter_validity(alloc, validity.as_ref(), mask, count)?;
@@ -229,7 +229,7 @@ fn filter_numbers<T: ArrowPrimitive>(
 ) -> PolarsResult<ArrayRef>
     requires long { length (primitive_rows column.now) ≡ length mask.now.bits }
     requires count { count ≡ count_true mask.now.bits }
-    ensures { Keeps result T.shape (primitive_rows column.now) mask.now.bits }
+    ensures { KeepsColumn result T.shape (primitive_rows column.now) mask.now.bits }
 {
     let (values, validity) = filter_counted_buffer(
         alloc,
@@ -256,7 +256,7 @@ fn filter_lists(
     requires parts { IsFixedSizeList column.now size values.now validity.now }
     requires long { length (rows column.now) ≡ length mask.now.bits }
     requires count { count ≡ count_true mask.now.bits }
-    ensures { Keeps result (type_of column.now) (rows column.now) mask.now.bits }
+    ensures { KeepsColumn result (type_of column.now) (rows column.now) mask.now.bits }
 {
     let validity = filter_validity(alloc, validity.as_ref(), mask, count)?;
     let Some(child) = filter_child(alloc, values, size, mask, count)? else {
@@ -285,7 +285,7 @@ fn filter_runs(
     requires long { length (rows column.now) ≡ length mask.now.bits }
     requires few { length mask.now.bits ≤ max_rows }
     requires count { count ≡ count_true mask.now.bits }
-    ensures { Keeps result (type_of column.now) (rows column.now) mask.now.bits }
+    ensures { KeepsColumn result (type_of column.now) (rows column.now) mask.now.bits }
 {
     let column = collect_kept(alloc, column, mask, count)?;
     Ok(ArrayRef { column })
@@ -372,7 +372,8 @@ fn filter_boolean(
 ) -> PolarsResult<ArrayRef>
     requires long { length (boolean_rows array.now) ≡ length mask.now.bits }
     requires count { count ≡ count_true mask.now.bits }
-    ensures { Keeps result (type_of (Boolean array.now)) (boolean_rows array.now) mask.now.bits }
+    ensures { KeepsColumn result (type_of (Boolean array.now)) (boolean_rows array.now)
+        mask.now.bits }
 {
     let (values, validity) = filter_counted_booleans(
         alloc,

@@ -11,7 +11,7 @@ ghost use Rattle.polars_compute.specs.Steps.{after_block_copy};
 ghost use Rattle.polars_compute.specs.BareBlocks.{holds_bare, is_bare, TakesBlocks};
 ghost use Rattle.polars_compute.specs.Need.{ExceedsRows, IsLimitOrMemory};
 ghost use Rattle.polars_compute.specs.Pick.{all_within, take_rows};
-ghost use Rattle.polars_compute.specs.TakenFields.{Takes};
+ghost use Rattle.polars_compute.specs.TakenFields.{TakesColumn};
 
 use crate::gather::blocks::take_block_values;
 use crate::gather::validity::take_validity;
@@ -143,7 +143,7 @@ pub(crate) fn take_unchecked(
     requires formed { IsWellFormed values.now }
     requires bare { IsTrue (holds_bare values.now) }
     requires inside { IsTrue (all_within (length (rows values.now)) (primitive_rows indices.now)) }
-    ensures { Takes result (type_of values.now)
+    ensures { TakesColumn result (type_of values.now)
         (take_rows (rows values.now) (primitive_rows indices.now)) }
 {
     let Column::FixedSizeList {

@@ -11,7 +11,7 @@ ghost use Rattle.polars_compute.specs.Need.{IsLimitOrMemory};
 ghost use Rattle.sel_arrow.specs.Masked.{number_value};
 ghost use Rattle.sel_arrow.specs.Value.{Null};
 ghost use Rattle.polars_compute.specs.Pick.{is_within, all_within, all_below, take_rows};
-ghost use Rattle.polars_compute.specs.TakenFields.{Takes, exceeded_in_taken};
+ghost use Rattle.polars_compute.specs.TakenFields.{TakesColumn, exceeded_in_taken};
 
 pub mod binary;
 mod binview;
@@ -71,7 +71,7 @@ pub fn take_unchecked(alloc: Global, values: &ArrayRef, indices: &IdxArr) -> Pol
 fn take_any(alloc: Global, values: &Column, indices: &IdxArr) -> PolarsResult<ArrayRef>
     requires formed { IsWellFormed values.now }
     requires inside { IsTrue (all_within (length (rows values.now)) (primitive_rows indices.now)) }
-    ensures { Takes result (type_of values.now)
+    ensures { TakesColumn result (type_of values.now)
         (take_rows (rows values.now) (primitive_rows indices.now)) }
 {
     match values {
@@ -116,7 +116,7 @@ fn take_struct(
 ) -> PolarsResult<ArrayRef>
     requires formed { IsWellFormed (Struct count fields.now validity.now) }
     requires inside { IsTrue (all_within count (primitive_rows indices.now)) }
-    ensures { Takes result (type_of (Struct count fields.now validity.now))
+    ensures { TakesColumn result (type_of (Struct count fields.now validity.now))
         (take_rows (rows (Struct count fields.now validity.now)) (primitive_rows indices.now)) }
 {
     let live = live_indices(alloc, validity, indices)?;
@@ -160,7 +160,7 @@ fn take_fields(
 fn take_lists(alloc: Global, values: &Column, indices: &IdxArr) -> PolarsResult<ArrayRef>
     requires formed { IsWellFormed values.now }
     requires inside { IsTrue (all_within (length (rows values.now)) (primitive_rows indices.now)) }
-    ensures { Takes result (type_of values.now)
+    ensures { TakesColumn result (type_of values.now)
         (take_rows (rows values.now) (primitive_rows indices.now)) }
 {
     if fixed_size_list::holds_numbers(values) {
@@ -185,7 +185,7 @@ fn take_numbers<T: ArrowPrimitive>(
 ) -> PolarsResult<ArrayRef>
     requires { IsTrue (all_within (length (primitive_rows values.now))
         (primitive_rows indices.now)) }
-    ensures { Takes result T.shape
+    ensures { TakesColumn result T.shape
         (take_rows (primitive_rows values.now) (primitive_rows indices.now)) }
 {
     Ok(take_primitive_unchecked(alloc, values, indices)?.into_ref())

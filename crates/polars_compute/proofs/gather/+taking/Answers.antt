@@ -2,7 +2,7 @@ use Rattle.polars_compute.proofs.Common.{◌≡◌, ◌≤◌, ◌∙◌, All, p
 use Rattle.polars_compute.proofs.Common.{primitive_rows, rows, type_of, well_formed, IsField, shapes_of, tuples_type, length-rows, length-number_rows}
 use Rattle.polars_compute.proofs.Common.{has_fields, type_of-Struct, refused_more, size_of, sizes_of, one_size, all_within, exceeded_in_taken, live_index, Null}
 use Rattle.polars_compute.proofs.Common.{[], ◌∷◌, take_rows}
-use Rattle.polars_compute.specs.TakenFields.{Takes}
+use Rattle.polars_compute.specs.TakenFields.{TakesColumn}
 use Rattle.polars_compute.proofs.{Takes.validity_within, Takes.within_as, Takes.length-pick, SelectedRows.fields_more}
 use Rattle.polars_compute.proofs.TakenStructs.{taken_of, length-whole, live_within, past_field, struct_exceeded, struct_fits, struct_taken}
 use Rattle.polars_compute.proofs.gather.+taking.Goals as goal
@@ -37,7 +37,7 @@ take_struct-take_fields-requires t c =
 
 pub take_any-returns-in-Struct : goal.take_any-returns-in-Struct
 take_any-returns-in-Struct t c =
-    subst (λ x. Takes c.take_struct.result (type_of x) (take_rows (rows x) (primitive_rows c.args.indices.now))) (sym c.in-Struct.is) c.take_struct.ensures
+    subst (λ x. TakesColumn c.take_struct.result (type_of x) (take_rows (rows x) (primitive_rows c.args.indices.now))) (sym c.in-Struct.is) c.take_struct.ensures
 
 pub take_struct-returns-in_err-fields : goal.take_struct-returns-in_err-fields
 take_struct-returns-in_err-fields t c =
