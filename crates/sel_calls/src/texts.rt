@@ -197,8 +197,8 @@ fn type_error_status(fault: TextError, at: &mut usize) -> u32
     ensures short { IsLimitOrMemoryError fault →
         IsOneOf result (out_of_memory ∷ text_limit ∷ []) }
     ensures limit { result ≡ text_limit → fault ≡ TextError.Limit }
-    ensures syntax { (bytes : List ℕ) → IsTypeTextError bytes fault → result ≡ type_syntax →
-        IsFirstError is_type_notation bytes at.new }
+    ensures syntax { (bytes : List ℕ) → IsTypeTextError bytes fault →
+        result ≡ type_syntax → IsFirstError is_type_notation bytes at.new }
     ensures read { (bytes : List ℕ) → IsTypeTextError bytes fault → result ≡ text_limit →
         is_type_notation bytes ≡ true }
     ensures place { (count : ℕ) → IsOffsetWithin count fault → result ≡ type_syntax →

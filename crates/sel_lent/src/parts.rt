@@ -153,7 +153,8 @@ pub fn bytes_of(alloc: Global, of: &ColumnRef, out: &mut BufferHandle) -> u32
 
 /// Stores in `out` data buffer `i`.
 fn put_data(alloc: Global, buffers: &[Buffer<u8>], i: usize, out: &mut BufferHandle) -> u32
-    ensures buffer { result ≡ ok → out.new.buffer ≡ Some (UInt8 (slice_index_or buffers.now i [])) }
+    ensures buffer { result ≡ ok →
+        out.new.buffer ≡ Some (UInt8 (slice_index_or buffers.now i [])) }
     ensures unchanged { result ≢ ok → out.new.buffer ≡ out.old.buffer }
 {
     if i >= buffers.len() {

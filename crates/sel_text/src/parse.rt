@@ -177,7 +177,8 @@ fn read_rows(
     bytes: &[u8],
     beneath: NullSlots,
 ) -> Result<ArrayRef, Fault>
-    ensures made { (values : List Value) → IsTrue (list_all (fits (shape_of dtype.now)) values) →
+    ensures made { (values : List Value) →
+        IsTrue (list_all (fits (shape_of dtype.now)) values) →
         bytes.now ≡ text_of (shape_of dtype.now) values →
         MakesColumn beneath (shape_of dtype.now) values result }
     ensures fit { IfErr result (λ fault. fault ≡ Fault.Limit →

@@ -266,7 +266,8 @@ fn lanes_i8(side: &Side<i8>) -> i8x16
 fn lanes_i16(side: &Side<i16>) -> i16x16
     requires { length (side_values side.now) ≡ 16 }
     ensures values { result ≡ side_values side.now }
-    ensures range { Each1 (λ x. cast_signed w16 (cast_unsigned w16 x) ≡ x) (side_values side.now) }
+    ensures range { Each1 (λ x. cast_signed w16 (cast_unsigned w16 x) ≡ x)
+        (side_values side.now) }
 {
     match side {
         Side::Rows(values) => {
@@ -282,7 +283,8 @@ fn lanes_i16(side: &Side<i16>) -> i16x16
 fn lanes_i32(side: &Side<i32>) -> i32x8
     requires { length (side_values side.now) ≡ 8 }
     ensures values { result ≡ side_values side.now }
-    ensures range { Each1 (λ x. cast_signed w32 (cast_unsigned w32 x) ≡ x) (side_values side.now) }
+    ensures range { Each1 (λ x. cast_signed w32 (cast_unsigned w32 x) ≡ x)
+        (side_values side.now) }
 {
     match side {
         Side::Rows(values) => {
@@ -298,7 +300,8 @@ fn lanes_i32(side: &Side<i32>) -> i32x8
 fn lanes_i64(side: &Side<i64>) -> i64x4
     requires { length (side_values side.now) ≡ 4 }
     ensures values { result ≡ side_values side.now }
-    ensures range { Each1 (λ x. cast_signed w64 (cast_unsigned w64 x) ≡ x) (side_values side.now) }
+    ensures range { Each1 (λ x. cast_signed w64 (cast_unsigned w64 x) ≡ x)
+        (side_values side.now) }
 {
     match side {
         Side::Rows(values) => {

@@ -106,7 +106,8 @@ impl IfThenElseKernel for Utf8ViewArray {
             (Bytes (string_bytes if_false.now))) }
         ensures buffers { IfOk result (λ chosen. utf8view_buffers chosen ≡
             utf8view_buffers if_true.now ++ scalar_buffers (string_bytes if_false.now)) }
-        ensures bytes { IfOk result (λ _. length (string_bytes if_false.now) ≤ max_buffer_bytes) }
+        ensures bytes { IfOk result
+            (λ _. length (string_bytes if_false.now) ≤ max_buffer_bytes) }
         ensures within { IfOk result
             (λ _. ExceedsNone (exceeded_utf8view (column if_true.now) (scalar if_false.now)
             (broadcast_false mask.now.bits (utf8view_rows if_true.now)

@@ -124,7 +124,8 @@ pub(crate) fn added(view: View, by: u32) -> u32
 /// Returns the two views with these fields.
 #[inline(always)]
 fn views_of(fields: u32x8) -> [View; 2]
-    ensures { (one other : View) → fields ≡ pair_fields one other → result ≡ one ∷ other ∷ [] }
+    ensures { (one other : View) →
+        fields ≡ pair_fields one other → result ≡ one ∷ other ∷ [] }
 {
     let lanes = fields.to_array();
     [
