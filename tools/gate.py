@@ -6,8 +6,8 @@ tools/gate.py anew    the same as a clean build, to measure the time: what `make
 tools/gate.py check   proves what has changed over cached proofs and runs the fast checks: what `make check` runs
 tools/gate.py setup   installs the optional programs and libraries that the checks use: what `make setup` runs
 
-Checks that need only some of the proved libraries run while `rt ci` runs, as soon as those are proved, at a lower priority. The
-others run after it. The table lists what a check leaves out because an optional dependency is missing.
+Checks that need only some of the proved libraries run while `rt ci` runs, as soon as those are proved, at a lower priority but for the
+build of the C library, for which nine checks wait. The others run after it. The table lists what a check leaves out because an optional dependency is missing.
 """
 
 from __future__ import annotations
@@ -242,7 +242,8 @@ def try_mutants(board: Board, proofs: Proofs, room: threading.Semaphore, name: s
 
 def try_library(board: Board, proofs: Proofs) -> bool:
     """Builds and tests the C library and what uses it, as soon as the crates that it depends on are proved."""
-    if not proofs.wait_for(below("sel_c")) or not run_check(board, "C library", ["tools/clib", "--gate"], beside=True):
+    # not at a lower priority, since the others wait for it
+    if not proofs.wait_for(below("sel_c")) or not run_check(board, "C library", ["tools/clib", "--gate"]):
         return False
     with ThreadPoolExecutor(LIBRARY_AT_ONCE) as pool:
         return all(list(pool.map(lambda check: run_check(board, check[0], check[1], beside=True), AFTER_LIBRARY)))
