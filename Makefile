@@ -27,19 +27,19 @@ build:
 	cd crates/sel_bench && rt run < /dev/null
 
 lib:
-	tools/clib $(if $(CPU),--cpu $(CPU))
+	tools/clib.py $(if $(CPU),--cpu $(CPU))
 
 install:
-	@tools/dist --install '$(PREFIX)' --destdir '$(DESTDIR)' $(if $(CPU),--cpu $(CPU))
+	@tools/dist.py --install '$(PREFIX)' --destdir '$(DESTDIR)' $(if $(CPU),--cpu $(CPU))
 
 uninstall:
-	@tools/dist --uninstall '$(PREFIX)' --destdir '$(DESTDIR)'
+	@tools/dist.py --uninstall '$(PREFIX)' --destdir '$(DESTDIR)'
 
 dist:
-	@tools/dist
+	@tools/dist.py
 
 bench:
-	UPSTREAM='$(UPSTREAM)' tools/bench/run $(if $(QUICK),quick)
+	UPSTREAM='$(UPSTREAM)' tools/bench/run.py $(if $(QUICK),quick)
 
 test:
 	tools/gate.py $(if $(ANEW),anew)
@@ -57,10 +57,10 @@ soak:
 	tools/soak.py $(if $(MINUTES),--minutes $(MINUTES)) $(if $(SEED),--seed $(SEED))
 
 mutants:
-	tools/mutants --all
+	tools/mutants.py --all
 
 api:
 	tools/statuses.py
-	tools/api
-	tools/header
+	tools/api.py
+	tools/header.py
 	tools/python_docs.py

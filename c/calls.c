@@ -1,4 +1,4 @@
-/* The calls with arrays. Written by tools/header from the sources. Each replaces a null pointer to an empty array,
+/* The calls with arrays. Written by tools/header.py from the sources. Each replaces a null pointer to an empty array,
  * which the proved function must not get, by a valid one. */
 #include "sel.h"
 

@@ -1,4 +1,4 @@
-/* sel.h: filters, gathers and combines Arrow columns of any nesting. Written by tools/header from the sources. The
+/* sel.h: filters, gathers and combines Arrow columns of any nesting. Written by tools/header.py from the sources. The
  * functions are proved; docs/DEFINITIONS.md defines the words of their contracts.
  *
  * Ownership: a handle is empty, {0}, or has a column. Initialize it with {0} and free it with sel_free. A handle may

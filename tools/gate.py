@@ -183,13 +183,13 @@ def run_check(board: Board, name: str, command: list[str], beside: bool = False)
 
 
 DOCUMENTS = [
-    ("API reference", ["tools/api", "--check"]),
+    ("API reference", ["tools/api.py", "--check"]),
     ("statuses", ["tools/statuses.py", "--check"]),
-    ("C header", ["tools/header", "--check"]),
+    ("C header", ["tools/header.py", "--check"]),
     ("Python reference", ["tools/python_docs.py", "--check"]),
-    ("links", ["tools/links"]),
-    ("terms", ["tools/terms"]),
-    ("mutant texts", ["tools/mutants", "--texts"]),
+    ("links", ["tools/links.py"]),
+    ("terms", ["tools/terms.py"]),
+    ("mutant texts", ["tools/mutants.py", "--texts"]),
     ("toolchain", ["tools/toolchain.py", "--check"]),
     ("report of make lib", ["tools/libraries.py", "--check"]),
 ]
@@ -197,19 +197,19 @@ AFTER_LIBRARY = [
     ("conformance suite", ["tools/rows.py"]),
     ("random columns", ["tools/soak.py", "--check"]),
     ("fuzz targets", ["tools/fuzz.py", "--check"]),
-    ("Arrow interface in C", ["tools/bindings", "c"]),
-    ("Rust package", ["tools/bindings", "rust"]),
-    ("Python package", ["tools/bindings", "python"]),
-    ("Dask example", ["tools/bindings", "dask"]),
-    ("Arrow streams of GDAL", ["tools/bindings", "gdal"]),
-    ("archive", ["tools/dist", "--check"]),
+    ("Arrow interface in C", ["tools/bindings.py", "c"]),
+    ("Rust package", ["tools/bindings.py", "rust"]),
+    ("Python package", ["tools/bindings.py", "python"]),
+    ("Dask example", ["tools/bindings.py", "dask"]),
+    ("Arrow streams of GDAL", ["tools/bindings.py", "gdal"]),
+    ("archive", ["tools/dist.py", "--check"]),
 ]
 AFTER_PROOFS = [
-    ("refused allocations", ["tools/refuse/run"]),
-    ("program runs", ["tools/runs"]),
+    ("refused allocations", ["tools/refuse/refuse.py"]),
+    ("program runs", ["tools/runs.py"]),
 ]
 AFTER_BOTH = [
-    ("benchmark answers", ["tools/bench/run", "quick"]),
+    ("benchmark answers", ["tools/bench/run.py", "quick"]),
 ]
 
 
@@ -237,13 +237,13 @@ def try_mutants(board: Board, proofs: Proofs, room: threading.Semaphore, name: s
     if not proofs.wait_for(below(labels[0].partition("/")[0])):
         return False
     with room:
-        return run_check(board, name, ["tools/mutants", *labels], beside=True)
+        return run_check(board, name, ["tools/mutants.py", *labels], beside=True)
 
 
 def try_library(board: Board, proofs: Proofs) -> bool:
     """Builds and tests the C library and what uses it, as soon as the crates that it depends on are proved."""
     # not at a lower priority, since the others wait for it
-    if not proofs.wait_for(below("sel_c")) or not run_check(board, "C library", ["tools/clib", "--gate"]):
+    if not proofs.wait_for(below("sel_c")) or not run_check(board, "C library", ["tools/clib.py", "--gate"]):
         return False
     with ThreadPoolExecutor(LIBRARY_AT_ONCE) as pool:
         return all(list(pool.map(lambda check: run_check(board, check[0], check[1], beside=True), AFTER_LIBRARY)))
@@ -278,7 +278,7 @@ def run_all(anew: bool) -> int:
 def run_fast() -> int:
     """Proves what has changed over cached proofs, builds the C library, and runs the fast checks side by side."""
     board = Board(len(DOCUMENTS) + 1 + len(AFTER_LIBRARY))
-    built = run_check(board, "C library", ["tools/clib", "--check"])
+    built = run_check(board, "C library", ["tools/clib.py", "--check"])
     for name, command in DOCUMENTS:
         run_check(board, name, command)
     with ThreadPoolExecutor(len(AFTER_LIBRARY)) as pool:

@@ -12,7 +12,7 @@ from typing import Dict, Iterable, List, NamedTuple, Optional, Set
 from prover import crates_below, lines
 
 ROOT = pathlib.Path(__file__).resolve().parent.parent
-# the folder of the libraries that are built; tools/dist --check names another one
+# the folder of the libraries that are built; tools/dist.py --check names another one
 BUILD = pathlib.Path(os.environ.get("SEL_BUILD") or ROOT / "build")
 
 # changes when a function of the header is removed or changes its meaning

@@ -5,7 +5,7 @@ tools/statuses.py          writes them
 tools/statuses.py --check  fails if a file differs from the table
 
 They are the constants of crates/sel_ffi (src/status.rt and src/kinds.rt), the numbers in its specifications, the strings of c/status.c,
-bindings/python/sel/_statuses.py and a part of bindings/rust/src/error.rs. tools/header writes the enumerations of include/sel.h.
+bindings/python/sel/_statuses.py and a part of bindings/rust/src/error.rs. tools/header.py writes the enumerations of include/sel.h.
 """
 
 from __future__ import annotations

@@ -1,4 +1,4 @@
-/* The contenders that tools/bench/run times: calls of libsel, the plain loops that a user would write instead, and a copy of the
+/* The contenders that tools/bench/run.py times: calls of libsel, the plain loops that a user would write instead, and a copy of the
  * bytes that must be read and written. Each repeats its whole job, with the allocation of the result, and returns the time of this
  * thread in nanoseconds. */
 #define _POSIX_C_SOURCE 200809L

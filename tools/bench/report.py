@@ -53,7 +53,7 @@ COLORS = (("sel", "#2a6fdb", "#7fb0ff"), ("loop", "#2f8f4e", "#7bd598"), ("numpy
 
 
 def built_for() -> str:
-    """Returns the processors that tools/clib has built the library for."""
+    """Returns the processors that tools/clib.py has built the library for."""
     path = pathlib.Path(__file__).resolve().parents[2] / "build" / "cpu"
     return path.read_text().strip() if path.exists() else "x86-64-v2"
 

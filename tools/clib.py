@@ -1,13 +1,15 @@
 #!/usr/bin/env python3
 """Builds the C library from crates/sel_c, and tests it.
 
-tools/clib                  proves, with a report of how far it is, then writes build/libsel.a, build/libsel.so, build/sel.pc and build/VERDICTS
-tools/clib --check          builds, and runs the tests c/test.c, c/test_depth.c and c/test_threads.c
-tools/clib --gate           the same over the libraries that `rt ci` has proved, also while it still runs
+tools/clib.py                  proves, with a report of how far it is, then writes build/libsel.a, build/libsel.so, build/sel.pc and build/VERDICTS
+tools/clib.py --check          builds, and runs the tests c/test.c, c/test_depth.c and c/test_threads.c
+tools/clib.py --gate           the same over the libraries that `rt ci` has proved, also while it still runs
 
 With --cpu NAME as the last argument the library is built for these processors (x86-64-v3: with AVX2) instead of x86-64-v2, into
 build/NAME/. Its code does not check the processor that it runs on; the loader does, for the file that `make install` copies.
 """
+
+from __future__ import annotations
 
 import os
 import pathlib
@@ -15,6 +17,7 @@ import re
 import subprocess
 import sys
 import tempfile
+from typing import Any
 
 ROOT = pathlib.Path(__file__).resolve().parent.parent
 CC = os.environ.get("CC", "cc")
@@ -32,7 +35,7 @@ from package import ARROW_SOURCES, BUILD, LEAST_CPU, SONAME, SOURCES, filled, fo
 from prover import kit, words  # noqa: E402
 
 
-def run(*words, **more):
+def run(*words: object, **more: Any) -> subprocess.CompletedProcess[Any]:
     """Runs a command. Exits with its words if it fails."""
     done = subprocess.run([str(word) for word in words], **more)
     if done.returncode != 0:
@@ -40,7 +43,7 @@ def run(*words, **more):
     return done
 
 
-def hide_proved_calls(objects):
+def hide_proved_calls(objects: list[pathlib.Path]) -> None:
     """Gives each proved function that C code has a function of the same name over the name `sel_proved_..`."""
     texts = [(ROOT / "c" / name).read_text() for name in ("calls.c", "arrow_lease.h")]
     names = sorted({name for text in texts for name in re.findall(r"\bsel_proved_(\w+)\(", text)})
@@ -51,13 +54,13 @@ def hide_proved_calls(objects):
             run("objcopy", f"--redefine-syms={pairs.name}", path)
 
 
-def use_library_memory(objects):
+def use_library_memory(objects: list[pathlib.Path]) -> None:
     """Lets the allocator of the proved functions call c/memory.c in place of malloc, realloc and free."""
     for path in objects:
         run("objcopy", *(word for name in ("malloc", "realloc", "free") for word in ("--redefine-sym", f"{name}=sel_memory_{name}")), path)
 
 
-def proved(over_gate, cpu):
+def proved(over_gate: bool, cpu: str) -> pathlib.Path:
     """Proves crates/sel_c over cached proofs, or over the libraries that `rt ci` has just proved. Returns its archive."""
     folder = ROOT / "crates" / "sel_c"
     archive = folder / "out" / "libsel_c.a"
@@ -77,12 +80,12 @@ def proved(over_gate, cpu):
     return archive
 
 
-def for_cpu(cpu):
+def for_cpu(cpu: str) -> list[str]:
     """Returns the options of the toolchain that select the processors to build for."""
     return [] if cpu == LEAST_CPU else ["--cpu", cpu]
 
 
-def build(over_gate=False, cpu=LEAST_CPU):
+def build(over_gate: bool = False, cpu: str = LEAST_CPU) -> None:
     proved_sources, folder = hash_of_sources(), folder_of(cpu)
     made = proved(over_gate, cpu)
     folder.mkdir(parents=True, exist_ok=True)
@@ -111,36 +114,36 @@ def build(over_gate=False, cpu=LEAST_CPU):
     (folder / "sel.pc").write_bytes(filled("sel.pc.in", "/usr/local"))
 
 
-def foreign_symbols(folder):
+def foreign_symbols(folder: pathlib.Path) -> list[str]:
     """Returns the exported symbols of the shared library that its headers do not declare."""
     names = run("nm", "-D", "--defined-only", folder / "libsel.so", capture_output=True, text=True).stdout.split("\n")
     return sorted({line.split()[-1] for line in names if line.strip()} - functions())
 
 
-def has(need):
+def has(need: str) -> bool:
     """Returns whether a dependency is installed or could be installed. tools/need reports the missing ones."""
     return subprocess.run([ROOT / "tools" / "need", need], check=False).returncode == 0
 
 
-def left_out(what):
+def left_out(what: str) -> None:
     print(f"not run: {what}", file=sys.stderr)
 
 
-def compiled(folder, name, sources, *flags):
+def compiled(folder: pathlib.Path, name: str, sources: list[str], *flags: str) -> pathlib.Path:
     """Compiles a test, linked with the archive. Returns the program."""
     program = folder / name
     run(CC, "-std=c11", "-g", *WARN, "-I", ROOT / "include", *(TESTS / f"{source}.c" for source in sources), folder / "libsel.a", *flags, "-o", program)
     return program
 
 
-def finds_race(under, program, function, env=None):
+def finds_race(under: list[str], program: pathlib.Path, function: str, env: dict[str, str] | None = None) -> None:
     """Checks that a checker of races finds the one that the program makes, in a function; else it could pass whatever it runs."""
     done = subprocess.run([*under, program, "race"], capture_output=True, text=True, errors="replace", env=env, check=False)
     if done.returncode == 0 or not re.search(rf"(?s)data race.*\b{function}\b", done.stdout + done.stderr):
         sys.exit(f"failed: {' '.join(str(word) for word in [*under, program])} finds no race in {function}")
 
 
-def check_threads(folder):
+def check_threads(folder: pathlib.Path) -> None:
     """Runs c/test_threads.c plainly, under valgrind's memcheck and helgrind, and with ThreadSanitizer."""
     program = compiled(folder, "test_threads", ["test_threads"], "-pthread")
     run(program, "60")
@@ -176,7 +179,7 @@ LEASE_FAULTS = [
 ]
 
 
-def finds_lease_faults(folder):
+def finds_lease_faults(folder: pathlib.Path) -> None:
     """Checks that c/test_lease.c finds each of the wrong changes."""
     for what, name, old, new in LEASE_FAULTS:
         text = (TESTS / name).read_text()
@@ -191,7 +194,7 @@ def finds_lease_faults(folder):
                 sys.exit(f"failed: c/test_lease.c passes although {what}")
 
 
-def check_leases(folder):
+def check_leases(folder: pathlib.Path) -> None:
     """Runs c/test_lease.c, c/test_lease_random.c and c/test_lease_threads.c plainly, and under valgrind's memcheck and helgrind."""
     finds_lease_faults(folder)
     lent = compiled(folder, "test_lease", ["test_lease", "test_memory"], *WRAPPED, "-pthread")
@@ -202,12 +205,13 @@ def check_leases(folder):
     run(threads, "2000")
     if not has("valgrind"):
         return left_out("c/test_lease.c under memcheck, and c/test_lease_threads.c under helgrind")
-    for command in ([lent], [random, "200"]):
-        run("valgrind", "--quiet", "--error-exitcode=3", "--leak-check=full", *command)
+    memcheck = ["valgrind", "--quiet", "--error-exitcode=3", "--leak-check=full"]
+    run(*memcheck, lent)
+    run(*memcheck, random, "200")
     run("valgrind", "--tool=helgrind", "--quiet", "--error-exitcode=3", threads, "20")
 
 
-def check_depth(folder):
+def check_depth(folder: pathlib.Path) -> None:
     """Runs c/test_depth.c, which has to call every function of the headers."""
     called = set(re.findall(r"\b(sel_\w+)\(", (TESTS / "test_depth.c").read_text()))
     if not functions() <= called:
@@ -215,7 +219,7 @@ def check_depth(folder):
     run(compiled(folder, "test_depth", ["test_depth", "test_memory"], "-pthread", *WRAPPED))
 
 
-def check(over_gate, cpu):
+def check(over_gate: bool, cpu: str) -> None:
     build(over_gate, cpu)
     header, folder = ROOT / "include" / "sel.h", folder_of(cpu)
     for compiler, standard, language in ((CC, "c11", "c"), (CXX, "c++17", "c++")):
@@ -233,7 +237,7 @@ def check(over_gate, cpu):
     check_leases(folder)
 
 
-def main():
+def main() -> None:
     asked, cpu = sys.argv[1:], LEAST_CPU
     if asked[-2:-1] == ["--cpu"]:
         asked, cpu = asked[:-2], asked[-1]

@@ -1,8 +1,8 @@
 #!/usr/bin/env python3
 """Runs the built sel_bench on each folder of crates/sel_bench/runs, and compares its output and its exit status.
 
-tools/runs           every folder
-tools/runs NAME ..   only these
+tools/runs.py           every folder
+tools/runs.py NAME ..   only these
 
 A folder has three files: stdin is the input, stdout the expected output, status the expected exit status. In the first two,
 `<TEXT*N>` means N times TEXT. An optional fourth file, how, has one word: `closed` closes the input; `full` writes to /dev/full;
@@ -12,8 +12,8 @@ expects the same output and status each time. Only a line feed ends a line. A li
 Uses the program that `rt ci` built. If it is missing or older than its sources, proves and builds it first.
 """
 
-import importlib.machinery
-import importlib.util
+from __future__ import annotations
+
 import pathlib
 import re
 import subprocess
@@ -25,23 +25,18 @@ RUNS = TOP / "crates" / "sel_bench" / "runs"
 HOW = ("closed", "full", "refused", "each")
 BEHIND = b"take 5 0\n"
 SECONDS = 60
+sys.dont_write_bytecode = True
+sys.path.insert(0, str(TOP / "tools" / "refuse"))
+
+import refuse  # noqa: E402
 
 
-def refuse():
-    """Returns tools/refuse/run as a module."""
-    loader = importlib.machinery.SourceFileLoader("refuse", str(TOP / "tools" / "refuse" / "run"))
-    made = importlib.util.module_from_spec(importlib.util.spec_from_loader("refuse", loader))
-    sys.dont_write_bytecode = True
-    loader.exec_module(made)
-    return made
-
-
-def text_of(file):
+def text_of(file: pathlib.Path) -> bytes:
     """Returns a file's bytes with each `<TEXT*N>` expanded."""
     return re.sub(rb"<([^<>*]*)\*(\d+)>", lambda found: found[1] * int(found[2]), file.read_bytes())
 
 
-def inputs_of(given, how):
+def inputs_of(given: bytes, how: str) -> list[bytes]:
     """Returns the inputs of a folder, one for each run."""
     if how != "each":
         return [given]
@@ -51,20 +46,20 @@ def inputs_of(given, how):
     return [line + b"\n" + BEHIND for line in lines]
 
 
-def ran(program, given, how, tools, room):
+def ran(program: pathlib.Path, given: bytes, how: str, room: str) -> tuple[int, bytes]:
     """Runs the program. Returns its exit status and its output."""
     if how == "refused":
-        done, calls = tools.refused_run(tools.built_shim(room), [str(program)], 1, False, input=given, env={"REFUSE_ALL": "1"})
+        done, calls = refuse.refused_run(refuse.built_shim(room), [str(program)], 1, False, given, {"REFUSE_ALL": "1"})
         return done.returncode, done.stdout if calls and calls[0][2] else b"(no allocation failed)"
     words = ["sh", "-c", 'exec "$0"' + {"closed": " <&-", "full": " > /dev/full"}.get(how, ""), str(program)]
     done = subprocess.run(words, input=given, capture_output=True, timeout=SECONDS)
     return done.returncode, done.stdout
 
 
-def fault_of(program, given, how, wanted, status, tools, room):
+def fault_of(program: pathlib.Path, given: bytes, how: str, wanted: bytes, status: int, room: str) -> str | None:
     """Returns what is wrong with a run, or None."""
     try:
-        ended, wrote = ran(program, given, how, tools, room)
+        ended, wrote = ran(program, given, how, room)
     except subprocess.TimeoutExpired:
         return f"still running after {SECONDS} seconds"
     if ended != status:
@@ -74,7 +69,7 @@ def fault_of(program, given, how, wanted, status, tools, room):
     return None
 
 
-def tried(folder, program, tools, room):
+def tried(folder: pathlib.Path, program: pathlib.Path, room: str) -> tuple[int, str | None]:
     """Runs a folder. Returns the number of runs, and what is wrong with the first wrong one, or None."""
     how = (folder / "how").read_text().strip() if (folder / "how").exists() else ""
     if how and how not in HOW:
@@ -84,27 +79,26 @@ def tried(folder, program, tools, room):
         return 0, "stdin has no line"
     wanted, status = text_of(folder / "stdout"), int((folder / "status").read_text())
     for at, given in enumerate(inputs, 1):
-        fault = fault_of(program, given, how, wanted, status, tools, room)
+        fault = fault_of(program, given, how, wanted, status, room)
         if fault:
             return at, f"line {at}, {given[:-len(BEHIND) - 1][:200]!r}: {fault}" if how == "each" else fault
     return len(inputs), None
 
 
-def main(names):
-    tools = refuse()
+def main(names: list[str]) -> int:
     folders = sorted(it for it in RUNS.iterdir() if it.is_dir() and (not names or it.name in names))
     if not folders or len(folders) < len(names):
-        tools.stop("no such run")
-    program = tools.built("sel_bench", "sel_bench", ["run"])
+        refuse.stop("no such run")
+    program = refuse.built("sel_bench", "sel_bench", ["run"])
     runs = failed = 0
     with tempfile.TemporaryDirectory(prefix="runs-") as room:
         for folder in folders:
-            made, fault = tried(folder, program, tools, room)
+            made, fault = tried(folder, program, room)
             runs += made
             failed += fault is not None
-            outcome = f"{tools.counted(made, 'run')}, ok" if fault is None else f"WRONG: {fault}"
+            outcome = f"{refuse.counted(made, 'run')}, ok" if fault is None else f"WRONG: {fault}"
             print(f"{folder.name.replace('_', ' ')}: {outcome}")
-    print(f"total: {tools.counted(runs, 'run')}")
+    print(f"total: {refuse.counted(runs, 'run')}")
     print(f"{len(folders) - failed} passed, {failed} failed")
     return 1 if failed else 0
 

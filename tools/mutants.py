@@ -1,11 +1,11 @@
 #!/usr/bin/env python3
 """Tries mutants: changed function bodies that the prover must reject. Needs the libraries that `rt ci` has proved and built.
 
-tools/mutants               tries the mutants that tools/mutants.txt lists
-tools/mutants CRATE/MUTANT  tries these; CRATE alone names every mutant of its folder mutants
-tools/mutants --all         tries every mutant of every crate
-tools/mutants --control ..  changes nothing in the functions of these mutants: each must be proved, so that a mutant is rejected for its change
-tools/mutants --texts       proves nothing: checks that every mutant still finds the text that it changes
+tools/mutants.py               tries the mutants that tools/mutants.txt lists
+tools/mutants.py CRATE/MUTANT  tries these; CRATE alone names every mutant of its folder mutants
+tools/mutants.py --all         tries every mutant of every crate
+tools/mutants.py --control ..  changes nothing in the functions of these mutants: each must be proved, so that a mutant is rejected for its change
+tools/mutants.py --texts       proves nothing: checks that every mutant still finds the text that it changes
 
 The toolchain's own check of mutants proves the whole crate for each. This script changes different functions of a crate at once and
 checks only those functions: a function is proved against the contracts of what it calls, not against their bodies. So in the copy of
@@ -13,6 +13,8 @@ the crate every other function only calls one that is said never to return, whic
 time. A mutant counts as rejected if a goal of its own function stays open. If the only message is that the function calls another
 mutant, the mutant is tried again alone. `rt ci` has proved each unchanged function before.
 """
+
+from __future__ import annotations
 
 import os
 import pathlib
@@ -32,6 +34,8 @@ from prover import crates_below, lines, words  # noqa: E402
 
 # the first line of a function: its indentation, what keeps it from calling other functions of the crate, and its name
 HEAD = re.compile(r'(?m)^([ \t]*)(?:pub(?:\([a-z]+\))? )?((?:const )?(?:extern "C" )?)fn (\w+)')
+# a function: its file, and how many functions begin before it there
+Place = tuple[str, int]
 # errors about a name that the mutant has removed: with such an error the prover has not tried the contract itself
 GONE = re.compile(r"has no field|is not in scope|has no `|was not admitted")
 
@@ -39,8 +43,9 @@ GONE = re.compile(r"has no field|is not in scope|has no `|was not admitted")
 class Mutant:
     """A change of one function's body that its contract must reject."""
 
-    def __init__(self, path):
-        self.path, self.pairs, old = path, [], ""
+    def __init__(self, path: pathlib.Path) -> None:
+        self.path, old = path, ""
+        self.pairs: list[tuple[str, str]] = []
         self.label = f"{path.parent.parent.name}/{path.stem}"
         for line in path.read_text().split("\n"):
             if line.startswith("file: "):
@@ -56,7 +61,7 @@ class Mutant:
         # the place of the changed function: its file, and how many functions begin before it there
         self.place = self.file, len(HEAD.findall(before)) - 1
 
-    def applied(self, text):
+    def applied(self, text: str) -> str:
         """Returns the text with the mutant applied. Each old text must occur once in the result of the earlier pairs."""
         for old, new in self.pairs:
             if text.count(old) != 1:
@@ -64,7 +69,7 @@ class Mutant:
             text = text.replace(old, new)
         return text
 
-    def fits(self, text):
+    def fits(self, text: str) -> bool:
         """Returns whether the mutant can be applied to a text in which other mutants have been applied."""
         for old, new in self.pairs:
             if text.count(old) != 1:
@@ -73,7 +78,7 @@ class Mutant:
         return True
 
 
-def names_at(file, before):
+def names_at(file: str, before: str) -> list[str]:
     """Returns the names that the prover may use for the last function that begins in this text: by type and trait, by module, or alone."""
     indent, _, name = HEAD.findall(before)[-1]
     module = [part for part in pathlib.Path(file).with_suffix("").parts[1:] if part not in ("mod", "lib", "main")]
@@ -88,12 +93,12 @@ def names_at(file, before):
     return [f"{owner}::{name}", *by_module]
 
 
-def mutants_of(crate):
+def mutants_of(crate: str) -> list[pathlib.Path]:
     """Returns the files of all mutants of a crate."""
     return sorted((ROOT / "crates" / crate / "mutants").glob("*.edit"))
 
 
-def path_of(label):
+def path_of(label: str) -> pathlib.Path:
     """Returns the file of the mutant CRATE/MUTANT."""
     crate, _, name = label.partition("/")
     found = [path for path in mutants_of(crate) if path.stem == name]
@@ -102,12 +107,12 @@ def path_of(label):
     return found[0]
 
 
-def listed():
+def listed() -> list[str]:
     """Returns the labels that tools/mutants.txt lists."""
     return [line for line in LIST.read_text().split("\n") if line and not line.startswith("#")]
 
 
-def selected(args):
+def selected(args: list[str]) -> list[pathlib.Path]:
     """Returns the files of the mutants that the arguments select."""
     if args == ["--all"]:
         return [path for crate in lines() for path in mutants_of(crate)]
@@ -126,20 +131,20 @@ unsafe extern "C" {
 """
 
 
-def head_of(lines, k):
+def head_of(lines: list[str], k: int) -> tuple[int, list[str]]:
     """Returns the first line of the attributes above line k, and the names of the cycles that these give."""
     first = k
     while first and lines[first - 1].lstrip().startswith("#["):
         first -= 1
-    return first, [CYCLE.match(line)[1] for line in lines[first:k] if CYCLE.match(line)]
+    return first, [cycle[1] for cycle in map(CYCLE.match, lines[first:k]) if cycle]
 
 
-def heads(lines):
+def heads(lines: list[str]) -> list[tuple[int, str, str, str]]:
     """Returns for each function of a file the number of its first line, its indentation, what is written before `fn`, and its name."""
-    return [(k, *HEAD.match(line).groups()) for k, line in enumerate(lines) if HEAD.match(line)]
+    return [(k, head[1], head[2], head[3]) for k, head in enumerate(map(HEAD.match, lines)) if head]
 
 
-def cycles_of(sources, kept):
+def cycles_of(sources: dict[str, str], kept: set[Place]) -> set[str]:
     """Returns the cycles of calls that the functions at the places in `kept` are in."""
     found = set()
     for file, text in sources.items():
@@ -150,7 +155,7 @@ def cycles_of(sources, kept):
     return found
 
 
-def body_of(lines, k, indent):
+def body_of(lines: list[str], k: int, indent: str) -> tuple[int, int] | None:
     """Returns the first and the last line of the body of the function that begins in line k, or None if it has none.
 
     The formatter begins the body on a line of its own after a contract, else on the last line of the head, and ends it on one of its own.
@@ -163,7 +168,7 @@ def body_of(lines, k, indent):
     return None
 
 
-def shortened(file, text, kept, cycles):
+def shortened(file: str, text: str, kept: set[Place], cycles: set[str]) -> tuple[str, list[str]]:
     """Returns the text of a file with the bodies of its functions replaced by a call of one that never returns, and their names.
 
     Leaves out the functions at the places in `kept`, and those that are proved in one cycle of calls with one of them. A name is that by
@@ -180,7 +185,7 @@ def shortened(file, text, kept, cycles):
     return "\n".join(lines), names
 
 
-def proofs_of(module, name):
+def proofs_of(module: pathlib.Path, name: str) -> list[pathlib.Path]:
     """Returns the proof files of a function, by its name and the folder of its module."""
     owner, _, last = name.rpartition("::")
     folder = module / last if owner == module.name else module / owner / last
@@ -190,12 +195,13 @@ def proofs_of(module, name):
 class Trial:
     """A copy of a crate, in which its mutants are tried in rounds."""
 
-    def __init__(self, crate, mutants, room, control):
+    def __init__(self, crate: str, mutants: list[Mutant], room: str, control: bool) -> None:
         self.crate, self.left, self.failed, self.control = crate, mutants, 0, control
-        self.short, self.whole, self.shown = True, set(), ""
+        self.short, self.shown = True, ""
+        self.whole: set[Place] = set()
         self.folder, self.cache = pathlib.Path(room) / crate, pathlib.Path(room) / "cache"
 
-    def run(self):
+    def run(self) -> int:
         """Tries each mutant: in one check as many as change different functions, and alone those without a result."""
         alone = False
         while self.left:
@@ -216,9 +222,10 @@ class Trial:
             alone = not settled
         return self.failed
 
-    def next_round(self, alone):
+    def next_round(self, alone: bool) -> list[Mutant]:
         """Applies mutants of different functions to the copy, only one if `alone`, and returns them."""
-        made, texts = [], {}
+        made: list[Mutant] = []
+        texts: dict[str, str] = {}
         for mutant in self.left:
             text = texts.get(mutant.file, (ROOT / "crates" / self.crate / mutant.file).read_text())
             if mutant.names[0] not in [it.names[0] for it in made] and mutant.fits(text) and not (alone and made):
@@ -227,7 +234,7 @@ class Trial:
         self.write(texts, {mutant.place for mutant in made})
         return made
 
-    def write(self, texts, kept):
+    def write(self, texts: dict[str, str], kept: set[Place]) -> None:
         """Writes the crate anew with these changed texts. Functions that are not in `kept` are shortened, and lose their proofs."""
         origin = ROOT / "crates" / self.crate
         shutil.rmtree(self.folder, ignore_errors=True)
@@ -237,7 +244,7 @@ class Trial:
         whole = kept | self.whole
         cycles = cycles_of(sources, whole)
         for file, text in sources.items():
-            names = []
+            names: list[str] = []
             if self.short:
                 text, names = shortened(file, text, whole, cycles)
                 text += NEVER if file in ("src/lib.rt", "src/main.rt") else ""
@@ -251,7 +258,7 @@ class Trial:
                 if self.short and cycle.name[1:] not in cycles:
                     shutil.rmtree(cycle)
 
-    def keep_unread(self):
+    def keep_unread(self) -> bool:
         """Adds the functions at which the prover has reported an error in the sources to those that keep their bodies; returns whether there are any."""
         before = len(self.whole)
         for file, line in re.findall(r"(?m)^(?:\./)?(src/\S+\.rt):(\d+):\d+: error", self.shown):
@@ -259,10 +266,10 @@ class Trial:
             self.whole.add((file, len(HEAD.findall(text)) - 1))
         return len(self.whole) > before
 
-    def check(self, made):
+    def check(self, made: list[Mutant]) -> list[tuple[Mutant, str]]:
         """Checks the changed functions. Returns the mutants with a result, each with the reason why it is not rejected, or ""."""
         links = "nothing" if self.short else ""
-        command = [*words("check", self.crate, self.folder, links), "--jobs", "1", "--incremental", self.cache]
+        command = [*words("check", self.crate, self.folder, links), "--jobs", "1", "--incremental", str(self.cache)]
         names = {mutant: list(mutant.names) for mutant in made}
         while True:
             only = [word for mutant in made for word in ("--only", names[mutant][0])]
@@ -280,24 +287,24 @@ class Trial:
         verdicts = [(mutant, judge(shown, self.crate, names[mutant][0])) for mutant in made]
         return [(mutant, why) for mutant, why in verdicts if why is not None]
 
-    def report(self, mutant, why):
+    def report(self, mutant: Mutant, why: str) -> None:
         good, bad = ("proved without its change", "NOT PROVED without its change: ") if self.control else ("rejected", "NOT REJECTED: ")
         print(f"{mutant.label}: {bad + why if why else good}", flush=True)
         self.failed += bool(why)
 
 
-def said_of(shown, crate, name):
+def said_of(shown: str, crate: str, name: str) -> list[tuple[str, str]]:
     """Returns the functions of this name that the prover reports, each with its verdict."""
     return re.findall(rf"(?m)^fn ({crate}::(?:\S+::)?{re.escape(name)}): (.*)$", shown)
 
 
-def unchanged(shown, crate, name):
+def unchanged(shown: str, crate: str, name: str) -> str | None:
     """Returns why the unchanged function is not proved, or ""."""
     found = said_of(shown, crate, name)
     return "" if len(found) == 1 and found[0][1] == "proved" else f"the prover says {found}"
 
 
-def verdict(shown, crate, name):
+def verdict(shown: str, crate: str, name: str) -> str | None:
     """Returns why the mutant of this function is not rejected, "" if it is rejected, and None if the output has no result for it."""
     found = said_of(shown, crate, name)
     if len(found) != 1:
@@ -316,13 +323,13 @@ def verdict(shown, crate, name):
     return ""
 
 
-def try_crate(crate, mutants, control):
+def try_crate(crate: str, mutants: list[Mutant], control: bool) -> tuple[int, int]:
     """Returns how many mutants of a crate were tried, and how many are not rejected."""
     with tempfile.TemporaryDirectory() as room:
         return len(mutants), Trial(crate, list(mutants), room, control).run()
 
 
-def check_texts():
+def check_texts() -> int:
     """Checks that every mutant can be applied, that every listed one exists, and that crates can be shortened for mutants."""
     mutants = [Mutant(path) for crate in lines() for path in mutants_of(crate)]
     for label in listed():
@@ -330,9 +337,10 @@ def check_texts():
     for crate in lines():
         check_shortened(crate)
     print(f"{len(mutants)} mutants find their texts")
+    return 0
 
 
-def check_shortened(crate):
+def check_shortened(crate: str) -> None:
     """Checks that no function of a crate stays in a cycle of calls if no mutant needs it: the prover would refuse the copy."""
     for path in sorted((ROOT / "crates" / crate / "src").rglob("*.rt")):
         file = str(path.relative_to(ROOT / "crates" / crate))
@@ -341,11 +349,11 @@ def check_shortened(crate):
             sys.exit(f"crates/{crate}/{file}: a function in a cycle of calls is not shortened for the mutants of other functions")
 
 
-def main():
+def main() -> int:
     if sys.argv[1:] == ["--texts"]:
         return check_texts()
     control, args = "--control" in sys.argv[1:], [word for word in sys.argv[1:] if word != "--control"]
-    by_crate = {}
+    by_crate: dict[str, list[Mutant]] = {}
     for mutant in map(Mutant, selected(args)):
         of_crate = by_crate.setdefault(mutant.path.parent.parent.name, [])
         if not control or mutant.names[0] not in [it.names[0] for it in of_crate]:

@@ -1,7 +1,7 @@
 #!/usr/bin/env python3
 """Finds phrases that the project no longer uses, and names the standard term for each.
 
-tools/terms     prints each occurrence of a phrase of tools/terms.txt with its file, its line and the term to use
+tools/terms.py     prints each occurrence of a phrase of tools/terms.txt with its file, its line and the term to use
 
 Exits with status 1 if there is one. Letter case does not matter, and a phrase also matches across a line break, with or without a
 comment marker at the start of the next line.

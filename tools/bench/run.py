@@ -2,8 +2,8 @@
 """Times the kernels of build/libsel.so against numpy, plain C loops and a copy of the bytes that must be read and written, with
 tools/bench/lending.py imports and exports without a copy, with tools/bench/tables.py filters of wide tables and allocations, and with tools/bench/words.py the operations that this library does not export.
 
-tools/bench/run        writes docs/BENCHMARKS.md and docs/bench-*.svg; if UPSTREAM names a folder, or two, with tools/bench/upstream.py beside upstream's kernels
-tools/bench/run quick  compares each result with numpy's, and writes nothing
+tools/bench/run.py        writes docs/BENCHMARKS.md and docs/bench-*.svg; if UPSTREAM names a folder, or two, with tools/bench/upstream.py beside upstream's kernels
+tools/bench/run.py quick  compares each result with numpy's, and writes nothing
 """
 
 from __future__ import annotations
@@ -17,6 +17,11 @@ import subprocess
 import sys
 import tempfile
 import time
+from collections.abc import Callable
+from typing import TYPE_CHECKING
+
+if TYPE_CHECKING:
+    from cases import Case
 
 HERE = pathlib.Path(__file__).resolve().parent
 ROOT = HERE.parent.parent
@@ -25,6 +30,8 @@ CC = os.environ.get("CC", "cc")
 FLAGS = ["-O3", "-march=native", "-std=c11", "-Wall", "-Wextra", "-fPIC", "-shared"]
 ROUNDS, ROUND_NS = 21, 1_500_000
 LARGE, SMALL, MOST = 2 ** 20, 2 ** 14, 2 ** 26
+# runs a call so many times, and returns the time in ns
+Timer = Callable[[int], float]
 
 
 def with_numpy() -> bool:
@@ -47,7 +54,9 @@ def timers(folder: pathlib.Path) -> ctypes.CDLL:
     return ctypes.PyDLL(str(built))
 
 
-def by_numpy(call):
+def by_numpy(call: Callable[[], object]) -> Timer:
+    """Returns the timer of a call of numpy."""
+
     def timer(repeats: int) -> float:
         start = time.thread_time_ns()
         for _ in range(repeats):
@@ -57,21 +66,30 @@ def by_numpy(call):
     return timer
 
 
-def contenders(lib: ctypes.CDLL, case) -> dict:
+def by_c(lib: ctypes.CDLL, call: str, case: Case) -> Timer:
+    """Returns the timer of a function of bench.c on the arguments of a case."""
+    function = getattr(lib, f"bench_{call}")
+    function.restype, function.argtypes = ctypes.c_double, [ctypes.c_void_p, ctypes.c_size_t]
+
+    def timer(repeats: int) -> float:
+        return float(function(ctypes.addressof(case.job), repeats))
+
+    return timer
+
+
+def contenders(lib: ctypes.CDLL, case: Case) -> dict[str, Timer]:
     """Returns the timers of a case: the library, the loop, the copy, and numpy if it has the operation."""
-    found = {}
-    for name, call in (("sel", case.calls[0]), ("loop", case.calls[1]), ("copy", "copy")):
-        timer = getattr(lib, f"bench_{call}")
-        timer.restype, timer.argtypes = ctypes.c_double, [ctypes.c_void_p, ctypes.c_size_t]
-        found[name] = lambda repeats, timer=timer: timer(ctypes.addressof(case.job), repeats)
+    found = {name: by_c(lib, call, case) for name, call in (("sel", case.calls[0]), ("loop", case.calls[1]), ("copy", "copy"))}
     if case.numpy:
         found["numpy"] = by_numpy(case.numpy)
     return found
 
 
-def measured(lib: ctypes.CDLL, case) -> dict:
+def measured(lib: ctypes.CDLL, case: Case) -> dict[str, tuple[float, float]]:
     """Returns the best and the median time per row of each contender, in ns. The contenders take turns in many rounds."""
-    jobs, repeats, times = contenders(lib, case), {}, {}
+    jobs = contenders(lib, case)
+    repeats: dict[str, int] = {}
+    times: dict[str, list[float]] = {}
     for name, timer in jobs.items():
         first = timer(1)
         if first < 0:
@@ -92,7 +110,7 @@ def main() -> None:
         print("not run: the benchmark, which needs numpy", file=sys.stderr)
         sys.exit(0 if quick else 1)
     if not (ROOT / "build" / "libsel.so").exists():
-        subprocess.run([ROOT / "tools" / "clib"], check=True)
+        subprocess.run([ROOT / "tools" / "clib.py"], check=True)
     os.environ.setdefault("SEL_LIBRARY", str(ROOT / "build" / "libsel.so"))
     sys.dont_write_bytecode = True
     sys.path[:0] = [str(ROOT / "bindings" / "python"), str(HERE)]

@@ -2,9 +2,11 @@
 """Writes docs/API.md: each public function of the libraries, those of include/sel.h too, with its comment, its contract, its mutants and
 a test that calls it.
 
-tools/api          writes the page
-tools/api --check  fails if the page differs from what the sources give
+tools/api.py          writes the page
+tools/api.py --check  fails if the page differs from what the sources give
 """
+
+from __future__ import annotations
 
 import pathlib
 import re
@@ -16,17 +18,21 @@ PAGE = ROOT / "docs" / "API.md"
 # include/sel.h
 LIBRARIES = ["sel_bits", "sel_arrow", "sel_text", "sel_filter", "sel_gather", "sel_ternary", "polars_compute", "sel_ffi", "sel_lent", "sel_c", "sel_lines"]
 ITEM = re.compile(r"^(?P<indent> *)(?P<pub>pub )?(?:const |extern \"C\" )?fn (?P<name>\w+)")
+# a test file: its path, the words that it uses of each crate, and the names that it calls
+TestFile = tuple[pathlib.Path, dict[str, set[str]], set[str]]
 OWNER = re.compile(r"^(?:pub )?(?P<kind>impl|trait)\b(?P<rest>.*?)\{?$")
 
 
 class Call:
     """A public function: its place in the sources, its name, its comment and its text up to the body."""
 
-    def __init__(self, crate, path, line, owner, name, comment, text, end):
+    def __init__(
+        self, crate: str, path: pathlib.Path, line: int, owner: str | None, name: str, comment: list[str], text: list[str], end: int
+    ) -> None:
         self.crate, self.path, self.line, self.owner = crate, path, line, owner
         self.name, self.comment, self.text, self.end = name, comment, text, end
 
-    def title(self):
+    def title(self) -> str:
         if self.crate == "sel_c":
             return self.name
         parts = path_of(self.crate, self.path)
@@ -35,19 +41,19 @@ class Call:
         return "::".join(parts + [self.name])
 
 
-def path_of(crate, path):
+def path_of(crate: str, path: pathlib.Path) -> list[str]:
     """Returns the path of the module in a file."""
     inside = path.relative_to(ROOT / "crates" / crate / "src").with_suffix("").parts
     return [crate] + [part for part in inside if part not in ("lib", "mod")]
 
 
-def is_public(crate, path):
+def is_public(crate: str, path: pathlib.Path) -> set[str] | None:
     """Returns None if each module on the path to a file is public, else the names that are re-exported from it. C calls the functions of
     sel_c by their names alone, so its modules count as public."""
     if crate == "sel_c":
         return None
     at = ROOT / "crates" / crate / "src"
-    exported = None
+    exported: set[str] | None = None
     for part in path_of(crate, path)[1:]:
         above = at / "mod.rt" if (at / "mod.rt").exists() else at / "lib.rt"
         text = above.read_text()
@@ -58,7 +64,7 @@ def is_public(crate, path):
     return exported
 
 
-def owner_of(line):
+def owner_of(line: str) -> str | None:
     """Returns the name of the type of an impl, or of the trait."""
     found = OWNER.match(line)
     if not found:
@@ -68,7 +74,7 @@ def owner_of(line):
     return words[0] if words else None
 
 
-def comment_above(lines, at):
+def comment_above(lines: list[str], at: int) -> list[str]:
     """Returns the `///` lines above an item, without its attributes."""
     found = []
     while at > 0 and re.match(r"^ *(///|#\[)", lines[at - 1]):
@@ -78,7 +84,7 @@ def comment_above(lines, at):
     return found[::-1]
 
 
-def end_of_head(lines, at, indent):
+def end_of_head(lines: list[str], at: int, indent: str) -> int:
     """Returns the line at which the signature and the contract end and the body begins."""
     for i in range(at, len(lines)):
         line = lines[i]
@@ -89,7 +95,7 @@ def end_of_head(lines, at, indent):
     return len(lines) - 1
 
 
-def calls_of(crate, path):
+def calls_of(crate: str, path: pathlib.Path) -> list[Call]:
     """Returns the public functions of a file, with the methods of its public traits."""
     lines = path.read_text().split("\n")
     found, owner, in_trait = [], None, False
@@ -114,7 +120,7 @@ def calls_of(crate, path):
     return found
 
 
-def mutants_of(crate):
+def mutants_of(crate: str) -> list[tuple[pathlib.Path, str, pathlib.Path]]:
     """Returns the mutants of a crate: the source file, the first text that each changes, and its own file."""
     found = []
     for mutant in sorted((ROOT / "crates" / crate / "mutants").glob("*.edit")):
@@ -126,7 +132,7 @@ def mutants_of(crate):
     return found
 
 
-def enclosing(calls, path, text):
+def enclosing(calls: list[Call], path: pathlib.Path, text: str) -> Call | None:
     """Returns the public function whose body contains a text, if there is one."""
     if not path.exists():
         return None
@@ -140,15 +146,15 @@ def enclosing(calls, path, text):
     return None
 
 
-def used_words(text):
+def used_words(text: str) -> dict[str, set[str]]:
     """Returns, for each crate that a file imports from, the words of its `use` items."""
-    found = {}
+    found: dict[str, set[str]] = {}
     for crate, rest in re.findall(r"(?m)^use (\w+)::([^;]*);", text):
         found.setdefault(crate, set()).update(re.findall(r"\w+", rest))
     return found
 
 
-def test_files():
+def test_files() -> list[TestFile]:
     """Returns the path, the used words and the called names of each test file. (In the modules alloc_* each call is between marks, which makes
     it a poor example.)"""
     paths = [path for path in sorted((ROOT / "crates").glob("tests_*/src/*.rt")) if not path.name.startswith("alloc_")]
@@ -160,7 +166,7 @@ def test_files():
     return found
 
 
-def test_of(call, files):
+def test_of(call: Call, files: list[TestFile]) -> pathlib.Path | None:
     """Returns the first test file that calls a function: one that imports it, or, for a method, imports from its crate."""
     for path, used, called in files:
         words = used.get(call.crate, set()) | (used.get("polars_compute", set()) if not call.owner else set())
@@ -169,18 +175,18 @@ def test_of(call, files):
     return None
 
 
-def link(path):
+def link(path: pathlib.Path) -> str:
     """Returns a link from the page to a file. It has no line number, so the page changes only if an interface changes."""
     there = path.relative_to(ROOT)
     return f"[{there}](../{there})"
 
 
-def paragraphs(comment):
+def paragraphs(comment: list[str]) -> list[str]:
     """Returns the paragraphs of a comment, one on each line, with an empty line after each."""
     return [line for text in "\n".join(comment).split("\n\n") for line in (" ".join(text.split()), "")]
 
 
-def section(call, mutants, tests, shared):
+def section(call: Call, mutants: list[pathlib.Path], tests: list[TestFile], shared: set[str]) -> list[str]:
     """Returns the section of one function. It names no test if several functions have the same name."""
     out = [f"### `{call.title()}`", ""]
     if call.comment:
@@ -195,13 +201,13 @@ def section(call, mutants, tests, shared):
     return out + ["; ".join(facts), ""]
 
 
-def page():
+def page() -> str:
     """Returns the whole page."""
     tests = test_files()
     out = [
         "# Reference",
         "",
-        "Each public function of the libraries, with its contract; `sel_c` has the functions of [sel.h](../include/sel.h). `tools/api` writes this page from the sources; `make check` and `make test` fail if it is out of date. [DEFINITIONS.md](DEFINITIONS.md) defines the words of the contracts.",
+        "Each public function of the libraries, with its contract; `sel_c` has the functions of [sel.h](../include/sel.h). `tools/api.py` writes this page from the sources; `make check` and `make test` fail if it is out of date. [DEFINITIONS.md](DEFINITIONS.md) defines the words of the contracts.",
         "",
         "A function's mutants are changes of its body that the prover must reject. The page omits mutants of private functions.",
         "",
@@ -218,7 +224,7 @@ def page():
     names = [call.name for calls in found.values() for call in calls]
     shared = {name for name in names if names.count(name) > 1}
     for crate, calls in found.items():
-        changed = {}
+        changed: dict[int, list[pathlib.Path]] = {}
         for path, text, mutant in mutants_of(crate):
             call = enclosing(calls, path, text)
             if call:
@@ -230,11 +236,11 @@ def page():
     return "\n".join(out + bodies).rstrip("\n") + "\n"
 
 
-def main():
+def main() -> None:
     text = page()
     if sys.argv[1:] == ["--check"]:
         if not PAGE.exists() or PAGE.read_text() != text:
-            sys.exit("docs/API.md is out of date: run tools/api")
+            sys.exit("docs/API.md is out of date: run tools/api.py")
         return
     PAGE.write_text(text)
 

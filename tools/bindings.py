@@ -1,8 +1,8 @@
 #!/usr/bin/env python3
 """Tests the code around the C library that `make lib` has built: the Arrow interface, the examples, the Rust and the Python package.
 
-tools/bindings                         everything; missing optional dependencies are reported, and what needs them is skipped
-tools/bindings c|rust|python|dask|gdal ..   only these parts
+tools/bindings.py                         everything; missing optional dependencies are reported, and what needs them is skipped
+tools/bindings.py c|rust|python|dask|gdal ..   only these parts
 """
 
 from __future__ import annotations
@@ -124,15 +124,15 @@ def counting_library(folder: pathlib.Path) -> pathlib.Path:
 
 
 def check_types(folder: pathlib.Path) -> None:
-    """Checks the types of the Python package, of its tests, and of the tools in Python that have a suffix."""
+    """Checks the types of the Python package, of its tests, and of the tools."""
     if not has("mypy", "numpy"):
         return left_out("mypy over the Python package")
     package, tools = ROOT / "bindings" / "python", ROOT / "tools"
     mypy = ["mypy", "--strict", "--no-error-summary", "--cache-dir", folder / "mypy"]
     of_package = [path for folder in ("sel", "bench", "build_backend", "tests") for path in sorted((package / folder).glob("*.py"))]
-    of_tools = [*sorted(tools.glob("*.py")), *sorted((tools / "bench").glob("*.py"))]
+    of_tools = [path for folder in (tools, tools / "bench", tools / "refuse") for path in sorted(folder.glob("*.py"))]
     for files in (of_package, of_tools):
-        run(*mypy, *files, env={**os.environ, "MYPYPATH": f"{package}:{tools}"})
+        run(*mypy, *files, env={**os.environ, "MYPYPATH": f"{package}:{tools}:{tools}/refuse"})
     print("the types of the Python package and of the tools: ok")
 
 

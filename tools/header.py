@@ -1,12 +1,14 @@
 #!/usr/bin/env python3
 """Writes the C interface from the sources: include/sel.h, and c/calls.c with a function for each call that has an array.
 
-tools/header          writes both files
-tools/header --check  fails if one of them differs from what the sources, tools/statuses.txt and VERSION give
+tools/header.py          writes both files
+tools/header.py --check  fails if one of them differs from what the sources, tools/statuses.txt and VERSION give
 
-A proved function must not get a null pointer, not for an empty array either. So tools/clib gives each one that has an array the name
+A proved function must not get a null pointer, not for an empty array either. So tools/clib.py gives each one that has an array the name
 `sel_proved_..`, and c/calls.c has a function of the public name, which replaces null pointers.
 """
+
+from __future__ import annotations
 
 import pathlib
 import re
@@ -35,7 +37,7 @@ RESULTS = {"sel_type_of": "sel_type_id"}
 CALL = re.compile(r'((?:^///[^\n]*\n)+)(?:#\[tactic[^\n]*\n)*#\[unsafe\(no_mangle\)\]\n(?:#\[tactic[^\n]*\n)*pub extern "C" fn (\w+)\(([^)]*)\)(?: -> (\w+))?', re.M)
 
 BEFORE = """\
-/* sel.h: filters, gathers and combines Arrow columns of any nesting. Written by tools/header from the sources. The
+/* sel.h: filters, gathers and combines Arrow columns of any nesting. Written by tools/header.py from the sources. The
  * functions are proved; docs/DEFINITIONS.md defines the words of their contracts.
  *
  * Ownership: a handle is empty, {0}, or has a column. Initialize it with {0} and free it with sel_free. A handle may
@@ -138,7 +140,7 @@ AFTER = """
 """
 
 LAYER_BEFORE = """\
-/* The calls with arrays. Written by tools/header from the sources. Each replaces a null pointer to an empty array,
+/* The calls with arrays. Written by tools/header.py from the sources. Each replaces a null pointer to an empty array,
  * which the proved function must not get, by a valid one. */
 #include "sel.h"
 
@@ -180,11 +182,11 @@ static bool read_byte_refs(const sel_bytes_ref *refs, size_t len, byte_refs *out
 """
 
 
-def version():
+def version() -> str:
     return (ROOT / "VERSION").read_text().strip()
 
 
-def filled(template):
+def filled(template: str) -> str:
     """Returns a template with the version."""
     major, minor, patch = version().split(".")
     for name, value in (("VERSION", version()), ("MAJOR", major), ("MINOR", minor), ("PATCH", patch)):
@@ -192,13 +194,13 @@ def filled(template):
     return template
 
 
-def wrapped(paragraphs, indent=""):
+def wrapped(paragraphs: list[str], indent: str = "") -> str:
     """Returns a C comment within 120 columns; each paragraph begins on a line of its own."""
     lines = [f"{indent} * {line}" for paragraph in paragraphs for line in textwrap.wrap(paragraph, 114 - len(indent), break_on_hyphens=False)]
     return "\n".join(lines).replace(f"{indent} *", f"{indent}/*", 1) + " */"
 
 
-def comment_of(lines):
+def comment_of(lines: str) -> list[str]:
     """Returns the paragraphs of a comment, which empty lines separate."""
     text = "\n".join(line[3:].strip() for line in lines.strip().split("\n"))
     return [" ".join(paragraph.split()) for paragraph in text.split("\n\n")]
@@ -207,7 +209,7 @@ def comment_of(lines):
 class Parameter:
     """A parameter in the sources: its name, its type in C, and whether it is an array, which also has a length, or is written."""
 
-    def __init__(self, text):
+    def __init__(self, text: str) -> None:
         self.name, kind = (part.strip() for part in text.split(":", 1))
         array = re.fullmatch(r"&(mut )?\[(.+)\]", kind)
         reference = re.fullmatch(r"&(mut )?(\w+)", kind)
@@ -216,13 +218,13 @@ class Parameter:
         self.type = PLAIN[(array or reference or (None, None, kind))[2]]
         self.is_pointer = bool(array or reference)
 
-    def declared(self):
+    def declared(self) -> list[str]:
         if not self.is_pointer:
             return [f"{self.type} {self.name}"]
         pointer = f"{'' if self.is_written else 'const '}{self.type} *{self.name}"
         return [pointer, f"size_t {self.name}_len"] if self.is_array else [pointer]
 
-    def passed(self):
+    def passed(self) -> list[str]:
         """Returns the arguments for the proved function."""
         if not self.is_array:
             return [self.name]
@@ -234,29 +236,29 @@ class Parameter:
 class Call:
     """An exported function: its comment, its name, its parameters and its result in C."""
 
-    def __init__(self, found):
+    def __init__(self, found: re.Match[str]) -> None:
         comment, self.name, parameters, result = found.groups()
         self.comment = comment_of(comment)
         parts = [part for part in re.split(r",\s*", parameters.strip().rstrip(",")) if part]
         self.parameters = [Parameter(part) for part in parts if not part.endswith(": Global")]
         self.result = RESULTS.get(self.name, "sel_status") if result == "u32" else PLAIN[result] if result else "void"
 
-    def has_array(self):
+    def has_array(self) -> bool:
         return any(parameter.is_array for parameter in self.parameters)
 
-    def head(self, name, end):
+    def head(self, name: str, end: str) -> str:
         inside = [text for parameter in self.parameters for text in parameter.declared()]
         begin = f"{self.result} {name}("
         one = begin + ", ".join(inside) + ")" + end
         return one if len(one) <= 120 else begin + "\n    " + ",\n    ".join(inside) + ")" + end
 
-    def declaration(self):
+    def declaration(self) -> str:
         return wrapped(self.comment) + "\n" + self.head(self.name, ";")
 
-    def proved_name(self):
+    def proved_name(self) -> str:
         return self.name.replace("sel_", "sel_proved_", 1)
 
-    def layer(self):
+    def layer(self) -> str:
         """Returns the function of the public name over the proved one."""
         passed = [text for parameter in self.parameters for text in parameter.passed()]
         begin = f"{self.proved_name()}("
@@ -272,14 +274,14 @@ class Call:
         return "\n" + self.head(self.proved_name(), ";") + "\n" + self.head(self.name, " {") + "\n" + "\n".join(lines) + "\n}\n"
 
 
-def enumeration(name, title, items, notes):
+def enumeration(name: str, title: str, items: list[tuple[str, str, int]], notes: dict[str, str]) -> str:
     """Returns an enumeration of 32 bits."""
     last = f"    /* Not returned: makes the type 32 bits wide. */\n    {name.upper()}_FORCE_32_BITS = 0x7fffffff"
     lines = [notes.get(one, "") + f"{wrapped([comment], '    ')}\n    {one} = {number}" for one, comment, number in items]
     return f"\n/* {title} */\ntypedef enum {name} {{\n" + ",\n".join([*lines, last]) + f"\n}} {name};\n"
 
 
-def enumerations():
+def enumerations() -> str:
     found = statuses()
     arrow = next(status.c_name() for status in found if status.is_arrow())
     notes = {arrow: "\n    /* Only of sel_import and sel_export, in sel_arrow.h: */\n\n"}
@@ -287,7 +289,7 @@ def enumerations():
     return text + enumeration("sel_type_id", "The types of columns.", [(one.c_name(), one.comment, one.number) for one in type_ids()], {})
 
 
-def modules():
+def modules() -> list[tuple[str, list[Call]]]:
     """Returns the modules of sel_c with exported functions, each with its title and its calls."""
     names = {path.stem for path in CALLS.glob("*.rt")} - {"lib"} - INTERNAL
     found = []
@@ -301,25 +303,25 @@ def modules():
     return found
 
 
-def header():
+def header() -> str:
     text = filled(BEFORE) + enumerations() + filled(AFTER_ENUMS)
     for title, calls in modules():
         text += f"\n/* ---- {title} ---- */\n\n" + "\n\n".join(call.declaration() for call in calls) + "\n"
     return text + AFTER
 
 
-def layer():
+def layer() -> str:
     return LAYER_BEFORE + "".join(call.layer() for _, calls in modules() for call in calls if call.has_array())
 
 
-def main():
+def main() -> None:
     if sys.argv[1:] not in ([], ["--check"]):
         sys.exit(__doc__)
     for path, text in ((HEADER, header()), (LAYER, layer())):
         if not sys.argv[1:]:
             path.write_text(text)
         elif not path.exists() or path.read_text() != text:
-            sys.exit(f"{path.relative_to(ROOT)} is out of date: run tools/header")
+            sys.exit(f"{path.relative_to(ROOT)} is out of date: run tools/header.py")
 
 
 if __name__ == "__main__":

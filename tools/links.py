@@ -3,14 +3,17 @@
 code behind a comment `<!-- from FILE -->` is a part of that file, indentation aside; that each word of docs/DEFINITIONS.md stands in
 the file that its row names; and that the page lists each word that a source brings into its contracts from a library.
 
-tools/links     prints each broken link, each sample and each word that is not in its file or not listed; the status is 1 if there is one
+tools/links.py     prints each broken link, each sample and each word that is not in its file or not listed; the status is 1 if there is one
 """
+
+from __future__ import annotations
 
 import functools
 import pathlib
 import re
 import sys
 import urllib.parse
+from collections.abc import Iterator
 
 ROOT = pathlib.Path(__file__).resolve().parent.parent
 SAMPLE = re.compile(r"^<!-- from (\S+) -->\n```\w*\n(.*?)^```$", re.M | re.S)
@@ -18,7 +21,7 @@ LINK = re.compile(r"(?<!\\)\]\(([^()\s]*(?:\([^()]*\)[^()\s]*)*)\)")
 
 
 @functools.lru_cache(maxsize=None)
-def anchors_of(page):
+def anchors_of(page: pathlib.Path) -> set[str]:
     """The names of a page's headings, as they are linked: in lower case, without marks, with hyphens for spaces."""
     heads = re.findall(r"^#+ +(.*?)\s*$", page.read_text(), re.M)
     plain = [re.sub(r"[^\w\- ]", "", re.sub(r"`|\*", "", head)).lower().replace(" ", "-") for head in heads]
@@ -26,11 +29,11 @@ def anchors_of(page):
 
 
 @functools.lru_cache(maxsize=None)
-def lines_of(file):
+def lines_of(file: pathlib.Path) -> int:
     return file.read_bytes().count(b"\n") + 1
 
 
-def fault_of(page, link):
+def fault_of(page: pathlib.Path, link: str) -> str | None:
     """Why a link leads nowhere, or nothing."""
     if re.match(r"[a-z]+:", link):
         return None
@@ -46,12 +49,12 @@ def fault_of(page, link):
     return None
 
 
-def unindented(text):
+def unindented(text: str) -> str:
     """The lines of a text without their indentation, and without those that are empty at its ends."""
     return "\n".join(line.strip() for line in text.strip("\n").split("\n"))
 
 
-def wrong_samples(page):
+def wrong_samples(page: pathlib.Path) -> Iterator[str]:
     """Says of each sample of a page that its file does not have."""
     for path, sample in SAMPLE.findall(page.read_text()):
         file = ROOT / path
@@ -59,7 +62,7 @@ def wrong_samples(page):
             yield f"{page.relative_to(ROOT)}: the sample is not in {path}"
 
 
-def wrong_words(page):
+def wrong_words(page: pathlib.Path) -> Iterator[str]:
     """Says of each word that a page of definitions lists and the files of its row do not have."""
     for part in re.split(r"^## ", page.read_text(), flags=re.M)[1:]:
         folders = [ROOT / folder for folder in re.findall(r"`(crates/\w+/specs)`", part.partition("\n")[0])]
@@ -69,7 +72,7 @@ def wrong_words(page):
                 yield f"{page.relative_to(ROOT)}: {word} is not in {name}"
 
 
-def unlisted_words(page):
+def unlisted_words(page: pathlib.Path) -> Iterator[str]:
     """Says of each word that a source brings into its contracts from a library's specs and a page of definitions does not list."""
     listed = {word for row in re.findall(r"^\| (`[^|]*) \|", page.read_text(), flags=re.M) for word in re.findall(r"`([^`]+)`", row)}
     for file in sorted(ROOT.glob("crates/*/src/**/*.rt")):
@@ -79,7 +82,7 @@ def unlisted_words(page):
                 yield f"{page.relative_to(ROOT)}: {word} is not listed, which {file.relative_to(ROOT)} uses"
 
 
-def main():
+def main() -> int:
     pages = [page for page in sorted(ROOT.rglob("*.md")) if not {"out", "build", ".git"} & set(page.relative_to(ROOT).parts)]
     count, faults = 0, []
     for page in pages:

@@ -3,8 +3,8 @@
 
 The tests are those of the modules `alloc_*` of the crates tests_bits and tests_kernels. (tests/run.c does the same for the C calls.)
 
-tools/refuse/run           every test, and the program
-tools/refuse/run NAME ..   only these tests, by the names that the built tests list, or sel_bench
+tools/refuse/refuse.py           every test, and the program
+tools/refuse/refuse.py NAME ..   only these tests, by the names that the built tests list, or sel_bench
 
 A test marks where a call begins and ends (crates/tests_bits/src/marks.rt). growths.c is preloaded into the test; it counts the
 allocations between the two marks and makes some fail. Each test runs with the 1st, the 2nd, .. allocation failing, until a run has
@@ -17,13 +17,17 @@ The program must exit with status 1, after a prefix of whole lines of the stored
 Uses the programs that `rt ci` built. If one is missing or older than its sources, proves and builds it first.
 """
 
+from __future__ import annotations
+
 import os
 import pathlib
 import shutil
 import subprocess
 import sys
 import tempfile
+from collections.abc import Callable, Iterator
 from concurrent.futures import ThreadPoolExecutor
+from typing import NoReturn
 
 TOP = pathlib.Path(__file__).resolve().parent.parent.parent
 CRATES = TOP / "crates"
@@ -32,9 +36,12 @@ PROGRAM = "sel_bench"
 # a crate, and the beginning of the names of the tests that are run
 TESTS = [("tests_bits", "alloc_"), ("tests_kernels", "alloc_")]
 SECONDS = 60
+# the report of a call: how it ended, its allocations, and how many of them failed
+Report = tuple[str, int, int]
+Ended = subprocess.CompletedProcess[bytes]
 
 
-def stop(why):
+def stop(why: str) -> NoReturn:
     """Exits when nothing can be run."""
     print(why, file=sys.stderr)
     print("0 passed, 1 failed")
@@ -45,23 +52,23 @@ class Wrong(Exception):
     """A fault of a run."""
 
 
-def compilers():
+def compilers() -> Iterator[list[str]]:
     """Yields the commands that can build the shim: the toolchain's compiler, then cc."""
     plain = ["-O2", "-Wall", "-Wextra", "-shared", "-fPIC"]
     rt = shutil.which("rt")
     if rt:
         folder = pathlib.Path(rt).resolve().parent.parent / "toolchain" / "bin"
-        yield [folder / "clang", *plain, "-nostdlib", f"--ld-path={folder}/ld.lld"]
+        yield [str(folder / "clang"), *plain, "-nostdlib", f"--ld-path={folder}/ld.lld"]
     yield ["cc", *plain]
 
 
-def built_shim(room):
+def built_shim(room: str) -> pathlib.Path:
     """Builds the shim. Returns its shared library."""
     made = pathlib.Path(room) / "growths.so"
     said = []
     for command in compilers():
         try:
-            ran = subprocess.run([*map(str, command), "-o", str(made), str(SHIM)], capture_output=True, text=True)
+            ran = subprocess.run([*command, "-o", str(made), str(SHIM)], capture_output=True, text=True)
         except OSError as error:
             said.append(str(error))
             continue
@@ -71,7 +78,7 @@ def built_shim(room):
     stop("the shim was not built:\n" + "\n".join(said))
 
 
-def sources(crate):
+def sources(crate: str) -> Iterator[pathlib.Path]:
     """Yields the sources of a crate and of the crates that it depends on."""
     lines = [line.partition(":") for line in (TOP / "crates.txt").read_text().splitlines() if line.strip() and line[0] != "#"]
     below = next(rest.split() for name, _, rest in lines if name.split()[0] == crate)
@@ -81,15 +88,14 @@ def sources(crate):
     yield TOP / "crates.txt"
 
 
-def built(crate, program, command):
+def built(crate: str, program: str, command: list[str]) -> pathlib.Path:
     """Returns a crate's program. Proves and builds it first if it is missing or older than its sources."""
     made = CRATES / crate / "out" / program
     if made.exists() and all(it.stat().st_mtime <= made.stat().st_mtime for it in sources(crate)):
         return made
     print(f"proving and building {crate} first", flush=True)
-    how = {"stdin": subprocess.DEVNULL, "capture_output": True, "text": True}
     try:
-        ran = subprocess.run(["rt", *command], cwd=CRATES / crate, **how)
+        ran = subprocess.run(["rt", *command], cwd=CRATES / crate, stdin=subprocess.DEVNULL, capture_output=True, text=True)
     except OSError as error:
         stop(f"{crate} was not built: {error}")
     if ran.returncode or not made.exists():
@@ -97,14 +103,16 @@ def built(crate, program, command):
     return made
 
 
-def refused_run(shim, command, at, goes_on, **how):
+def refused_run(
+    shim: pathlib.Path, command: list[str], at: int, goes_on: bool, given: bytes | None = None, more: dict[str, str] | None = None
+) -> tuple[Ended, list[Report]]:
     """Runs a command in which allocation number `at` fails, and all later ones too if `goes_on`. Returns the finished process and the
     report of each call."""
     with tempfile.NamedTemporaryFile(prefix="refuse-") as report:
         words = {"LD_PRELOAD": str(shim), "REFUSE_REPORT": report.name, "REFUSE_AT": str(at), "REFUSE_ON": str(int(goes_on))}
-        env = {"PATH": "/usr/bin:/bin", "LANG": "C.UTF-8", **words, **how.pop("env", {})}
+        env = {"PATH": "/usr/bin:/bin", "LANG": "C.UTF-8", **words, **(more or {})}
         try:
-            ran = subprocess.run(command, env=env, capture_output=True, timeout=SECONDS, **how)
+            ran = subprocess.run(command, env=env, input=given, capture_output=True, timeout=SECONDS)
         except subprocess.TimeoutExpired:
             raise Wrong(f"still running after {SECONDS} seconds") from None
         lines = pathlib.Path(report.name).read_text().splitlines()
@@ -112,7 +120,7 @@ def refused_run(shim, command, at, goes_on, **how):
     return ran, calls
 
 
-def judge_call(number, call, is_first):
+def judge_call(number: int, call: Report, is_first: bool) -> None:
     """Raises Wrong if the report of a call is wrong. In the first run, in which no allocation fails, the call must allocate."""
     word, met, refused = call
     if word == "free":
@@ -130,7 +138,7 @@ def judge_call(number, call, is_first):
         raise Wrong(f"call {number} has no begin mark or no end mark ({word})")
 
 
-def judge_test(ran, calls, count):
+def judge_test(ran: Ended, calls: list[Report], count: int | None) -> None:
     """Raises Wrong if a run of a test is wrong. `count` is the number of its calls, or None in the first run."""
     if ran.returncode:
         said = (ran.stdout + ran.stderr).decode(errors="replace").strip().replace("\n", "; ")
@@ -143,7 +151,7 @@ def judge_test(ran, calls, count):
         judge_call(number, call, count is None)
 
 
-def in_turn(run, judge):
+def in_turn(run: Callable[[int, bool], tuple[Ended, list[Report]]], judge: Callable[[Ended, list[Report], int], bool]) -> int:
     """Makes the 1st, the 2nd, .. allocation fail until a run has no failed one: first alone, then with all later ones. Returns the
     number of runs."""
     runs = 0
@@ -163,27 +171,32 @@ def in_turn(run, judge):
     return runs
 
 
-def try_test(shim, program, test):
+def try_test(shim: pathlib.Path, program: pathlib.Path, test: str) -> tuple[int, int, int]:
     """Runs one test in every way. Returns the numbers of its calls, allocations and runs."""
-    run = lambda at, goes_on: refused_run(shim, [str(program), test], at, goes_on)
+
+    def run(at: int, goes_on: bool) -> tuple[Ended, list[Report]]:
+        return refused_run(shim, [str(program), test], at, goes_on)
+
     ran, calls = run(0, False)
     judge_test(ran, calls, None)
 
-    def judge(ran, reports, failures):
+    def judge(ran: Ended, reports: list[Report], failures: int) -> bool:
         judge_test(ran, reports, len(calls))
         return failures > 0
 
     return len(calls), sum(met for _, met, _ in calls), 1 + in_turn(run, judge)
 
 
-def try_program(shim, program):
+def try_program(shim: pathlib.Path, program: pathlib.Path) -> tuple[int, int, int]:
     """Runs the program on the stored input in every way. Returns the numbers of its lines, allocations and runs."""
     given = (CRATES / PROGRAM / "stdin").read_bytes()
     wanted = (CRATES / PROGRAM / "stdout").read_bytes()
-    run = lambda at, goes_on: refused_run(shim, [str(program)], at, goes_on, input=given, env={"REFUSE_ALL": "1"})
     ends = [0, *(at + 1 for at, byte in enumerate(wanted) if byte == ord("\n"))]
 
-    def judge(ran, reports, failures):
+    def run(at: int, goes_on: bool) -> tuple[Ended, list[Report]]:
+        return refused_run(shim, [str(program)], at, goes_on, given, {"REFUSE_ALL": "1"})
+
+    def judge(ran: Ended, reports: list[Report], failures: int) -> bool:
         status = 1 if failures else 0
         if ran.returncode != status:
             raise Wrong(f"exit status {ran.returncode} instead of {status}")
@@ -200,24 +213,24 @@ def try_program(shim, program):
     return len(ends) - 1, reports[0][1], 1 + in_turn(run, judge)
 
 
-def counted(number, what):
+def counted(number: int, what: str) -> str:
     """Returns a number with its noun, in the plural unless the number is 1."""
     return f"{number} {what}{'' if number == 1 else 's'}"
 
 
-def shown(name, calls, allocations, runs):
+def shown(name: str, calls: int, allocations: int, runs: int) -> str:
     """Returns the line of a test that passed."""
     return f"{name}: {counted(allocations, 'allocation') if allocations else 'no allocation in ' + counted(calls, 'call')}, {counted(runs, 'run')}"
 
 
-def listed(program):
+def listed(program: pathlib.Path) -> list[str]:
     """Returns the names of the tests of a built test program."""
     lines = subprocess.run([str(program), "--list"], capture_output=True, text=True).stdout.splitlines()
     return [it[: -len(": test")] for it in lines if it.endswith(": test")]
 
 
-def main(names):
-    tests, program = {}, None
+def main(names: list[str]) -> int:
+    tests: dict[str, pathlib.Path] = {}
     if names != [PROGRAM]:
         for crate, module in TESTS:
             made = built(crate, f"{crate}_tests", ["test"])
@@ -230,19 +243,19 @@ def main(names):
             stop(f"no such test: {' '.join(lost)}")
         names = names or [*tests, PROGRAM]
     if PROGRAM in names:
-        program = built(PROGRAM, PROGRAM, ["run"])
+        tests[PROGRAM] = built(PROGRAM, PROGRAM, ["run"])
     with tempfile.TemporaryDirectory(prefix="refuse-") as room:
         shim = built_shim(room)
 
-        def tried(name):
+        def tried(name: str) -> tuple[int, int, int] | str:
             try:
-                return try_program(shim, program) if name == PROGRAM else try_test(shim, tests[name], name)
+                return try_program(shim, tests[name]) if name == PROGRAM else try_test(shim, tests[name], name)
             except Wrong as wrong:
                 return str(wrong)
 
         with ThreadPoolExecutor(len(os.sched_getaffinity(0))) as pool:
             given = list(pool.map(tried, names))
-    failed, totals = 0, [0, 0, 0]
+    failed, totals = 0, (0, 0, 0)
     for name, result in zip(names, given):
         words = name.rpartition("::")[2].replace("_", " ") if name != PROGRAM else name
         if isinstance(result, str):
@@ -250,7 +263,7 @@ def main(names):
             print(f"{words}: WRONG: {result}")
             continue
         print(shown(words, *result))
-        totals = [a + b for a, b in zip(totals, result)]
+        totals = (totals[0] + result[0], totals[1] + result[1], totals[2] + result[2])
     print("total: {} calls and lines, {} allocations, {} runs".format(*totals))
     print(f"{len(names) - failed} passed, {failed} failed")
     return 1 if failed else 0

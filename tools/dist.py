@@ -1,10 +1,10 @@
 #!/usr/bin/env python3
 """Packs the C library that `make lib` has built, installs it, and tests both. It proves and builds nothing.
 
-tools/dist                     writes build/sel-VERSION-linux-x86_64.tar.gz and the Python wheel; with --into FOLDER into another folder
-tools/dist --check             tests the archive, `make install`, `make uninstall`, and which library the loader takes
-tools/dist --install PREFIX    copies the library; with --destdir FOLDER below that folder, with --cpu NAME only if built for these processors too
-tools/dist --uninstall PREFIX  removes the copied files
+tools/dist.py                     writes build/sel-VERSION-linux-x86_64.tar.gz and the Python wheel; with --into FOLDER into another folder
+tools/dist.py --check             tests the archive, `make install`, `make uninstall`, and which library the loader takes
+tools/dist.py --install PREFIX    copies the library; with --destdir FOLDER below that folder, with --cpu NAME only if built for these processors too
+tools/dist.py --uninstall PREFIX  removes the copied files
 
 A library that is built for newer processors too is packed and copied to lib/glibc-hwcaps/NAME/. The same commit and the same libraries
 give the same bytes of both. The archive has the prover's verdict of each crate that the library is built from, in VERDICTS.
@@ -214,7 +214,7 @@ def check_bytes(folder: pathlib.Path) -> List[pathlib.Path]:
     """Writes the archive and the wheel twice, the second time in another time zone and with other permissions, and compares the bytes."""
     first = write_release(folder / "first")
     env = environment(TZ="Asia/Tokyo", PYTHONHASHSEED=1)
-    run("sh", "-c", 'umask 077; exec "$@"', "sh", sys.executable, "-B", ROOT / "tools" / "dist", "--into", folder / "second", env=env)
+    run("sh", "-c", 'umask 077; exec "$@"', "sh", sys.executable, "-B", ROOT / "tools" / "dist.py", "--into", folder / "second", env=env)
     for path in first:
         expect(filecmp.cmp(path, folder / "second" / path.name, shallow=False), f"{path.name} differs if it is written again")
         print(f"{path.name}, written twice with the same bytes: ok")
@@ -440,7 +440,7 @@ def check_newer(folder: pathlib.Path) -> None:
     make("install", "/opt/sel", folder / "staged", build)
     make("uninstall", "/opt/sel", folder / "staged", alone)
     expect(not any(path for path in top.rglob("*") if not path.is_dir() or "glibc-hwcaps" in path.name), "make uninstall leaves a file")
-    said = run(sys.executable, "-B", ROOT / "tools" / "dist", "--into", folder, env=environment(SEL_BUILD=build))
+    said = run(sys.executable, "-B", ROOT / "tools" / "dist.py", "--into", folder, env=environment(SEL_BUILD=build))
     expect(all(cpu in said for cpu in every), f"make dist does not say which libraries it packs: {said}")
     with zipfile.ZipFile(next(folder.glob("*.whl"))) as wheel:
         expect(all(f"sel/glibc-hwcaps/{cpu}/libsel.so" in wheel.namelist() for cpu in NEWER_CPUS), "the wheel lacks a library for newer processors")
@@ -459,9 +459,10 @@ def check_unbuilt(folder: pathlib.Path) -> None:
             (folder_of(cpu, both) / name).write_text("the same")
     require_built(both, NEWER_CPUS[0])
     (folder_of(NEWER_CPUS[0], both) / "sources").write_text("others")
-    for build, cpu in ((folder, None), (BUILD, "another-processor"), (both, None)):
+    cases: List[Tuple[pathlib.Path, Optional[str]]] = [(folder, None), (BUILD, "another-processor"), (both, None)]
+    for build, of_cpu in cases:
         try:
-            require_built(build, cpu)
+            require_built(build, of_cpu)
         except SystemExit as stop:
             expect("make lib" in str(stop.code), "the message does not name `make lib`")
         else:
