@@ -14,6 +14,7 @@ ghost use Rattle.sel_text.specs.Cells.{cell_value, whole_number, CellFits, CellK
 
 use sel_arrow::binview::BinaryViewArray;
 use sel_arrow::column::Column;
+use sel_arrow::match_numbers;
 use sel_arrow::utf8view::Utf8ViewArray;
 use sel_arrow::validity::is_valid_at;
 use sel_arrow::view::View;
@@ -115,19 +116,9 @@ pub(crate) fn cell_at(column: &Column, i: usize) -> Cell<'_>
     ensures kind { CellKind (type_of column.now) result }
     ensures below { IsBelow column.now result }
 {
-    match column {
+    match_numbers! { column, array => of_number(array.get(i)),
         Column::Null(_) => Cell::Null,
         Column::Boolean(array) => of_boolean_value(array.get(i)),
-        Column::Int8(array) => of_number(array.get(i)),
-        Column::Int16(array) => of_number(array.get(i)),
-        Column::Int32(array) => of_number(array.get(i)),
-        Column::Int64(array) => of_number(array.get(i)),
-        Column::Int128(array) => of_number(array.get(i)),
-        Column::UInt8(array) => of_number(array.get(i)),
-        Column::UInt16(array) => of_number(array.get(i)),
-        Column::UInt32(array) => of_number(array.get(i)),
-        Column::UInt64(array) => of_number(array.get(i)),
-        Column::UInt128(array) => of_number(array.get(i)),
         Column::LargeBinary(array) => of_bytes(array.get(i)),
         Column::BinaryView(array) => of_view(array, i),
         Column::Utf8View(array) => of_text(array, i),

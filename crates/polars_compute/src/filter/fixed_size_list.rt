@@ -8,6 +8,7 @@ ghost use Rattle.sel_arrow.specs.Rows.{rows, type_of};
 ghost use Rattle.polars_compute.specs.Kept.{KeepsBlocks};
 
 use sel_arrow::column::Column;
+use sel_arrow::match_numbers;
 use sel_arrow::primitive::{ArrowPrimitive, PrimitiveArray};
 use sel_bits::bitmap::Bitmap;
 use sel_bits::buffer::Buffer;
@@ -32,17 +33,7 @@ pub(crate) fn filter_child(
     requires few { length (rows values.now) ≤ max_rows }
     ensures { KeepsBlocks result size (type_of values.now) (rows values.now) mask.now.bits }
 {
-    match values {
-        Column::Int8(numbers) => filter_numbers(alloc, numbers, size, mask, count),
-        Column::Int16(numbers) => filter_numbers(alloc, numbers, size, mask, count),
-        Column::Int32(numbers) => filter_numbers(alloc, numbers, size, mask, count),
-        Column::Int64(numbers) => filter_numbers(alloc, numbers, size, mask, count),
-        Column::Int128(numbers) => filter_numbers(alloc, numbers, size, mask, count),
-        Column::UInt8(numbers) => filter_numbers(alloc, numbers, size, mask, count),
-        Column::UInt16(numbers) => filter_numbers(alloc, numbers, size, mask, count),
-        Column::UInt32(numbers) => filter_numbers(alloc, numbers, size, mask, count),
-        Column::UInt64(numbers) => filter_numbers(alloc, numbers, size, mask, count),
-        Column::UInt128(numbers) => filter_numbers(alloc, numbers, size, mask, count),
+    match_numbers! { values, numbers => filter_numbers(alloc, numbers, size, mask, count),
         _ => Ok(None),
     }
 }

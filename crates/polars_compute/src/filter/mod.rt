@@ -31,6 +31,7 @@ use sel_arrow::array_ref::ArrayRef;
 use sel_arrow::binview::BinaryViewArray;
 use sel_arrow::boolean::BooleanArray;
 use sel_arrow::column::Column;
+use sel_arrow::match_numbers;
 use sel_arrow::null::NullArray;
 use sel_arrow::primitive::{ArrowPrimitive, PrimitiveArray};
 use sel_arrow::utf8view::Utf8ViewArray;
@@ -137,19 +138,9 @@ fn filter_column(
     requires count { count ≡ count_true mask.now.bits }
     ensures { KeepsColumn result (type_of column.now) (rows column.now) mask.now.bits }
 {
-    match column {
+    match_numbers! { column, column => filter_numbers(alloc, column, mask, count),
         Column::Null(column) => Ok(filter_null(column, mask, count).into_ref()),
         Column::Boolean(column) => filter_boolean(alloc, column, mask, count),
-        Column::Int8(column) => filter_numbers(alloc, column, mask, count),
-        Column::Int16(column) => filter_numbers(alloc, column, mask, count),
-        Column::Int32(column) => filter_numbers(alloc, column, mask, count),
-        Column::Int64(column) => filter_numbers(alloc, column, mask, count),
-        Column::Int128(column) => filter_numbers(alloc, column, mask, count),
-        Column::UInt8(column) => filter_numbers(alloc, column, mask, count),
-        Column::UInt16(column) => filter_numbers(alloc, column, mask, count),
-        Column::UInt32(column) => filter_numbers(alloc, column, mask, count),
-        Column::UInt64(column) => filter_numbers(alloc, column, mask, count),
-        Column::UInt128(column) => filter_numbers(alloc, column, mask, count),
         Column::BinaryView(column) => Ok(filter_views(alloc, column, mask, count)?.into_ref()),
         Column::Utf8View(column) => Ok(filter_texts(alloc, column, mask, count)?.into_ref()),
         Column::Struct {

@@ -18,6 +18,7 @@ use crate::gather::validity::take_validity;
 use sel_arrow::array::Array;
 use sel_arrow::array_ref::ArrayRef;
 use sel_arrow::column::Column;
+use sel_arrow::match_numbers;
 use sel_arrow::primitive::{ArrowPrimitive, IdxArr, PrimitiveArray};
 use sel_arrow::validity::MOST_ROWS;
 use sel_bits::block_copy::BlockCopy;
@@ -107,17 +108,7 @@ pub(crate) fn holds_numbers(values: &Column) -> bool
 fn is_bare_column(column: &Column) -> bool
     ensures { result ≡ is_bare column.now }
 {
-    match column {
-        Column::Int8(numbers) => numbers.validity.is_none(),
-        Column::Int16(numbers) => numbers.validity.is_none(),
-        Column::Int32(numbers) => numbers.validity.is_none(),
-        Column::Int64(numbers) => numbers.validity.is_none(),
-        Column::Int128(numbers) => numbers.validity.is_none(),
-        Column::UInt8(numbers) => numbers.validity.is_none(),
-        Column::UInt16(numbers) => numbers.validity.is_none(),
-        Column::UInt32(numbers) => numbers.validity.is_none(),
-        Column::UInt64(numbers) => numbers.validity.is_none(),
-        Column::UInt128(numbers) => numbers.validity.is_none(),
+    match_numbers! { column, numbers => numbers.validity.is_none(),
         Column::FixedSizeList {
             values,
             validity,
@@ -212,17 +203,7 @@ fn take_level(
     ensures { TakesBlocks result size (type_of column.now) (rows column.now)
         (primitive_rows indices.now) count }
 {
-    match column {
-        Column::Int8(numbers) => take_leaf(alloc, numbers, size, indices),
-        Column::Int16(numbers) => take_leaf(alloc, numbers, size, indices),
-        Column::Int32(numbers) => take_leaf(alloc, numbers, size, indices),
-        Column::Int64(numbers) => take_leaf(alloc, numbers, size, indices),
-        Column::Int128(numbers) => take_leaf(alloc, numbers, size, indices),
-        Column::UInt8(numbers) => take_leaf(alloc, numbers, size, indices),
-        Column::UInt16(numbers) => take_leaf(alloc, numbers, size, indices),
-        Column::UInt32(numbers) => take_leaf(alloc, numbers, size, indices),
-        Column::UInt64(numbers) => take_leaf(alloc, numbers, size, indices),
-        Column::UInt128(numbers) => take_leaf(alloc, numbers, size, indices),
+    match_numbers! { column, numbers => take_leaf(alloc, numbers, size, indices),
         Column::FixedSizeList {
             size: width,
             values,

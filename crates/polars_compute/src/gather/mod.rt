@@ -33,6 +33,7 @@ use primitive::take_primitive_unchecked;
 use sel_arrow::array::Array;
 use sel_arrow::array_ref::ArrayRef;
 use sel_arrow::column::Column;
+use sel_arrow::match_numbers;
 use sel_arrow::null::NullArray;
 use sel_arrow::primitive::{ArrowPrimitive, IdxArr, PrimitiveArray};
 use sel_bits::bitmap::Bitmap;
@@ -74,19 +75,9 @@ fn take_any(alloc: Global, values: &Column, indices: &IdxArr) -> PolarsResult<Ar
     ensures { TakesColumn result (type_of values.now)
         (take_rows (rows values.now) (primitive_rows indices.now)) }
 {
-    match values {
+    match_numbers! { values, column => take_numbers(alloc, column, indices),
         Column::Null(column) => Ok(take_nulls(column, indices).into_ref()),
         Column::Boolean(column) => Ok(boolean::take_unchecked(alloc, column, indices)?.into_ref()),
-        Column::Int8(column) => take_numbers(alloc, column, indices),
-        Column::Int16(column) => take_numbers(alloc, column, indices),
-        Column::Int32(column) => take_numbers(alloc, column, indices),
-        Column::Int64(column) => take_numbers(alloc, column, indices),
-        Column::Int128(column) => take_numbers(alloc, column, indices),
-        Column::UInt8(column) => take_numbers(alloc, column, indices),
-        Column::UInt16(column) => take_numbers(alloc, column, indices),
-        Column::UInt32(column) => take_numbers(alloc, column, indices),
-        Column::UInt64(column) => take_numbers(alloc, column, indices),
-        Column::UInt128(column) => take_numbers(alloc, column, indices),
         Column::LargeBinary(column) => {
             Ok(binary::take_binary(alloc, column, indices)?.into_ref())
         }

@@ -34,14 +34,14 @@ returns-then-is_valid_at-3-clause-fits c = subst (All (HasCellRow c.args.i)) (sy
 pub returns-then-is_valid_at-3-clause-kind : goal.returns-then-is_valid_at-3-clause-kind
 returns-then-is_valid_at-3-clause-kind c = rw (c.deref-then-is_valid_at-3.ensures.value) (tuple_types _ _ _ _ _ c.in-Struct.is c.requires)
 
-pub overflow_mul-result : goal.overflow_mul-result
-overflow_mul-result c = let few = block_few _ _ _ _ _ _ c.in-FixedSizeList.is c.requires in omega (arith, few)
+pub overflow_mul-i : goal.overflow_mul-i
+overflow_mul-i c = let few = block_few _ _ _ _ _ _ c.in-FixedSizeList.is c.requires in omega (arith, few)
 
-pub overflow_mul-result-then-is_valid_at-2 : goal.overflow_mul-result-then-is_valid_at-2
-overflow_mul-result-then-is_valid_at-2 c = let few = block_few _ _ _ _ _ _ c.in-FixedSizeList.is c.requires in omega (arith, few)
+pub overflow_mul-i-then-is_valid_at-2 : goal.overflow_mul-i-then-is_valid_at-2
+overflow_mul-i-then-is_valid_at-2 c = let few = block_few _ _ _ _ _ _ c.in-FixedSizeList.is c.requires in omega (arith, few)
 
-pub overflow_add-result : goal.overflow_add-result
-overflow_add-result c = let few = block_few _ _ _ _ _ _ c.in-FixedSizeList.is c.requires in omega (arith, few)
+pub overflow_add-i-then-is_valid_at-2 : goal.overflow_add-i-then-is_valid_at-2
+overflow_add-i-then-is_valid_at-2 c = let few = block_few _ _ _ _ _ _ c.in-FixedSizeList.is c.requires in omega (arith, few)
 
 pub returns-in-BinaryView-clause-below : goal.returns-in-BinaryView-clause-below
 returns-in-BinaryView-clause-below c = c.of_view.ensures.below c.args.column.now
