@@ -18,9 +18,9 @@ PAGE = ROOT / "docs" / "API.md"
 # include/sel.h
 LIBRARIES = ["sel_bits", "sel_arrow", "sel_text", "sel_filter", "sel_gather", "sel_ternary", "polars_compute", "sel_ffi", "sel_lent", "sel_c", "sel_lines"]
 ITEM = re.compile(r"^(?P<indent> *)(?P<pub>pub )?(?:const |extern \"C\" )?fn (?P<name>\w+)")
+OWNER = re.compile(r"^(?:pub )?(?P<kind>impl|trait)\b(?P<rest>.*?)\{?$")
 # a test file: its path, the words that it uses of each crate, and the names that it calls
 TestFile = tuple[pathlib.Path, dict[str, set[str]], set[str]]
-OWNER = re.compile(r"^(?:pub )?(?P<kind>impl|trait)\b(?P<rest>.*?)\{?$")
 
 
 class Call:

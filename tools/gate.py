@@ -6,8 +6,9 @@ tools/gate.py anew    the same as a clean build, to measure the time: what `make
 tools/gate.py check   proves what has changed over cached proofs and runs the fast checks: what `make check` runs
 tools/gate.py setup   installs the optional programs and libraries that the checks use: what `make setup` runs
 
-Checks that need only some of the proved libraries run while `rt ci` runs, as soon as those are proved, at a lower priority but for the
-build of the C library, for which nine checks wait. The others run after it. The table lists what a check leaves out because an optional dependency is missing.
+Checks that need only some of the proved libraries run while `rt ci` runs, as soon as those are proved, at a lower priority. (The C
+library is built and tested at the same priority as the proofs, since nine checks wait for it.) The others run after `rt ci`. The table
+lists what a check leaves out because an optional dependency is missing.
 """
 
 from __future__ import annotations

@@ -102,6 +102,24 @@ def measured(lib: ctypes.CDLL, case: Case) -> dict[str, tuple[float, float]]:
     return {name: (min(each), statistics.median(each)) for name, each in times.items()}
 
 
+def compare(lib: ctypes.CDLL) -> None:
+    """Compares each result with numpy's. Exits if one differs or a call fails."""
+    import cases
+    import lending
+    import words
+
+    count = 0
+    for rows in (SMALL, LARGE):
+        for case in cases.at_size(rows):
+            case.check()
+            if any(timer(1) < 0 for timer in contenders(lib, case).values()):
+                sys.exit(f"{case.kernel}: a call failed")
+            count += 1
+    print(f"{count} results equal numpy's")
+    lending.check()
+    words.compare()
+
+
 def main() -> None:
     quick = sys.argv[1:] == ["quick"]
     if sys.argv[1:] and not quick:
@@ -130,16 +148,7 @@ def main() -> None:
         if hasattr(os, "sched_setaffinity"):
             os.sched_setaffinity(0, {max(os.sched_getaffinity(0))})
         if quick:
-            count = 0
-            for rows in (SMALL, LARGE):
-                for case in cases.at_size(rows):
-                    case.check()
-                    if any(timer(1) < 0 for timer in contenders(lib, case).values()):
-                        sys.exit(f"{case.kernel}: a call failed")
-                    count += 1
-            print(f"{count} results equal numpy's")
-            lending.check()
-            words.compare()
+            compare(lib)
             return
         load, results, of_words = [os.getloadavg()[0]], [], words.measured(program)
         for rows in (SMALL, LARGE):

@@ -39,6 +39,8 @@ SECONDS = 60
 # the report of a call: how it ended, its allocations, and how many of them failed
 Report = tuple[str, int, int]
 Ended = subprocess.CompletedProcess[bytes]
+# runs something in which an allocation fails: the number of the allocation, and whether all later ones fail too
+Run = Callable[[int, bool], tuple[Ended, list[Report]]]
 
 
 def stop(why: str) -> NoReturn:
@@ -151,7 +153,7 @@ def judge_test(ran: Ended, calls: list[Report], count: int | None) -> None:
         judge_call(number, call, count is None)
 
 
-def in_turn(run: Callable[[int, bool], tuple[Ended, list[Report]]], judge: Callable[[Ended, list[Report], int], bool]) -> int:
+def in_turn(run: Run, judge: Callable[[Ended, list[Report], int], bool]) -> int:
     """Makes the 1st, the 2nd, .. allocation fail until a run has no failed one: first alone, then with all later ones. Returns the
     number of runs."""
     runs = 0
