@@ -10,8 +10,9 @@ tools/mutants.py --texts       proves nothing: checks that every mutant still fi
 The toolchain's own check of mutants proves the whole crate for each. This script changes different functions of a crate at once and
 checks only those functions: a function is proved against the contracts of what it calls, not against their bodies. So in the copy of
 the crate every other function only calls one that is said never to return, which the prover accepts under any contract, in little
-time. A mutant counts as rejected if a goal of its own function stays open. If the only message is that the function calls another
-mutant, the mutant is tried again alone. `rt ci` has proved each unchanged function before.
+time. A function that several mutants change stands once for each in the copy, under another name. A mutant counts as rejected if a goal
+of its own function stays open. If the only message is that the function calls another mutant, the mutant is tried again alone. `rt ci`
+has proved each unchanged function before.
 """
 
 from __future__ import annotations
@@ -60,6 +61,9 @@ class Mutant:
         self.names = names_at(self.file, before)
         # the place of the changed function: its file, and how many functions begin before it there
         self.place = self.file, len(HEAD.findall(before)) - 1
+        self.repeatable = is_repeatable(text, self.place[1], before)
+        # what is appended to the function's name in the copy of the crate, if another mutant of the function has its own name there
+        self.suffix = ""
 
     def applied(self, text: str) -> str:
         """Returns the text with the mutant applied. Each old text must occur once in the result of the earlier pairs."""
@@ -68,6 +72,19 @@ class Mutant:
                 sys.exit(f"{self.path.relative_to(ROOT)}: this text occurs {text.count(old)} times in {self.file}: {old}")
             text = text.replace(old, new)
         return text
+
+    def called(self) -> list[str]:
+        """Returns the names that the prover may use for the changed function in the copy of the crate."""
+        return [name + self.suffix for name in self.names]
+
+    def repeated(self, text: str, source: str) -> str:
+        """Returns the text of its file in the copy with the function that stands at the same place in `source` once more, under the mutant's name."""
+        function, indent, name = function_at(source, self.place[1])
+        lines = text.split("\n")
+        body = body_of(lines, heads(lines)[self.place[1]][0], indent)
+        behind = body[1] + 1 if body else len(lines)
+        renamed = re.sub(rf"\bfn {name}\b", f"fn {name}{self.suffix}", function, count=1)
+        return "\n".join([*lines[:behind], "", renamed, *lines[behind:]])
 
     def fits(self, text: str) -> bool:
         """Returns whether the mutant can be applied to a text in which other mutants have been applied."""
@@ -91,6 +108,23 @@ def names_at(file: str, before: str) -> list[str]:
     name_of_kind = kind.split("::")[-1]
     owner = own or f"{name_of_kind[:1].upper()}{name_of_kind[1:]}{numbers}{trait.split('::')[-1]}"
     return [f"{owner}::{name}", *by_module]
+
+
+def is_repeatable(text: str, number: int, before: str) -> bool:
+    """Returns whether a function can stand in its file twice: not one of a trait, of a type with arguments or in a cycle of calls."""
+    lines = text.split("\n")
+    k, indent, marks, _ = heads(lines)[number]
+    owners = re.findall(r"(?m)^(?:impl\b.*|(?:pub )?trait .*)$", before)
+    is_plain = not indent or re.fullmatch(r"impl(?:<.*>)? \w+(?:<(?:'\w+|[A-Z])>)? \{", owners[-1]) is not None
+    return is_plain and not marks and not head_of(lines, k)[1] and body_of(lines, k, indent) is not None
+
+
+def function_at(text: str, number: int) -> tuple[str, str, str]:
+    """Returns the function at a place of a file, with its attributes, its indentation and its name."""
+    lines = text.split("\n")
+    k, indent, _, name = heads(lines)[number]
+    body = body_of(lines, k, indent)
+    return "\n".join(lines[head_of(lines, k)[0]:body[1] + 1 if body else k + 1]), indent, name
 
 
 def mutants_of(crate: str) -> list[pathlib.Path]:
@@ -192,6 +226,12 @@ def proofs_of(module: pathlib.Path, name: str) -> list[pathlib.Path]:
     return [folder / f"{kind}.antt" for kind in ("Answers", "Invariants", "Proof")]
 
 
+def module_of(proofs: pathlib.Path, file: str) -> pathlib.Path:
+    """Returns the folder of the proofs of a source file."""
+    module = proofs.joinpath(*pathlib.Path(file).with_suffix("").parts[1:])
+    return module.parent if module.name in ("mod", "lib", "main") else module
+
+
 class Trial:
     """A copy of a crate, in which its mutants are tried in rounds."""
 
@@ -199,7 +239,7 @@ class Trial:
         self.crate, self.left, self.failed, self.control = crate, mutants, 0, control
         self.short, self.shown = True, ""
         self.whole: set[Place] = set()
-        self.folder, self.cache = pathlib.Path(room) / crate, pathlib.Path(room) / "cache"
+        self.folder = pathlib.Path(room) / crate
 
     def run(self) -> int:
         """Tries each mutant: in one check as many as change different functions, and alone those without a result."""
@@ -223,18 +263,35 @@ class Trial:
         return self.failed
 
     def next_round(self, alone: bool) -> list[Mutant]:
-        """Applies mutants of different functions to the copy, only one if `alone`, and returns them."""
+        """Applies mutants to the copy, only one if `alone`, and returns them. Of one function it has as many as the function can be repeated."""
         made: list[Mutant] = []
         texts: dict[str, str] = {}
-        for mutant in self.left:
-            text = texts.get(mutant.file, (ROOT / "crates" / self.crate / mutant.file).read_text())
-            if mutant.names[0] not in [it.names[0] for it in made] and mutant.fits(text) and not (alone and made):
-                texts[mutant.file] = text if self.control else mutant.applied(text)
+        for mutant in self.left[:1] if alone else self.left:
+            text = texts.get(mutant.file, self.source(mutant))
+            before = sum(it.names == mutant.names for it in made)
+            if mutant.repeatable if before else mutant.fits(text):
+                mutant.suffix = f"_{before + 1}" if before else ""
+                texts[mutant.file] = text if self.control or before else mutant.applied(text)
                 made.append(mutant)
-        self.write(texts, {mutant.place for mutant in made})
+        self.write(texts, {mutant.place for mutant in made}, [mutant for mutant in made if mutant.suffix])
         return made
 
-    def write(self, texts: dict[str, str], kept: set[Place]) -> None:
+    def source(self, mutant: Mutant) -> str:
+        """Returns the unchanged text of the mutant's file."""
+        return (ROOT / "crates" / self.crate / mutant.file).read_text()
+
+    def repeat(self, mutant: Mutant) -> None:
+        """Writes the mutant's function, and its proofs, into the copy once more, under the mutant's name."""
+        file, source = self.folder / mutant.file, self.source(mutant)
+        file.write_text(mutant.repeated(file.read_text(), source if self.control else mutant.applied(source)))
+        proofs = self.folder / "proofs"
+        for proof in filter(pathlib.Path.exists, proofs_of(module_of(proofs, mutant.file), mutant.names[0])):
+            folder = proof.parent.with_name(proof.parent.name + mutant.suffix)
+            folder.mkdir(exist_ok=True)
+            name = ".".join(["Rattle", self.crate, "proofs", *proof.parent.relative_to(proofs).parts])
+            (folder / proof.name).write_text(re.sub(rf"\b{re.escape(name)}\.", f"{name}{mutant.suffix}.", proof.read_text()))
+
+    def write(self, texts: dict[str, str], kept: set[Place], repeats: list[Mutant]) -> None:
         """Writes the crate anew with these changed texts. Functions that are not in `kept` are shortened, and lose their proofs."""
         origin = ROOT / "crates" / self.crate
         shutil.rmtree(self.folder, ignore_errors=True)
@@ -249,14 +306,16 @@ class Trial:
                 text, names = shortened(file, text, whole, cycles)
                 text += NEVER if file in ("src/lib.rt", "src/main.rt") else ""
             (self.folder / file).write_text(text)
-            module = (self.folder / "proofs").joinpath(*pathlib.Path(file).with_suffix("").parts[1:])
-            module = module.parent if module.name in ("mod", "lib", "main") else module
+            module = module_of(self.folder / "proofs", file)
             for name in names:
                 for proof in proofs_of(module, name):
                     proof.unlink(missing_ok=True)
             for cycle in module.glob("+*"):
                 if self.short and cycle.name[1:] not in cycles:
                     shutil.rmtree(cycle)
+        # from the end of a file to its beginning, so that the places before stay as they are
+        for mutant in sorted(repeats, key=lambda it: it.place, reverse=True):
+            self.repeat(mutant)
 
     def keep_unread(self) -> bool:
         """Adds the functions at which the prover has reported an error in the sources to those that keep their bodies; returns whether there are any."""
@@ -269,8 +328,8 @@ class Trial:
     def check(self, made: list[Mutant]) -> list[tuple[Mutant, str]]:
         """Checks the changed functions. Returns the mutants with a result, each with the reason why it is not rejected, or ""."""
         links = "nothing" if self.short else ""
-        command = [*words("check", self.crate, self.folder, links), "--jobs", "1", "--incremental", str(self.cache)]
-        names = {mutant: list(mutant.names) for mutant in made}
+        command = [*words("check", self.crate, self.folder, links), "--jobs", "1"]
+        names = {mutant: mutant.called() for mutant in made}
         while True:
             only = [word for mutant in made for word in ("--only", names[mutant][0])]
             shown = subprocess.run([*command, *only], cwd=self.folder, stdout=subprocess.PIPE, stderr=subprocess.STDOUT, text=True).stdout
@@ -355,9 +414,7 @@ def main() -> int:
     control, args = "--control" in sys.argv[1:], [word for word in sys.argv[1:] if word != "--control"]
     by_crate: dict[str, list[Mutant]] = {}
     for mutant in map(Mutant, selected(args)):
-        of_crate = by_crate.setdefault(mutant.path.parent.parent.name, [])
-        if not control or mutant.names[0] not in [it.names[0] for it in of_crate]:
-            of_crate.append(mutant)
+        by_crate.setdefault(mutant.path.parent.parent.name, []).append(mutant)
     uses = {crate: below for crate, (_, below) in lines().items()}
     needed = {library for crate in by_crate for library in crates_below(crate, uses)}
     missing = sorted(crate for crate in needed if not (ROOT / "crates" / crate / "out" / "rlib").exists())

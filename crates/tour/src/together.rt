@@ -67,11 +67,28 @@ fn select_together(
 pub fn together(alloc: Global, page: &mut String) -> Result<(), Stop> {
     let rows = [Some(true), Some(true), None, Some(true)];
     let mask = BooleanArray::from_options(alloc, &rows)?;
+    print_by_mask(alloc, page, &mask)
+}
+
+fn print_by_mask(alloc: Global, page: &mut String, mask: &BooleanArray) -> Result<(), Stop> {
+    print_count(alloc, page, mask)?;
     let indices = IdxArr::from_options(alloc, &[Some(2u32), None, Some(0)])?;
-    let count = counted(alloc, &mask)?;
-    line(page, "number of kept rows", &format!(in alloc; "{count}")?)?;
+    print_columns(alloc, page, mask, &indices)
+}
+
+fn print_count(alloc: Global, page: &mut String, mask: &BooleanArray) -> Result<(), Stop> {
+    let count = counted(alloc, mask)?;
+    line(page, "number of kept rows", &format!(in alloc; "{count}")?)
+}
+
+fn print_columns(
+    alloc: Global,
+    page: &mut String,
+    mask: &BooleanArray,
+    indices: &IdxArr,
+) -> Result<(), Stop> {
     let columns = numbers_and_ages(alloc)?;
-    let printed = print_selected(alloc, page, &columns, &mask, &indices);
+    let printed = print_selected(alloc, page, &columns, mask, indices);
     drop(columns);
     printed
 }

@@ -1,4 +1,4 @@
-//! Runs over in-memory readers and writers, some of which fail.
+//! The run over the lines of an input: in-memory readers and writers, some of which fail.
 use sel_lines::counted::Counted;
 use sel_lines::reading::{LineEnd, read_line};
 use sel_lines::run::{Done, RunError, run};
