@@ -219,10 +219,15 @@ def shortened(file: str, text: str, kept: set[Place], cycles: set[str]) -> tuple
     return "\n".join(lines), names
 
 
-def proofs_of(module: pathlib.Path, name: str) -> list[pathlib.Path]:
-    """Returns the proof files of a function, by its name and the folder of its module."""
+def proofs_of(proofs: pathlib.Path, file: str, name: str) -> list[pathlib.Path]:
+    """Returns the proof files of a function, by its source file and its name. Those of a method stand in the module of its type."""
+    module = module_of(proofs, file)
     owner, _, last = name.rpartition("::")
     folder = module / last if owner == module.name else module / owner / last
+    if owner[:1].isupper() and not folder.is_dir():
+        # (the folder of `impl A<i64>` is `A+i64`, the prover's name for it is `AI64`)
+        elsewhere = [it for it in proofs.rglob(last) if re.sub(r"\+(\w)", lambda found: found[1].upper(), it.parent.name) == owner]
+        folder = elsewhere[0] if len(elsewhere) == 1 else folder
     return [folder / f"{kind}.antt" for kind in ("Answers", "Invariants", "Proof")]
 
 
@@ -285,7 +290,7 @@ class Trial:
         file, source = self.folder / mutant.file, self.source(mutant)
         file.write_text(mutant.repeated(file.read_text(), source if self.control else mutant.applied(source)))
         proofs = self.folder / "proofs"
-        for proof in filter(pathlib.Path.exists, proofs_of(module_of(proofs, mutant.file), mutant.names[0])):
+        for proof in filter(pathlib.Path.exists, proofs_of(proofs, mutant.file, mutant.names[0])):
             folder = proof.parent.with_name(proof.parent.name + mutant.suffix)
             folder.mkdir(exist_ok=True)
             name = ".".join(["Rattle", self.crate, "proofs", *proof.parent.relative_to(proofs).parts])
@@ -308,7 +313,7 @@ class Trial:
             (self.folder / file).write_text(text)
             module = module_of(self.folder / "proofs", file)
             for name in names:
-                for proof in proofs_of(module, name):
+                for proof in proofs_of(self.folder / "proofs", file, name):
                     proof.unlink(missing_ok=True)
             for cycle in module.glob("+*"):
                 if self.short and cycle.name[1:] not in cycles:
