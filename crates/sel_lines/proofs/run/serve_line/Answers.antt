@@ -1,7 +1,8 @@
-use Rattle.std.proofs.Common.{◌≡◌, ◌∙◌, sym, ap, None, Some, cond}
+use Rattle.std.proofs.Common.{◌≡◌, ◌∷◌, [], ◌∙◌, refl, rules, sym, ap, None, Some, cond}
 use Rattle.std.proofs.{lemmas.Result.err_from_is_err_and, KnownBytes.Appends-kept}
 use Rattle.sel_lines.{specs.Output.first_bad_from, specs.Output.output_from, specs.Step.lines_in, proofs.Steps.failed_step, proofs.Steps.last_line}
 use Rattle.sel_lines.proofs.Steps.{stopped, unflushed}
+use Rattle.sel_lines.specs.declared.reading.LineEnd.TheVariants as ending
 use Rattle.sel_lines.proofs.run.serve_line.Goals as goal
 
 pub returns-in_err-end-clause-step : goal.returns-in_err-end-clause-step
@@ -40,4 +41,37 @@ returns-clause-step g c =
       reads = read.1;
       writes = Appends-kept _ _ _ _ c.in_ok-sent.ensures.ok c.flush-2.ensures.bytes;
       ends = (last.0, last.1, good, c.as_bytes.ensures.value ∙ c.in_ok-text.ensures.text ∙ ap (λ l. output_from c.args.number (lines_in c.in_ok-end.end l)) c.deref.ensures.value);
+    }
+
+pub returns-then-not-is_good-clause-step : goal.returns-then-not-is_good-clause-step
+returns-then-not-is_good-clause-step g c =
+    let read = c.in_ok-end.ensures.ok in
+    let line = c.read_line.new.line.items in
+    let bad : first_bad_from c.args.number (lines_in c.in_ok-end.end line) ≡ Some c.args.number =
+    ap (λ l. first_bad_from c.args.number (lines_in c.in_ok-end.end l)) (sym c.deref.ensures.value) ∙ c.in_ok-text.ensures.good ∙ ap (λ b. cond b None (Some c.args.number)) c.if-not-is_good.true in
+    record {
+      end = c.in_ok-end.end;
+      line = line;
+      written = c.as_bytes.result.now;
+      no_feed = read.0;
+      reads = read.1;
+      writes = Appends-kept _ _ _ _ c.in_ok-sent.ensures.ok c.flush.ensures.bytes;
+      ends = (refl, read.2, bad, c.as_bytes.ensures.value ∙ c.in_ok-text.ensures.text ∙ ap (λ l. output_from c.args.number (lines_in c.in_ok-end.end l)) c.deref.ensures.value);
+    }
+
+pub returns-then-eq-clause-step : goal.returns-then-eq-clause-step
+returns-then-eq-clause-step g c =
+    let read = c.in_ok-end.ensures.ok in
+    let line = c.read_line.new.line.items in
+    let feed : c.in_ok-end.end ≡ ending.Feed = search rules in
+    let one : lines_in c.in_ok-end.end c.deref.result.now ≡ line ∷ [] = ap (λ l. lines_in c.in_ok-end.end l) c.deref.ensures.value ∙ ap (λ e. lines_in e line) feed in
+    let good = sym (ap (first_bad_from c.args.number) one) ∙ c.in_ok-text.ensures.good ∙ ap (λ b. cond b None (Some c.args.number)) c.if-not-is_good.false in
+    record {
+      end = c.in_ok-end.end;
+      line = line;
+      written = c.as_bytes.result.now;
+      no_feed = read.0;
+      reads = read.1;
+      writes = c.in_ok-sent.ensures.ok;
+      ends = (feed, good, c.as_bytes.ensures.value ∙ c.in_ok-text.ensures.text ∙ ap (output_from c.args.number) one);
     }
