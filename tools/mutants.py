@@ -394,14 +394,28 @@ def try_crate(crate: str, mutants: list[Mutant], control: bool) -> tuple[int, in
 
 
 def check_texts() -> int:
-    """Checks that every mutant can be applied, that every listed one exists, and that crates can be shortened for mutants."""
+    """Checks that every mutant can be applied, that every listed one exists, that crates can be shortened for mutants, and functions repeated."""
     mutants = [Mutant(path) for crate in lines() for path in mutants_of(crate)]
     for label in listed():
         path_of(label)
     for crate in lines():
         check_shortened(crate)
+    for mutant in mutants:
+        if mutant.repeatable:
+            check_repeated(mutant)
     print(f"{len(mutants)} mutants find their texts")
     return 0
+
+
+def check_repeated(mutant: Mutant) -> None:
+    """Checks that the function of a mutant can stand in its file twice, with its body, the second time under the mutant's name."""
+    source = (ROOT / "crates" / mutant.path.parent.parent.name / mutant.file).read_text()
+    mutant.suffix = "_2"
+    found, before = heads(mutant.repeated(source, source).split("\n")), heads(source.split("\n"))
+    number = mutant.place[1]
+    if len(found) != len(before) + 1 or found[number + 1][3] != found[number][3] + mutant.suffix:
+        sys.exit(f"{mutant.path.relative_to(ROOT)}: the function that it changes cannot be repeated in {mutant.file}")
+    mutant.suffix = ""
 
 
 def check_shortened(crate: str) -> None:
