@@ -244,6 +244,7 @@ class Trial:
         self.crate, self.left, self.failed, self.control = crate, mutants, 0, control
         self.short, self.shown = True, ""
         self.whole: set[Place] = set()
+        self.repeats: list[Mutant] = []
         self.folder = pathlib.Path(room) / crate
 
     def run(self) -> int:
@@ -278,7 +279,8 @@ class Trial:
                 mutant.suffix = f"_{before + 1}" if before else ""
                 texts[mutant.file] = text if self.control or before else mutant.applied(text)
                 made.append(mutant)
-        self.write(texts, {mutant.place for mutant in made}, [mutant for mutant in made if mutant.suffix])
+        self.repeats = [mutant for mutant in made if mutant.suffix]
+        self.write(texts, {mutant.place for mutant in made})
         return made
 
     def source(self, mutant: Mutant) -> str:
@@ -296,7 +298,7 @@ class Trial:
             name = ".".join(["Rattle", self.crate, "proofs", *proof.parent.relative_to(proofs).parts])
             (folder / proof.name).write_text(re.sub(rf"\b{re.escape(name)}\.", f"{name}{mutant.suffix}.", proof.read_text()))
 
-    def write(self, texts: dict[str, str], kept: set[Place], repeats: list[Mutant]) -> None:
+    def write(self, texts: dict[str, str], kept: set[Place]) -> None:
         """Writes the crate anew with these changed texts. Functions that are not in `kept` are shortened, and lose their proofs."""
         origin = ROOT / "crates" / self.crate
         shutil.rmtree(self.folder, ignore_errors=True)
@@ -319,7 +321,7 @@ class Trial:
                 if self.short and cycle.name[1:] not in cycles:
                     shutil.rmtree(cycle)
         # from the end of a file to its beginning, so that the places before stay as they are
-        for mutant in sorted(repeats, key=lambda it: it.place, reverse=True):
+        for mutant in sorted(self.repeats, key=lambda it: it.place, reverse=True):
             self.repeat(mutant)
 
     def keep_unread(self) -> bool:
@@ -327,7 +329,8 @@ class Trial:
         before = len(self.whole)
         for file, line in re.findall(r"(?m)^(?:\./)?(src/\S+\.rt):(\d+):\d+: error", self.shown):
             text = "\n".join((self.folder / file).read_text().split("\n")[:int(line)])
-            self.whole.add((file, len(HEAD.findall(text)) - 1))
+            repeated = [mutant.called()[-1] for mutant in self.repeats if mutant.file == file]
+            self.whole.add((file, sum(name not in repeated for _, _, name in HEAD.findall(text)) - 1))
         return len(self.whole) > before
 
     def check(self, made: list[Mutant]) -> list[tuple[Mutant, str]]:
