@@ -79,11 +79,10 @@ class Mutant:
 
     def repeated(self, text: str, source: str) -> str:
         """Returns the text of its file in the copy with the function that stands at the same place in `source` once more, under the mutant's name."""
-        function, indent, name = function_at(source, self.place[1])
-        lines = text.split("\n")
-        body = body_of(lines, heads(lines)[self.place[1]][0], indent)
-        behind = body[1] + 1 if body else len(lines)
-        renamed = re.sub(rf"\bfn {name}\b", f"fn {name}{self.suffix}", function, count=1)
+        lines, number = text.split("\n"), self.place[1]
+        behind = lines_of(text, number).stop
+        function = "\n".join(source.split("\n")[k] for k in lines_of(source, number))
+        renamed = re.sub(rf"\bfn {self.names[-1]}\b", f"fn {self.called()[-1]}", function, count=1)
         return "\n".join([*lines[:behind], "", renamed, *lines[behind:]])
 
     def fits(self, text: str) -> bool:
@@ -119,12 +118,14 @@ def is_repeatable(text: str, number: int, before: str) -> bool:
     return is_plain and not marks and not head_of(lines, k)[1] and body_of(lines, k, indent) is not None
 
 
-def function_at(text: str, number: int) -> tuple[str, str, str]:
-    """Returns the function at a place of a file, with its attributes, its indentation and its name."""
+def lines_of(text: str, number: int) -> range:
+    """Returns the numbers of the lines of a function that has a body, with those of its attributes."""
     lines = text.split("\n")
     k, indent, _, name = heads(lines)[number]
     body = body_of(lines, k, indent)
-    return "\n".join(lines[head_of(lines, k)[0]:body[1] + 1 if body else k + 1]), indent, name
+    if not body:
+        sys.exit(f"the function {name} has no body")
+    return range(head_of(lines, k)[0], body[1] + 1)
 
 
 def mutants_of(crate: str) -> list[pathlib.Path]:
@@ -248,7 +249,7 @@ class Trial:
         self.folder = pathlib.Path(room) / crate
 
     def run(self) -> int:
-        """Tries each mutant: in one check as many as change different functions, and alone those without a result."""
+        """Tries each mutant: in one check as many as the copy can have side by side, and alone those without a result."""
         alone = False
         while self.left:
             made = self.next_round(alone)
@@ -269,7 +270,7 @@ class Trial:
         return self.failed
 
     def next_round(self, alone: bool) -> list[Mutant]:
-        """Applies mutants to the copy, only one if `alone`, and returns them. Of one function it has as many as the function can be repeated."""
+        """Applies mutants to the copy, only one if `alone`, and returns them. A function that can be repeated stands there once for each of its mutants."""
         made: list[Mutant] = []
         texts: dict[str, str] = {}
         for mutant in self.left[:1] if alone else self.left:
