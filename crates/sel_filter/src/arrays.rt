@@ -23,6 +23,7 @@ use std::mem::replace;
 ///
 /// # Errors
 /// `OutOfMemory` if an allocation fails.
+#[inline(never)]
 pub fn filter_arrays<T: Copy, const N: usize>(
     alloc: Global,
     arrays: &[[T; N]],
@@ -54,7 +55,7 @@ pub fn filter_arrays<T: Copy, const N: usize>(
 ///
 /// # Errors
 /// `OutOfMemory` if an allocation fails.
-#[inline(always)]
+#[inline(never)]
 #[tactic(auto, using(crate::proofs::Dense::kept_steps))]
 fn append_arrays<T: Copy, const N: usize>(
     block: &[[T; N]],
