@@ -194,23 +194,25 @@ DOCUMENTS = [
     ("toolchain", ["tools/toolchain.py", "--check"]),
     ("report of make lib", ["tools/libraries.py", "--check"]),
 ]
+# the longest first
 AFTER_LIBRARY = [
-    ("conformance suite", ["tools/rows.py"]),
-    ("random columns", ["tools/soak.py", "--check"]),
-    ("fuzz targets", ["tools/fuzz.py", "--check"]),
-    ("Arrow interface in C", ["tools/bindings.py", "c"]),
-    ("Rust package", ["tools/bindings.py", "rust"]),
     ("Python package", ["tools/bindings.py", "python"]),
+    ("conformance suite", ["tools/rows.py"]),
+    ("fuzz targets", ["tools/fuzz.py", "--check"]),
+    ("Rust package", ["tools/bindings.py", "rust"]),
+    ("Arrow interface in C", ["tools/bindings.py", "c"]),
     ("Dask example", ["tools/bindings.py", "dask"]),
-    ("Arrow streams of GDAL", ["tools/bindings.py", "gdal"]),
+    ("random columns", ["tools/soak.py", "--check"]),
     ("archive", ["tools/dist.py", "--check"]),
+    ("Arrow streams of GDAL", ["tools/bindings.py", "gdal"]),
+]
+# these run the program bench_internals too
+AFTER_BOTH = [
+    ("benchmark answers", ["tools/bench/run.py", "quick"]),
 ]
 AFTER_PROOFS = [
     ("refused allocations", ["tools/refuse/refuse.py"]),
     ("program runs", ["tools/runs.py"]),
-]
-AFTER_BOTH = [
-    ("benchmark answers", ["tools/bench/run.py", "quick"]),
 ]
 
 
@@ -247,12 +249,14 @@ def try_library(board: Board, proofs: Proofs) -> bool:
     if not proofs.wait_for(below("sel_c")) or not run_check(board, "C library", ["tools/clib.py", "--gate"]):
         return False
     with ThreadPoolExecutor(LIBRARY_AT_ONCE) as pool:
-        return all(list(pool.map(lambda check: run_check(board, check[0], check[1], beside=True), AFTER_LIBRARY)))
+        passed = all(list(pool.map(lambda check: run_check(board, check[0], check[1], beside=True), AFTER_LIBRARY)))
+    answered = proofs.wait_for(["bench_internals"]) and all(run_check(board, name, command, beside=True) for name, command in AFTER_BOTH)
+    return passed and answered
 
 
 def run_all(anew: bool) -> int:
     mutants = mutants_by_check()
-    board = Board(1 + len(DOCUMENTS) + len(mutants) + 1 + len(AFTER_LIBRARY) + len(AFTER_PROOFS) + len(AFTER_BOTH))
+    board = Board(1 + len(DOCUMENTS) + len(mutants) + 1 + len(AFTER_LIBRARY) + len(AFTER_BOTH) + len(AFTER_PROOFS))
     setup()
     for name, command in DOCUMENTS:
         if not run_check(board, name, command):
@@ -271,8 +275,6 @@ def run_all(anew: bool) -> int:
                 run_check(board, name, command)
             for future in waited:
                 future.result()
-            for name, command in AFTER_BOTH:
-                run_check(board, name, command)
     return 0 if board.table() else 1
 
 

@@ -77,28 +77,31 @@ class Layout:
 
     def column(self, rows: list[Any], wanted: Type) -> Column:
         front, back = self.rng.choice(self.fronts), self.rng.randrange(3)
-        padded = self._others(wanted, front) + rows + self._others(wanted, back)
+        pool = self._pool(wanted)
+        padded = self._others(wanted, pool, front) + rows + self._others(wanted, pool, back)
         valid = [row is not None for row in padded]
-        column = Column._owning(self._with_nulls([self._value(wanted) if row is None else row for row in padded], valid, wanted))
+        column = Column._owning(self._with_nulls([self._value(wanted, pool) if row is None else row for row in padded], valid, wanted))
         first = self.rng.randrange(front + 1)
         return column.sliced(first, len(padded) - first).sliced(front - first, len(rows))
 
-    def _pool(self, wanted: Type) -> list[Any]:
-        pools = {} if self.pools is None else self.pools
-        if wanted not in pools:
-            pools[wanted] = random_rows(self.rng, wanted, 100) + [plain_value(self.rng, wanted) for _ in range(20)]
-        return pools[wanted]
-
-    def _others(self, wanted: Type, count: int) -> list[Any]:
-        """Returns other rows, null ones too."""
+    def _pool(self, wanted: Type) -> list[Any] | None:
+        """Returns the pool of a type, or None if other values are drawn anew."""
         if self.pools is None:
+            return None
+        if wanted not in self.pools:
+            self.pools[wanted] = random_rows(self.rng, wanted, 100) + [plain_value(self.rng, wanted) for _ in range(20)]
+        return self.pools[wanted]
+
+    def _others(self, wanted: Type, pool: list[Any] | None, count: int) -> list[Any]:
+        """Returns other rows, null ones too."""
+        if pool is None:
             return random_rows(self.rng, wanted, count)
         first = self.rng.randrange(100 - count)
-        return self._pool(wanted)[first : first + count]
+        return pool[first : first + count]
 
-    def _value(self, wanted: Type) -> Any:
+    def _value(self, wanted: Type, pool: list[Any] | None) -> Any:
         """Returns a value that is not null, if the type has one."""
-        return plain_value(self.rng, wanted) if self.pools is None else self._pool(wanted)[-1 - self.rng.randrange(20)]
+        return plain_value(self.rng, wanted) if pool is None else pool[-1 - self.rng.randrange(20)]
 
     def _with_nulls(self, values: list[Any], valid: list[bool], wanted: Type) -> Owner:
         """Returns the column of the values in which the rows that are not valid are null."""
