@@ -2,8 +2,9 @@
 """Builds the C library from crates/sel_c, and tests it.
 
 tools/clib.py                  proves, with a report of how far it is, then writes build/libsel.a, build/libsel.so, build/sel.pc and build/VERDICTS
-tools/clib.py --check          builds, and runs the tests c/test.c, c/test_depth.c and c/test_threads.c
-tools/clib.py --gate           the same over the libraries that `rt ci` has proved, also while it still runs
+tools/clib.py --gate           builds over the libraries that `rt ci` has proved, also while it still runs
+tools/clib.py --test           checks the headers, and runs the tests of c/ over the built library
+tools/clib.py --check          builds and tests
 
 With --cpu NAME as the last argument the library is built for these processors (x86-64-v3: with AVX2) instead of x86-64-v2, into
 build/NAME/. Its code does not check the processor that it runs on; the loader does, for the file that `make install` copies.
@@ -219,8 +220,7 @@ def check_depth(folder: pathlib.Path) -> None:
     run(compiled(folder, "test_depth", ["test_depth", "test_memory"], "-pthread", *WRAPPED))
 
 
-def check(over_gate: bool, cpu: str) -> None:
-    build(over_gate, cpu)
+def check(cpu: str) -> None:
     header, folder = ROOT / "include" / "sel.h", folder_of(cpu)
     for compiler, standard, language in ((CC, "c11", "c"), (CXX, "c++17", "c++")):
         run(compiler, f"-std={standard}", *WARN, "-fsyntax-only", "-x", language, header)
@@ -241,12 +241,12 @@ def main() -> None:
     asked, cpu = sys.argv[1:], LEAST_CPU
     if asked[-2:-1] == ["--cpu"]:
         asked, cpu = asked[:-2], asked[-1]
-    if asked in (["--check"], ["--gate"]):
-        check(asked == ["--gate"], cpu)
-    elif not asked:
-        build(cpu=cpu)
-    else:
+    if asked not in ([], ["--gate"], ["--test"], ["--check"]):
         sys.exit(__doc__)
+    if asked != ["--test"]:
+        build(asked == ["--gate"], cpu)
+    if asked in (["--test"], ["--check"]):
+        check(cpu)
 
 
 if __name__ == "__main__":

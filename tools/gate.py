@@ -7,7 +7,7 @@ tools/gate.py check   proves what has changed over cached proofs and runs the fa
 tools/gate.py setup   installs the optional programs and libraries that the checks use: what `make setup` runs
 
 Checks that need only some of the proved libraries run while `rt ci` runs, as soon as those are proved, at a lower priority. (The C
-library is built and tested at the same priority as the proofs, since nine checks wait for it.) The others run after `rt ci`. The table
+library is built at the same priority as the proofs, since ten checks wait for it.) The others run after `rt ci`. The table
 lists what a check leaves out because an optional dependency is missing.
 """
 
@@ -198,6 +198,7 @@ DOCUMENTS = [
 AFTER_LIBRARY = [
     ("Python package", ["tools/bindings.py", "python"]),
     ("conformance suite", ["tools/rows.py"]),
+    ("tests in C", ["tools/clib.py", "--test"]),
     ("fuzz targets", ["tools/fuzz.py", "--check"]),
     ("Rust package", ["tools/bindings.py", "rust"]),
     ("Arrow interface in C", ["tools/bindings.py", "c"]),
@@ -244,7 +245,7 @@ def try_mutants(board: Board, proofs: Proofs, room: threading.Semaphore, name: s
 
 
 def try_library(board: Board, proofs: Proofs) -> bool:
-    """Builds and tests the C library and what uses it, as soon as the crates that it depends on are proved."""
+    """Builds the C library, and tests it and what uses it, as soon as the crates that it depends on are proved."""
     # not at a lower priority, since the others wait for it
     if not proofs.wait_for(below("sel_c")) or not run_check(board, "C library", ["tools/clib.py", "--gate"]):
         return False
@@ -281,7 +282,7 @@ def run_all(anew: bool) -> int:
 def run_fast() -> int:
     """Proves what has changed over cached proofs, builds the C library, and runs the fast checks side by side."""
     board = Board(len(DOCUMENTS) + 1 + len(AFTER_LIBRARY))
-    built = run_check(board, "C library", ["tools/clib.py", "--check"])
+    built = run_check(board, "C library", ["tools/clib.py"])
     for name, command in DOCUMENTS:
         run_check(board, name, command)
     with ThreadPoolExecutor(len(AFTER_LIBRARY)) as pool:
