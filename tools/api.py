@@ -159,7 +159,7 @@ def test_files() -> list[TestFile]:
     it a poor example.)"""
     paths = [path for path in sorted((ROOT / "crates").glob("tests_*/src/*.rt")) if not path.name.startswith("alloc_")]
     found = []
-    for path in paths:
+    for path in [*paths, ROOT / "crates/sel_bench/src/tests.rt"]:
         text = path.read_text()
         code = "\n".join(line for line in text.split("\n") if not line.lstrip().startswith(("use ", "//")))
         found.append((path, used_words(text), set(re.findall(r"(?<!fn )\b(\w+)(?:::<[^()]*>)?\(", code))))

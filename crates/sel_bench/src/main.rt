@@ -1,6 +1,9 @@
 //! Reads command lines such as `take 5,n,7 2,n,1` and writes one result line for each.
 #![tactic(auto)]
 
+#[cfg(test)]
+mod tests;
+
 use sel_lines::counted::Counted;
 use sel_lines::run::{Done, run};
 use std::io;

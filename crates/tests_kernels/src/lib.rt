@@ -1,7 +1,7 @@
 //! Tests of what only Rattle code can call: kernels of typed arrays, of words and bits, the parts
-//! of the copies, public functions without a C call, and runs over lines. The rows that the C calls
-//! return are tested as data, in `tests/rows`. The modules `alloc_*` mark where a call begins and
-//! ends, so that `tools/refuse` can make each of its allocations fail.
+//! of the copies, and public functions without a C call. The rows that the C calls return are tested
+//! as data, in `tests/rows`. The modules `alloc_*` mark where a call begins and ends, so that
+//! `tools/refuse` can make each of its allocations fail.
 #![tactic(auto)]
 
 #[cfg(test)]
@@ -16,8 +16,6 @@ mod broadcasts;
 mod elements;
 #[cfg(test)]
 mod filters;
-#[cfg(test)]
-mod lines;
 #[cfg(test)]
 mod masks;
 #[cfg(test)]
