@@ -23,7 +23,6 @@ use std::mem::replace;
 ///
 /// # Errors
 /// `OutOfMemory` if an allocation fails.
-#[inline(never)]
 pub fn filter_arrays<T: Copy, const N: usize>(
     alloc: Global,
     arrays: &[[T; N]],
@@ -55,7 +54,7 @@ pub fn filter_arrays<T: Copy, const N: usize>(
 ///
 /// # Errors
 /// `OutOfMemory` if an allocation fails.
-#[inline(never)]
+#[inline(always)]
 #[tactic(auto, using(crate::proofs::Dense::kept_steps))]
 fn append_arrays<T: Copy, const N: usize>(
     block: &[[T; N]],

@@ -65,7 +65,6 @@ fn filter_numbers<T: ArrowPrimitive>(
 
 /// Returns the column of the values of the lists of `N` values whose bit is set, or `None` if the
 /// values have a validity.
-#[inline(never)]
 fn filter_sized<T: ArrowPrimitive, const N: usize>(
     alloc: Global,
     numbers: &PrimitiveArray<T>,

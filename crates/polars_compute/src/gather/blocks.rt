@@ -47,7 +47,6 @@ pub(crate) fn take_block_values<T: Copy>(
 }
 
 /// Returns the blocks of `N` values at `indices`, and `zero` `N` times for a null index.
-#[inline(never)]
 fn take_sized<T: Copy, const N: usize>(
     alloc: Global,
     values: &[T],
