@@ -221,7 +221,10 @@ def check_depth(folder: pathlib.Path) -> None:
 
 
 def check(cpu: str) -> None:
+    """Checks the headers and what the built library exports, and runs the tests of c/ over it."""
     header, folder = ROOT / "include" / "sel.h", folder_of(cpu)
+    if not (folder / "libsel.a").exists():
+        sys.exit(f"{folder.relative_to(ROOT)}/libsel.a is not there: make lib builds it")
     for compiler, standard, language in ((CC, "c11", "c"), (CXX, "c++17", "c++")):
         run(compiler, f"-std={standard}", *WARN, "-fsyntax-only", "-x", language, header)
     if foreign_symbols(folder):
