@@ -253,6 +253,25 @@ static void test_filters_of_all_rows(void) {
     sel_selection_free(&by);
 }
 
+/* An if-then-else of numbers shares the side that all rows come from. */
+static void test_choices_of_one_side(void) {
+    const uint8_t none[1] = {0}, all[1] = {15};
+    for (int side = 0; side < 2; side++) {
+        sel_column mask = {0}, whole = tens(), other = {0}, kept = {0};
+        const int64_t numbers[4] = {1, 2, 3, 4};
+        DONE(sel_boolean_new(side == 0 ? all : none, 1, 4, SEL_ALL_VALID, &mask));
+        DONE(sel_int64_new(numbers, 4, SEL_ALL_VALID, &other));
+        if (mask.at != NULL && whole.at != NULL && other.at != NULL) {
+            const long before = blocks_in_use();
+            const sel_status status = side == 0 ? sel_if_then_else(&mask, &whole, &other, &kept) : sel_if_then_else(&mask, &other, &whole, &kept);
+            shares(status, &whole, &kept, before);
+        }
+        sel_free(&mask);
+        sel_free(&whole);
+        sel_free(&other);
+    }
+}
+
 static void test_takes(void) {
     const uint32_t at[3] = {3, 9, 0};
     const uint8_t bits[1] = {5};
@@ -524,7 +543,7 @@ static void test_short_validities(void) {
 
 static void (*const tests[])(void) = {
     test_nulls, test_booleans, test_int8, test_int16, test_int32, test_int64, test_uint8, test_uint16, test_uint32,
-    test_uint64, test_int128, test_uint128, test_whole, test_filters, test_selections, test_filters_of_all_rows, test_takes, test_reverse, test_bytes,
+    test_uint64, test_int128, test_uint128, test_whole, test_filters, test_selections, test_filters_of_all_rows, test_choices_of_one_side, test_takes, test_reverse, test_bytes,
     test_lists, test_structs, test_views, test_choices, test_broadcasts, test_chosen_kinds, test_flattens, test_collected_rows, test_dictionaries, test_equal_rows, test_prints, test_prints_types,
     test_parses, test_misread_texts, test_parse_memory, test_flatten_limits, test_list_limits, test_empty_inputs, test_empty_outputs, test_strings,
     test_short_validities,

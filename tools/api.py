@@ -16,7 +16,7 @@ ROOT = pathlib.Path(__file__).resolve().parent.parent
 PAGE = ROOT / "docs" / "API.md"
 # the crates whose public functions the page lists; the other crates are the program and the tests. The functions of sel_c are those of
 # include/sel.h
-LIBRARIES = ["sel_bits", "sel_arrow", "sel_text", "sel_filter", "sel_gather", "sel_ternary", "polars_compute", "sel_ffi", "sel_lent", "sel_c", "sel_lines"]
+LIBRARIES = ["sel_bits", "sel_arrow", "sel_text", "sel_filter", "sel_gather", "sel_ternary", "sel_kernels", "polars_compute", "sel_ffi", "sel_lent", "sel_c", "sel_lines"]
 ITEM = re.compile(r"^(?P<indent> *)(?P<pub>pub )?(?:const |extern \"C\" )?fn (?P<name>\w+)")
 OWNER = re.compile(r"^(?:pub )?(?P<kind>impl|trait)\b(?P<rest>.*?)\{?$")
 # a test file: its path, the words that it uses of each crate, and the names that it calls
@@ -210,6 +210,8 @@ def page() -> str:
         "Each public function of the libraries, with its contract; `sel_c` has the functions of [sel.h](../include/sel.h). `tools/api.py` writes this page from the sources; `make check` and `make test` fail if it is out of date. [DEFINITIONS.md](DEFINITIONS.md) defines the words of the contracts.",
         "",
         "A function's mutants are changes of its body that the prover must reject. The page omits mutants of private functions.",
+        "",
+        "`polars_compute` re-exports the modules of `sel_kernels` and `sel_ternary`, so `sel_kernels::filter::filter` is also `polars_compute::filter::filter`.",
         "",
     ]
     bodies, found = [], {}

@@ -54,7 +54,7 @@ SETUP = {
 AT_ONCE = 2
 # the most mutants of one check, which uses one processor; each check also proves the lemmas and the functions that its functions use
 MUTANTS_OF_CHECK = 60
-# the number of checks of the C library that run at once
+# the number of checks of the C library that run at once while the proofs run; afterwards as many as there are processors
 LIBRARY_AT_ONCE = 2
 
 
@@ -207,6 +207,8 @@ AFTER_LIBRARY = [
     ("archive", ["tools/dist.py", "--check"]),
     ("Arrow streams of GDAL", ["tools/bindings.py", "gdal"]),
 ]
+# of these, what `make check` leaves out, since it has commands of its own: make fuzz, make soak, make dist
+NOT_FAST = {"fuzz targets", "random columns", "archive"}
 # these run the program bench_internals too
 AFTER_BOTH = [
     ("benchmark answers", ["tools/bench/run.py", "quick"]),
@@ -236,21 +238,26 @@ def mutants_by_check() -> dict[str, list[str]]:
     return found
 
 
+def run_in(room: threading.Semaphore, board: Board, name: str, command: list[str]) -> bool:
+    """Runs one check as soon as there is room for one more."""
+    with room:
+        return run_check(board, name, command, beside=True)
+
+
 def try_mutants(board: Board, proofs: Proofs, room: threading.Semaphore, name: str, labels: list[str]) -> bool:
     """Tries some mutants of a crate as soon as the libraries below it are proved and there is room for one more check."""
     if not proofs.wait_for(below(labels[0].partition("/")[0])):
         return False
-    with room:
-        return run_check(board, name, ["tools/mutants.py", *labels], beside=True)
+    return run_in(room, board, name, ["tools/mutants.py", *labels])
 
 
-def try_library(board: Board, proofs: Proofs) -> bool:
+def try_library(board: Board, proofs: Proofs, room: threading.Semaphore) -> bool:
     """Builds the C library, and tests it and what uses it, as soon as the crates that it depends on are proved."""
     # not at a lower priority, since the others wait for it
     if not proofs.wait_for(below("sel_c")) or not run_check(board, "C library", ["tools/clib.py", "--gate"]):
         return False
-    with ThreadPoolExecutor(LIBRARY_AT_ONCE) as pool:
-        passed = all(list(pool.map(lambda check: run_check(board, check[0], check[1], beside=True), AFTER_LIBRARY)))
+    with ThreadPoolExecutor(len(AFTER_LIBRARY)) as pool:
+        passed = all(list(pool.map(lambda check: run_in(room, board, *check), AFTER_LIBRARY)))
     answered = proofs.wait_for(["bench_internals"]) and all(run_check(board, name, command, beside=True) for name, command in AFTER_BOTH)
     return passed and answered
 
@@ -263,15 +270,16 @@ def run_all(anew: bool) -> int:
         if not run_check(board, name, command):
             board.table()
             return 1
-    proofs, room = Proofs(board, anew), threading.Semaphore(AT_ONCE)
+    proofs, room, library_room = Proofs(board, anew), threading.Semaphore(AT_ONCE), threading.Semaphore(LIBRARY_AT_ONCE)
     with ThreadPoolExecutor(2) as pool, ThreadPoolExecutor(len(mutants)) as trials:
-        waited: list[Future[bool]] = [pool.submit(try_library, board, proofs)]
+        waited: list[Future[bool]] = [pool.submit(try_library, board, proofs, library_room)]
         waited += [trials.submit(try_mutants, board, proofs, room, name, labels) for name, labels in mutants.items()]
         pool.submit(proofs.run)
         if proofs.wait():
-            more = len(os.sched_getaffinity(0)) - AT_ONCE
-            if more > 0:
-                room.release(more)
+            for rooms, at_once in (room, AT_ONCE), (library_room, LIBRARY_AT_ONCE):
+                more = len(os.sched_getaffinity(0)) - at_once
+                if more > 0:
+                    rooms.release(more)
             for name, command in AFTER_PROOFS:
                 run_check(board, name, command)
             for future in waited:
@@ -280,13 +288,14 @@ def run_all(anew: bool) -> int:
 
 
 def run_fast() -> int:
-    """Proves what has changed over cached proofs, builds the C library, and runs the fast checks side by side."""
-    board = Board(len(DOCUMENTS) + 1 + len(AFTER_LIBRARY))
-    built = run_check(board, "C library", ["tools/clib.py"])
-    for name, command in DOCUMENTS:
-        run_check(board, name, command)
-    with ThreadPoolExecutor(len(AFTER_LIBRARY)) as pool:
-        for name, command in AFTER_LIBRARY if built else []:
+    """Proves what has changed over cached proofs and builds the C library, checks the documents meanwhile, and then runs the fast checks side by side."""
+    fast = [check for check in AFTER_LIBRARY if check[0] not in NOT_FAST]
+    board = Board(1 + len(DOCUMENTS) + len(fast))
+    with ThreadPoolExecutor(len(fast)) as pool:
+        built = pool.submit(run_check, board, "C library", ["tools/clib.py"])
+        for name, command in DOCUMENTS:
+            run_check(board, name, command, beside=True)
+        for name, command in fast if built.result() else []:
             pool.submit(run_check, board, name, command)
     return 0 if board.table() else 1
 

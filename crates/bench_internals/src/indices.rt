@@ -4,11 +4,11 @@ ghost use Rattle.std.specs.Prelude.{◌<◌, ◌≤◌};
 
 use crate::job::Job;
 use crate::made::{LEFT, NULLS, side, words};
-use polars_compute::gather::indices_in_bounds;
 use sel_arrow::primitive::IdxArr;
 use sel_bits::bitmap::Bitmap;
 use sel_bits::buffer::Buffer;
 use sel_bits::faults::{PolarsError, PolarsResult};
+use sel_kernels::gather::indices_in_bounds;
 use std::alloc::Global;
 
 /// Returns the number of repeats in which all indices are in bounds.

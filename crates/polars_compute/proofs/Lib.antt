@@ -1,12 +1,1 @@
-pub mod BlockTakes
-pub mod Common
-pub mod Dictionaries
-pub mod Elements
-pub mod Flattening
-pub mod KeptColumns
 pub mod LawProofs
-pub mod SelectedRows
-pub mod Selects
-pub mod TakenSpans
-pub mod TakenStructs
-pub mod Takes

@@ -4,9 +4,9 @@ use Rattle.std.specs.Prelude.{◌≡◌, ℕ, pos, Bool, true, List, [], ◌∷�
 use Rattle.std.specs.Prelude.{Option, None, not, count_by, slice_get, option_and_then}
 use Rattle.sel_arrow.specs.Value.{Value, Null, Number, is_null}
 use Rattle.sel_ternary.specs.Choose.{choose, broadcast_true, broadcast_false, broadcast_both}
-use Rattle.polars_compute.specs.Dictionary.{decode, propagated_keys, valid_values}
-use Rattle.polars_compute.specs.Select.{select, effective_mask, kept}
-use Rattle.polars_compute.specs.Pick.{pick, place_pick, take_rows, all_within}
+use Rattle.sel_kernels.specs.Dictionary.{decode, propagated_keys, valid_values}
+use Rattle.sel_kernels.specs.Select.{select, effective_mask, kept}
+use Rattle.sel_kernels.specs.Pick.{pick, place_pick, take_rows, all_within}
 
 -- ---- filters and takes
 

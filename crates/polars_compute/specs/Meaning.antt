@@ -7,13 +7,13 @@ use Rattle.sel_arrow.specs.Shape.{Shape}
 use Rattle.sel_arrow.specs.Value.{Value, Null}
 use Rattle.sel_arrow.specs.declared.column.Column.{Column}
 use Rattle.sel_ternary.specs.Choose.{choose, broadcast_true, broadcast_false, broadcast_both}
-use Rattle.polars_compute.specs.Flatten.{flatten}
-use Rattle.polars_compute.specs.Entries.{fixed_get, any_out_of_bounds}
-use Rattle.polars_compute.specs.Lists.{list_get, oob}
-use Rattle.polars_compute.specs.Dictionary.{decode, propagated_keys, rank, valid_values}
-use Rattle.polars_compute.specs.Need.{need, NoneGreater, NoneAbove, ExceedsNone, exceeded_limits}
-use Rattle.polars_compute.specs.Pick.{pick}
-use Rattle.polars_compute.specs.Select.{select, effective_mask}
+use Rattle.sel_kernels.specs.Flatten.{flatten}
+use Rattle.sel_kernels.specs.Entries.{fixed_get, any_out_of_bounds}
+use Rattle.sel_kernels.specs.Lists.{list_get, oob}
+use Rattle.sel_kernels.specs.Dictionary.{decode, propagated_keys, rank, valid_values}
+use Rattle.sel_kernels.specs.Need.{need, NoneGreater, NoneAbove, ExceedsNone, exceeded_limits}
+use Rattle.sel_kernels.specs.Pick.{pick}
+use Rattle.sel_kernels.specs.Select.{select, effective_mask}
 
 -- Two columns have the same type and the same rows.
 abbrev pub MeansTheSame : Column → Column → Type 0

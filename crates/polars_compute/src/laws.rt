@@ -53,7 +53,7 @@ pub fn law_broadcast_is_repeat()
 /// null value.
 ///
 /// Dictionary encoders depend on it.
-#[tactic(auto, using(crate::proofs::Dictionaries::none_null))]
+#[tactic(auto, using(sel_kernels::proofs::Dictionaries::none_null))]
 pub fn law_propagate()
     ensures decodes { PropagationDecodes }
     ensures valid { PropagationLeavesNoNull }
@@ -65,7 +65,7 @@ pub fn law_propagate()
 /// every kernel definition, whatever their layout. The rows that a mask keeps require no more than
 /// all rows. The rows of a well-formed column exceed no limit. Rows exceed a limit exactly if what
 /// they require is above it. Batch executors depend on it.
-#[tactic(auto, using(crate::proofs::LawProofs::kept_needs, crate::proofs::LawProofs::needs_decide, crate::proofs::LawProofs::needs_fit))]
+#[tactic(auto, using(sel_kernels::proofs::RowNeeds::kept_needs, sel_kernels::proofs::RowNeeds::needs_decide, sel_kernels::proofs::RowNeeds::needs_fit))]
 pub fn law_equal_meaning()
     ensures alike { EqualMeaning }
     ensures kept { KeptNeedsNoMore }

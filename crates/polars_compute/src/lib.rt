@@ -1,15 +1,8 @@
-//! Selection kernels for Arrow columns: filter, gather, if-then-else and horizontal flatten.
+//! Selection kernels for Arrow columns, under upstream's names: filter, gather, if-then-else and
+//! horizontal flatten; and laws that relate them.
 #![tactic(auto)]
 
-pub mod filter;
-pub mod gather;
-pub mod horizontal_flatten;
-mod lanes;
 pub mod laws;
-pub mod propagate_dictionary;
-pub mod reverse;
-mod runs;
-pub mod select;
-mod woven;
 
+pub use sel_kernels::{filter, gather, horizontal_flatten, propagate_dictionary, reverse, select};
 pub use sel_ternary::if_then_else;

@@ -4,7 +4,7 @@ ghost use Rattle.std.specs.Prelude.{◌≡◌, ◌++◌, ◌∷◌, length, true
 ghost use Rattle.sel_ternary.specs.Choose.{choose, broadcast_true, broadcast_false, broadcast_both};
 ghost use Rattle.sel_ternary.specs.Chosen.{first_row};
 ghost use Rattle.sel_ffi.specs.Status.{held_rows};
-ghost use Rattle.polars_compute.specs.Select.{effective_mask};
+ghost use Rattle.sel_kernels.specs.Select.{effective_mask};
 ghost use Rattle.sel_calls.specs.Choices.{Chooses};
 
 use sel_calls::choices::choose_handles;

@@ -6,15 +6,15 @@ ghost use Rattle.sel_arrow.specs.Shape.{of_large_list};
 ghost use Rattle.sel_calls.specs.Elements.{FindsOutOfBounds, GetsListElements};
 ghost use Rattle.sel_calls.specs.Returns.{ReturnsColumn};
 ghost use Rattle.sel_ffi.specs.Status.{ok, no_column, too_deep, held_rows, held_type, HasColumn};
-ghost use Rattle.polars_compute.specs.Lists.{unit_lists};
+ghost use Rattle.sel_kernels.specs.Lists.{unit_lists};
 
-use polars_compute::gather::sublist::list::array_to_unit_list;
 use sel_arrow::array::Array;
 use sel_calls::lists::{index_is_oob_into, sublist_get_into};
 use sel_ffi::column_ref::ColumnRef;
 use sel_ffi::depth::{MAX_DEPTH, is_within};
 use sel_ffi::handle::Handle;
 use sel_ffi::status::{NO_COLUMN, OUT_OF_MEMORY, TOO_DEEP, put};
+use sel_kernels::gather::sublist::list::array_to_unit_list;
 use std::alloc::Global;
 
 /// Returns in `out` the column whose row k is the element of list k at `index`, or null if the

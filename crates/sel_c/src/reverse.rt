@@ -4,10 +4,10 @@ ghost use Rattle.std.specs.Prelude.{◌≡◌, ◌∷◌, [], reverse};
 ghost use Rattle.sel_calls.specs.Returns.{ReturnsColumn};
 ghost use Rattle.sel_ffi.specs.Status.{ok, no_column, held_rows, held_type, HasColumn};
 
-use polars_compute::reverse::reverse;
 use sel_ffi::column_ref::ColumnRef;
 use sel_ffi::handle::Handle;
 use sel_ffi::status::{NO_COLUMN, OUT_OF_MEMORY, put};
+use sel_kernels::reverse::reverse;
 use std::alloc::Global;
 
 /// Returns in `out` the rows of `of` in reverse order.

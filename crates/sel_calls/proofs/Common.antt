@@ -1,5 +1,5 @@
 -- The names that most proofs cite, re-exported from one place. Declares nothing.
-pub use Rattle.polars_compute.specs.Pick.{all_within, take_rows}
+pub use Rattle.sel_kernels.specs.Pick.{all_within, take_rows}
 pub use Rattle.sel_arrow.specs.Columns.{boolean_rows, primitive_rows, utf8view_rows}
 pub use Rattle.sel_arrow.specs.DataType.{all_widths_fit, shape_of, shapes_of_each, widths_fit}
 pub use Rattle.sel_arrow.specs.Depth.{deepest, depth}

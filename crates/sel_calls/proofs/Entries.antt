@@ -3,7 +3,7 @@ use Rattle.std.proofs.lemmas.Grind.{common_steps}
 use Rattle.sel_calls.proofs.Common.{to_z-of_z, PolarsError, block_column, rows, Value, Number, error_status, list_index_out_of_bounds, ReturnsFirst, IsOkOrLimit}
 use Rattle.std.proofs.Common.{arith, ◌≡◌, ℕ, ℤ, Bool, false, length, List, [], ◌∷◌, replicate, w64, FitsSigned, to_z, of_z, ap, sym, ◌∙◌}
 use Rattle.sel_arrow.{specs.declared.fixed_size_list.FixedSizeListArray.FixedSizeListArray, proofs.NestedRows.length-rows}
-use Rattle.polars_compute.specs.Entries.{at_each, is_get_error, exceeded_entries, IsGetError}
+use Rattle.sel_kernels.specs.Entries.{at_each, is_get_error, exceeded_entries, IsGetError}
 
 -- The index that the call passes for each list is the given index for each row.
 pub same-indices : (arr : FixedSizeListArray) (index : ℤ) → FitsSigned w64 index → at_each arr (to_z w64 (of_z w64 index)) ≡ replicate (length (rows (block_column arr))) (Number index)

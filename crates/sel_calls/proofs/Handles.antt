@@ -1,7 +1,7 @@
 -- `SelectionHandle` as a struct that owns a box or nothing.
 use Rattle.std.proofs.Common.{refl}
 use Rattle.sel_ffi.proofs.HandleSteps.{Owner, owner}
-use Rattle.polars_compute.specs.contracts.filter.selection.Selection as owned
+use Rattle.sel_kernels.specs.contracts.filter.selection.Selection as owned
 use Rattle.sel_calls.specs.contracts.selection_handle.SelectionHandle as handle
 
 abbrev pub selections : Owner owned.the_row

@@ -4,8 +4,6 @@ use Rattle.std.proofs.Common.{◌≡◌, ◌≢◌, ◌≤◌, ℕ, arith, List,
 use Rattle.sel_calls.proofs.Common.{Limit, PolarsError, rows, type_of, Shape, Value, ArrayRef, Held, error_status, ok, out_of_memory, Makes, ReturnsFirst, ExceedsNone, IsLimitOrMemory, IsOkOrLimit, ReturnsColumn}
 use Rattle.sel_calls.proofs.Limits.{returns-error}
 
--- ---- what calls guarantee that make a column
-
 -- A column that exceeds no limit is stored, unless memory runs out.
 pub returns-made : (status : ℕ) (before after : Held) (column : ArrayRef) (values : List Value) (shape : Shape) (exceeded : Limit → Type 0) → Makes status before after (λ made. made ≡ column) → status ≤ out_of_memory →
     rows column.column ≡ values → type_of column.column ≡ shape → ExceedsNone exceeded → ReturnsColumn status before after values shape [] (IsOkOrLimit status exceeded)

@@ -5,7 +5,7 @@ use Rattle.sel_calls.proofs.Common.{flat_map, All-map, rows, type_of, buffers_he
 use mathlib.Core.Logic.{⊎_map}
 use Rattle.std.proofs.lemmas.Simd.{map-map}
 use Rattle.sel_ternary.proofs.SameNeeds.{AllLike, likes, same_needs, turned}
-use Rattle.polars_compute.specs.Flatten.{parts_fit}
+use Rattle.sel_kernels.specs.Flatten.{parts_fit}
 use Rattle.sel_ffi.specs.declared.column_ref.ColumnRef.{ColumnRef}
 use Rattle.sel_calls.specs.declared.several.PickWords.{PickWords}
 use Rattle.sel_calls.proofs.{Alike.alike_columns, Alike.first_same, Limits.limit-more, Limits.returns-more}

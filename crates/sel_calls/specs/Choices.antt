@@ -8,7 +8,7 @@ use Rattle.sel_ffi.specs.Status.{no_column, unsupported_type, type_mismatch, len
 use Rattle.sel_ffi.specs.Status.{held_columns, held_rows, held_type, HasColumn}
 use Rattle.sel_calls.specs.Returns.{IsOkOrLimit, ReturnsColumn}
 use Rattle.sel_ternary.specs.Chosen.{chosen_rows, SideFits}
-use Rattle.polars_compute.specs.Select.{effective_mask}
+use Rattle.sel_kernels.specs.Select.{effective_mask}
 
 -- The column of an if-then-else is made: it has these values and the type of the true values.
 abbrev pub Chooses : ℕ → Held → Held → Held → Held → Held → Type 0 → List Value → Type 0

@@ -6,8 +6,8 @@ use Rattle.sel_arrow.specs.Value.{Value}
 use Rattle.sel_ffi.specs.Held.{Held}
 use Rattle.sel_ffi.specs.Status.{ok, no_column, unsupported_type, index_out_of_bounds}
 use Rattle.sel_ffi.specs.Status.{held_rows, held_type, HasColumn, Makes, ReturnsFirst}
-use Rattle.polars_compute.specs.Dictionary.{propagated_keys, valid_values}
-use Rattle.polars_compute.specs.Pick.{all_within}
+use Rattle.sel_kernels.specs.Dictionary.{propagated_keys, valid_values}
+use Rattle.sel_kernels.specs.Pick.{all_within}
 
 -- Keys of null values become null, and null values are dropped. The bounds of the keys are checked
 -- after the conditions.

@@ -11,7 +11,7 @@ use Rattle.sel_ffi.specs.Status.{no_column, unsupported_type, length_mismatch}
 use Rattle.sel_ffi.specs.Status.{list_index_out_of_bounds}
 use Rattle.sel_ffi.specs.Status.{held_rows, held_type, HasColumn}
 use Rattle.sel_gather.specs.Need.{exceeded_limits}
-use Rattle.polars_compute.specs.Lists.{list_get, oob}
+use Rattle.sel_kernels.specs.Lists.{list_get, oob}
 
 -- The element at an index of each of these lists.
 abbrev pub GetsElements : ℕ → List Value → Shape → ℤ → List (ℕ × Type 0) → Held → Held → Type 0

@@ -5,7 +5,7 @@ use Rattle.sel_arrow.specs.Shape.{Shape}
 use Rattle.sel_arrow.specs.Value.{Value, Number}
 use Rattle.sel_calls.specs.Types.{entry_type, width_of}
 use Rattle.sel_gather.specs.Need.{exceeded_limits}
-use Rattle.polars_compute.specs.Entries.{fixed_get, any_out_of_bounds}
+use Rattle.sel_kernels.specs.Entries.{fixed_get, any_out_of_bounds}
 
 -- The element of each list at one index.
 abbrev pub entries_at : List Value → Shape → ℤ → List Value

@@ -6,7 +6,7 @@ use Rattle.sel_calls.specs.Returns.{ReturnsColumn}
 use Rattle.sel_ffi.specs.Held.{Held}
 use Rattle.sel_ffi.specs.Status.{ok, no_column, unsupported_type, length_mismatch}
 use Rattle.sel_ffi.specs.Status.{held_rows, held_type, HasColumn}
-use Rattle.polars_compute.specs.Select.{select, effective_mask}
+use Rattle.sel_kernels.specs.Select.{select, effective_mask}
 
 -- The rows where a boolean column is true and valid.
 abbrev pub Filters : ℕ → Held → Held → Held → Held → Type 0

@@ -8,8 +8,8 @@ use Rattle.sel_calls.specs.Returns.{ReturnsColumn}
 use Rattle.sel_ffi.specs.Held.{Held}
 use Rattle.sel_ffi.specs.Status.{ok, no_column, unsupported_type, length_mismatch}
 use Rattle.sel_ffi.specs.Status.{held_rows, held_type, HasColumn, ReturnsFirst}
-use Rattle.polars_compute.specs.Select.{select, effective_mask}
-use Rattle.polars_compute.specs.declared.filter.selection.Selection.{Selection}
+use Rattle.sel_kernels.specs.Select.{select, effective_mask}
+use Rattle.sel_kernels.specs.declared.filter.selection.Selection.{Selection}
 
 -- The handle has a selection.
 abbrev pub HasSelection : Option Selection → Type 0

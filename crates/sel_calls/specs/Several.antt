@@ -15,7 +15,7 @@ use Rattle.sel_ffi.specs.Inputs.{lacks_bits, validity_in}
 use Rattle.sel_ffi.specs.Status.{type_mismatch, length_mismatch, index_out_of_bounds, rule_status}
 use Rattle.sel_gather.specs.Need.{exceeded_taken}
 use Rattle.sel_gather.specs.Picks.{pick, PickFits}
-use Rattle.polars_compute.specs.Flatten.{flatten, parts_fit, exceeded_flattened}
+use Rattle.sel_kernels.specs.Flatten.{flatten, parts_fit, exceeded_flattened}
 
 -- The first of several types; the null type if there is none.
 abbrev pub first_shape : List Shape → Shape

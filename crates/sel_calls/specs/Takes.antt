@@ -11,7 +11,7 @@ use Rattle.sel_ffi.specs.Inputs.{lacks_bits, validity_in}
 use Rattle.sel_ffi.specs.Status.{no_column, unsupported_type, index_out_of_bounds, rule_status}
 use Rattle.sel_ffi.specs.Status.{held_rows, held_type, HasColumn}
 use Rattle.sel_gather.specs.Need.{exceeded_limits}
-use Rattle.polars_compute.specs.Pick.{all_within, take_rows}
+use Rattle.sel_kernels.specs.Pick.{all_within, take_rows}
 
 -- The rows at these indices. The bounds are checked after the conditions.
 abbrev pub TakesRows : ℕ → Held → List Value → List (ℕ × Type 0) → Held → Held → Type 0

@@ -1,27 +1,33 @@
 //! If-then-else between two columns or scalars by a boolean mask.
 
-ghost use Rattle.std.specs.Prelude.{◌≡◌, ◌≢◌, ◌≤◌, ◌∷◌, [], length, true, false, IfOk, IfErr, Some};
+ghost use Rattle.std.specs.Prelude.{◌≡◌, ◌≢◌, ◌≤◌, ◌∷◌, [], length, true, false, List, IfOk, IfErr, IfSome, Some};
 ghost use Rattle.sel_bits.specs.Limits.{max_rows};
 ghost use Rattle.sel_arrow.specs.Columns.{boolean_rows};
 ghost use Rattle.sel_arrow.specs.Depth.{depth};
 ghost use Rattle.sel_arrow.specs.Rows.{rows, type_of};
 ghost use Rattle.sel_arrow.specs.Shape.{of_boolean};
+ghost use Rattle.sel_arrow.specs.Value.{Value};
+ghost use Rattle.sel_arrow.specs.declared.column.Column.{Column};
+ghost use Rattle.sel_bits.specs.Choose.{choose};
 ghost use Rattle.sel_ternary.specs.Chosen.{chosen_rows, SideFits};
 ghost use Rattle.sel_calls.specs.Choices.{ChoosesFrom};
 ghost use Rattle.sel_ffi.specs.Status.{out_of_memory, unsupported_type, IsOneOf};
 ghost use Rattle.sel_gather.specs.Need.{exceeded_taken, ExceedsNone, IsLimitOrMemory};
-ghost use Rattle.polars_compute.specs.Select.{effective_mask};
+ghost use Rattle.sel_kernels.specs.Select.{effective_mask};
 
 use sel_arrow::array::Array;
 use sel_arrow::array_ref::ArrayRef;
 use sel_arrow::boolean::BooleanArray;
 use sel_arrow::column::Column;
+use sel_arrow::match_numbers;
 use sel_bits::bitmap::Bitmap;
 use sel_bits::faults::PolarsResult;
 use sel_ffi::column_ref::ColumnRef;
 use sel_ffi::handle::Handle;
+use sel_ffi::shared_column::SharedColumn;
 use sel_ffi::status::{
-    LENGTH_MISMATCH, NO_COLUMN, OUT_OF_MEMORY, TYPE_MISMATCH, UNSUPPORTED_TYPE, put, status_of,
+    LENGTH_MISMATCH, NO_COLUMN, OUT_OF_MEMORY, TYPE_MISMATCH, UNSUPPORTED_TYPE, put, put_again,
+    status_of,
 };
 use sel_ternary::if_then_else::any::{
     if_then_else_any, if_then_else_any_broadcast_both, if_then_else_any_broadcast_false,
@@ -54,13 +60,87 @@ pub fn choose_handles(
     let Some(by) = mask.column() else {
         return NO_COLUMN;
     };
-    let Some(first) = if_true.column() else {
+    let Some(first) = if_true.shared() else {
         return NO_COLUMN;
     };
-    let Some(second) = if_false.column() else {
+    let Some(second) = if_false.shared() else {
         return NO_COLUMN;
     };
-    choose_into(alloc, by, first, second, true_column, false_column, out)
+    choose_shared(alloc, by, first, second, true_column, false_column, out)
+}
+
+// Stores the if-then-else in `out`; shares a side if all rows come from it.
+fn choose_shared(
+    alloc: Global,
+    mask: &ArrayRef,
+    if_true: &SharedColumn,
+    if_false: &SharedColumn,
+    true_column: bool,
+    false_column: bool,
+    out: &mut Handle,
+) -> u32
+    ensures { ChoosesFrom result (Some mask.now) (Some if_true.now) (Some if_false.now)
+        true_column false_column out.old.tree out.new.tree }
+{
+    if true_column && false_column {
+        if let Some(side) = whole_side(mask, if_true, if_false) {
+            return put_again(alloc, side, out);
+        }
+    }
+    let (trues, falses) = (if_true.column(), if_false.column());
+    choose_into(alloc, mask, trues, falses, true_column, false_column, out)
+}
+
+// Returns the side that all rows come from. None if both sides have some, the mask has a validity,
+// rows of this type could exceed a limit, or the types or lengths do not fit.
+#[tactic(auto, using(sel_kernels::proofs::Selects::effective_masks, crate::proofs::AllKept::all_chosen, crate::proofs::AllKept::none_chosen))]
+fn whole_side<'a>(
+    mask: &ArrayRef,
+    if_true: &'a SharedColumn,
+    if_false: &'a SharedColumn,
+) -> Option<&'a SharedColumn>
+    ensures rows { IfSome result (λ side. rows side.now.column ≡ choose
+        (effective_mask (rows mask.now.column)) (rows if_true.now.column)
+        (rows if_false.now.column)) }
+    ensures dtype { IfSome result (λ side. type_of side.now.column ≡
+        type_of if_true.now.column) }
+    ensures alike { IfSome result (λ _. type_of if_true.now.column ≡
+        type_of if_false.now.column) }
+    ensures true_side { IfSome result (λ _. length (rows if_true.now.column) ≡
+        length (rows mask.now.column)) }
+    ensures false_side { IfSome result (λ _. length (rows if_false.now.column) ≡
+        length (rows mask.now.column)) }
+    ensures kind { IfSome result (λ _. type_of mask.now.column ≡ of_boolean) }
+    ensures within { IfSome result (λ _. (columns : List Column) (values : List Value) →
+        ExceedsNone (exceeded_taken (type_of if_true.now.column) columns values)) }
+{
+    let Column::Boolean(truths) = mask.as_column() else {
+        return None;
+    };
+    let (trues, falses) = (if_true.column(), if_false.column());
+    if truths.validity.is_some() || !exceeds_none(trues.as_column()) {
+        return None;
+    }
+    if !trues.same_dtype(falses) || trues.len() != truths.len() || falses.len() != truths.len() {
+        return None;
+    }
+    let count = truths.values.set_bits();
+    if count == truths.len() {
+        return Some(if_true);
+    }
+    if count == 0 { Some(if_false) } else { None }
+}
+
+// Returns whether no rows of the column's type can exceed a limit, as integers and booleans cannot.
+fn exceeds_none(column: &Column) -> bool
+    ensures { result ≡ true → (columns : List Column) (values : List Value) →
+        ExceedsNone (exceeded_taken (type_of column.now) columns values) }
+{
+    match_numbers! { column, _numbers => true,
+        Column::Null(_) | Column::Boolean(_) => true,
+        Column::LargeBinary(_) | Column::BinaryView(_) | Column::Utf8View(_) => false,
+        Column::LargeList { .. } | Column::FixedSizeList { .. } | Column::Struct { .. } => false,
+    }
 }
 
 fn choose_into(
@@ -169,6 +249,7 @@ fn bits_of_mask(alloc: Global, mask: &ArrayRef) -> Result<Bitmap, u32>
 }
 
 // Returns the effective mask. Errors: `OutOfMemory`.
+#[tactic(auto, using(sel_kernels::proofs::Selects::effective_masks))]
 fn effective_bits(alloc: Global, mask: &BooleanArray) -> PolarsResult<Bitmap>
     ensures bits { IfOk result (λ bits. bits.bits ≡ effective_mask (boolean_rows mask.now)) }
     ensures len { IfOk result (λ bits. length bits.bits ≡ length (boolean_rows mask.now)) }

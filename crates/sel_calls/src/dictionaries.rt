@@ -8,7 +8,6 @@ ghost use Rattle.sel_arrow.specs.Shape.{of_utf8_view};
 ghost use Rattle.sel_calls.specs.Dictionaries.{Propagates, PropagatesNulls};
 ghost use Rattle.sel_ffi.specs.Status.{out_of_memory, unsupported_type, Makes};
 
-use polars_compute::propagate_dictionary::{keys_in_bounds, propagate_dictionary_value_nulls};
 use sel_arrow::array::Array;
 use sel_arrow::array_ref::ArrayRef;
 use sel_arrow::primitive::PrimitiveArray;
@@ -16,6 +15,7 @@ use sel_arrow::utf8view::Utf8ViewArray;
 use sel_ffi::handle::Handle;
 use sel_ffi::shared_column::SharedColumn;
 use sel_ffi::status::{INDEX_OUT_OF_BOUNDS, OK, OUT_OF_MEMORY, UNSUPPORTED_TYPE};
+use sel_kernels::propagate_dictionary::{keys_in_bounds, propagate_dictionary_value_nulls};
 use std::alloc::Global;
 
 /// Makes the keys of null values null, and drops the null values of a dictionary.

@@ -6,9 +6,8 @@ ghost use Rattle.sel_arrow.specs.Rows.{rows, type_of};
 ghost use Rattle.sel_calls.specs.Filters.{Filters, FiltersByBits};
 ghost use Rattle.sel_calls.specs.Returns.{ReturnsColumn};
 ghost use Rattle.sel_ffi.specs.Status.{ok, length_mismatch};
-ghost use Rattle.polars_compute.specs.Select.{select, effective_mask};
+ghost use Rattle.sel_kernels.specs.Select.{select, effective_mask};
 
-use polars_compute::filter::{filter, filter_with_bitmap};
 use sel_arrow::array::Array;
 use sel_arrow::array_ref::ArrayRef;
 use sel_arrow::boolean::BooleanArray;
@@ -17,6 +16,7 @@ use sel_ffi::handle::Handle;
 use sel_ffi::inputs::copied_bits;
 use sel_ffi::shared_column::SharedColumn;
 use sel_ffi::status::{LENGTH_MISMATCH, OUT_OF_MEMORY, UNSUPPORTED_TYPE, put, put_again};
+use sel_kernels::filter::{filter, filter_with_bitmap};
 use std::alloc::Global;
 
 /// Stores in `out` the rows of `column` where the mask is true and valid. If these are all rows and

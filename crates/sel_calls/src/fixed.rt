@@ -6,12 +6,12 @@ ghost use Rattle.sel_arrow.specs.NestedArrays.{block_column};
 ghost use Rattle.sel_arrow.specs.Rows.{rows, type_of};
 ghost use Rattle.sel_calls.specs.Elements.{GetsEntries, GetsFixedEntries};
 
-use polars_compute::gather::sublist::fixed_size_list::sub_fixed_size_list_get_literal;
 use sel_arrow::array::Array;
 use sel_arrow::array_ref::ArrayRef;
 use sel_arrow::fixed_size_list::FixedSizeListArray;
 use sel_ffi::handle::Handle;
 use sel_ffi::status::{OUT_OF_MEMORY, UNSUPPORTED_TYPE, put, status_of};
+use sel_kernels::gather::sublist::fixed_size_list::sub_fixed_size_list_get_literal;
 use std::alloc::Global;
 
 /// Stores in `out` the element at `index` of each fixed-size list; a null list gives a null row.

@@ -9,13 +9,13 @@ ghost use Rattle.sel_arrow.specs.Shape.{is_block_shape};
 ghost use Rattle.sel_calls.specs.Elements.{GetsEntriesEach, GetsFixedEntriesEach};
 ghost use Rattle.sel_ffi.specs.Status.{unsupported_type};
 
-use polars_compute::gather::sublist::fixed_size_list::sub_fixed_size_list_get;
 use sel_arrow::array::Array;
 use sel_arrow::array_ref::ArrayRef;
 use sel_arrow::fixed_size_list::FixedSizeListArray;
 use sel_arrow::primitive::PrimitiveArray;
 use sel_ffi::handle::Handle;
 use sel_ffi::status::{LENGTH_MISMATCH, OUT_OF_MEMORY, UNSUPPORTED_TYPE, put, status_of};
+use sel_kernels::gather::sublist::fixed_size_list::sub_fixed_size_list_get;
 use std::alloc::Global;
 
 /// Stores in `out` the element of each fixed-size list at its own index; a null list gives a null

@@ -6,12 +6,12 @@ ghost use Rattle.sel_arrow.specs.NestedArrays.{list_column};
 ghost use Rattle.sel_arrow.specs.Rows.{rows, type_of};
 ghost use Rattle.sel_calls.specs.Elements.{FindsOutOfBounds, GetsElements, GetsListElements};
 
-use polars_compute::gather::sublist::list::{column_index_is_oob, sublist_get};
 use sel_arrow::array::Array;
 use sel_arrow::array_ref::ArrayRef;
 use sel_arrow::list::ListArray;
 use sel_ffi::handle::Handle;
 use sel_ffi::status::{OK, OUT_OF_MEMORY, UNSUPPORTED_TYPE, put, status_of};
+use sel_kernels::gather::sublist::list::{column_index_is_oob, sublist_get};
 use std::alloc::Global;
 
 /// Stores in `out` the element at `index` of each list; a null list or an index out of bounds gives

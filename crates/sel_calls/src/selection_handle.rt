@@ -5,11 +5,11 @@ ghost use Rattle.std.specs.Coded.{coded_option};
 ghost use Rattle.std.specs.Option.{MatchOption};
 ghost use Rattle.std.specs.declared.option.Option.TheVariants.{None, Some};
 ghost use Rattle.sel_ffi.specs.Owned.{held_owns};
-ghost use Rattle.polars_compute.specs.contracts.filter.selection.Selection as owned;
-ghost use Rattle.polars_compute.specs.declared.filter.selection.Selection.{Selection};
+ghost use Rattle.sel_kernels.specs.contracts.filter.selection.Selection as owned;
+ghost use Rattle.sel_kernels.specs.declared.filter.selection.Selection.{Selection};
 
-use polars_compute::filter::Selection;
 use sel_ffi::loose::Loose;
+use sel_kernels::filter::Selection;
 use std::alloc::Global;
 use std::marker::Model;
 use std::ptr::null_mut;

@@ -4,7 +4,6 @@ ghost use Rattle.std.specs.Prelude.{◌≡◌, [], Some};
 ghost use Rattle.sel_calls.specs.Selections.{Prepares, PreparesColumn, PreparesBits, FiltersBySelection};
 
 use crate::selection_handle::SelectionHandle;
-use polars_compute::filter::{Selection, filter_selected};
 use sel_arrow::array::Array;
 use sel_arrow::array_ref::ArrayRef;
 use sel_arrow::column::Column;
@@ -12,6 +11,7 @@ use sel_ffi::handle::Handle;
 use sel_ffi::inputs::copied_bits;
 use sel_ffi::shared_column::SharedColumn;
 use sel_ffi::status::{LENGTH_MISMATCH, OK, OUT_OF_MEMORY, UNSUPPORTED_TYPE, put, put_again};
+use sel_kernels::filter::{Selection, filter_selected};
 use std::alloc::Global;
 
 /// Stores in `out` the selection of the rows where `mask` is true and valid.

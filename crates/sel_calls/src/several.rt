@@ -7,10 +7,9 @@ ghost use Rattle.sel_arrow.specs.Depth.{depth};
 ghost use Rattle.sel_arrow.specs.Masked.{Covers};
 ghost use Rattle.sel_arrow.specs.Rows.{rows, type_of};
 ghost use Rattle.sel_calls.specs.Several.{picks_conditions, picks_from, picks_in, AreAlike, CollectsRows, FlattensColumns};
-ghost use Rattle.polars_compute.specs.Flatten.{array_columns};
+ghost use Rattle.sel_kernels.specs.Flatten.{array_columns};
 
 use crate::picks::{WordPlaces, are_in_bounds, lengths_of};
-use polars_compute::horizontal_flatten::{flatten_is_safe, horizontal_flatten_unchecked};
 use sel_arrow::array::Array;
 use sel_arrow::array_ref::ArrayRef;
 use sel_arrow::column::Column;
@@ -25,6 +24,7 @@ use sel_ffi::status::{
 };
 use sel_gather::gather::collect_plan;
 use sel_gather::row_refs::Walk;
+use sel_kernels::horizontal_flatten::{flatten_is_safe, horizontal_flatten_unchecked};
 use std::alloc::Global;
 
 /// A row reference: a row of one of several columns, both counted from 0.

@@ -6,7 +6,6 @@ ghost use Rattle.sel_arrow.specs.Depth.{depth};
 ghost use Rattle.sel_arrow.specs.Rows.{type_of};
 ghost use Rattle.sel_calls.specs.Takes.{Takes, TakesAt, TakesRows};
 
-use polars_compute::gather::{indices_in_bounds, take_unchecked};
 use sel_arrow::array::Array;
 use sel_arrow::array_ref::ArrayRef;
 use sel_arrow::column::Column;
@@ -16,6 +15,7 @@ use sel_ffi::inputs::numbers_of;
 use sel_ffi::status::{
     INDEX_OUT_OF_BOUNDS, OUT_OF_MEMORY, UNSUPPORTED_TYPE, put, status_of, status_of_maker,
 };
+use sel_kernels::gather::{indices_in_bounds, take_unchecked};
 use std::alloc::Global;
 
 /// Stores in `out` the rows of `column` at `indices`; a null index gives a null row.

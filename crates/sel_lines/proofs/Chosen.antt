@@ -4,7 +4,7 @@ use Rattle.sel_lines.proofs.Common.{common_steps, Decides-and, Decides-eqb, Bits
 use Rattle.sel_lines.specs.Choose.{choose_result}
 use Rattle.sel_arrow.proofs.Rows.{length-truth_rows}
 use Rattle.sel_ternary.specs.Choose.{choose}
-use Rattle.polars_compute.{specs.Select.effective_mask, proofs.Selects.in_force-all, proofs.Dictionaries.bare_rows}
+use Rattle.sel_kernels.{specs.Select.effective_mask, proofs.Selects.in_force-all, proofs.Dictionaries.bare_rows}
 
 test : (mask ts fs : List Value) → Decides ((count_by is_null mask == 0) && ((length ts == length mask) && (length fs == length mask)))
     ((count_by is_null mask ≡ 0) × ((length ts ≡ length mask) × (length fs ≡ length mask)))

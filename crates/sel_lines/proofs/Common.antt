@@ -1,6 +1,6 @@
 -- The names that most proofs cite, passed on from one place. Declares nothing.
-pub use Rattle.polars_compute.specs.Pick.{all_within}
-pub use Rattle.polars_compute.specs.SelectRows.{rows_of_arrays, type_of_each}
+pub use Rattle.sel_kernels.specs.Pick.{all_within}
+pub use Rattle.sel_kernels.specs.SelectRows.{rows_of_arrays, type_of_each}
 pub use Rattle.sel_arrow.proofs.Lists.{and_first, and_second, both}
 pub use Rattle.sel_arrow.specs.Columns.{primitive_rows}
 pub use Rattle.sel_arrow.specs.Makers.{block_fault, list_fault, utf8view_fault, views_fault}

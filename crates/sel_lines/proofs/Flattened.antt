@@ -5,7 +5,7 @@ use Rattle.std.proofs.lemmas.{Bool.cond-true, Bool.cond-false, Simd.map-map}
 use Rattle.sel_bits.specs.declared.faults.{Limit.Limit, PolarsError.PolarsError}
 use Rattle.sel_arrow.specs.declared.column.Column.{Column}
 use Rattle.sel_gather.specs.Sources.{first_type}
-use Rattle.polars_compute.specs.Flatten.{flatten, parts_fit, exceeded_flattened}
+use Rattle.sel_kernels.specs.Flatten.{flatten, parts_fit, exceeded_flattened}
 use Rattle.sel_lines.{specs.Words.if_both, specs.declared.flatten.Part.Part, proofs.MadeColumns.few, proofs.RowLemmas.map_now}
 
 -- ---- whether the columns fit

@@ -4,7 +4,7 @@ use Rattle.sel_lines.proofs.Common.{common_steps, list_all, map-append, append-n
 use Rattle.sel_arrow.specs.{NestedArrays.block_column, declared.fixed_size_list.FixedSizeListArray.FixedSizeListArray}
 use Rattle.sel_gather.proofs.{ItemRuns.listed_values, Rebuilt.IsBlock, Rebuilt.blocks_length, Rebuilt.blocks_rebuilt}
 use Rattle.sel_lines.{specs.declared.blocks.Blocks.Blocks, specs.declared.rows.Rows.Rows, proofs.ReadLists.held_length, proofs.RowLemmas.items_more}
-use Rattle.polars_compute.{specs.Entries.at_each, proofs.Elements.long_rows}
+use Rattle.sel_kernels.{specs.Entries.at_each, proofs.Elements.long_rows}
 
 -- ---- a row, and the list that is stored for it
 

@@ -3,7 +3,7 @@ use Rattle.std.specs.Prelude.{ℕ, ◌==◌, ◌&&◌, List, [], ◌∷◌, leng
 use Rattle.std.specs.Prelude.{option_map, if◌then◌else◌}
 use Rattle.sel_arrow.specs.Value.{Value, is_null}
 use Rattle.sel_ternary.specs.Choose.{choose}
-use Rattle.polars_compute.specs.Select.{effective_mask}
+use Rattle.sel_kernels.specs.Select.{effective_mask}
 use Rattle.sel_lines.specs.Columns.{column_of, column_text}
 use Rattle.sel_lines.specs.Numbers.{number_of, truth_of}
 use Rattle.sel_lines.specs.Words.{if_both}

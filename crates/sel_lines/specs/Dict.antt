@@ -2,8 +2,8 @@
 use Rattle.std.specs.Prelude.{ℕ, List, [], ◌∷◌, ◌++◌, length, Option, None, Some, option_map}
 use Rattle.std.specs.Prelude.{if◌then◌else◌}
 use Rattle.sel_arrow.specs.Value.{Value}
-use Rattle.polars_compute.specs.Dictionary.{propagated_keys, valid_values}
-use Rattle.polars_compute.specs.Pick.{all_within}
+use Rattle.sel_kernels.specs.Dictionary.{propagated_keys, valid_values}
+use Rattle.sel_kernels.specs.Pick.{all_within}
 use Rattle.sel_lines.specs.Columns.{column_of, column_text}
 use Rattle.sel_lines.specs.Numbers.{index_of}
 use Rattle.sel_lines.specs.Texts.{string_value}

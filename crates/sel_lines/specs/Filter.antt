@@ -1,7 +1,7 @@
 -- The output for `filter COL MASK`.
 use Rattle.std.specs.Prelude.{ℕ, ◌==◌, List, [], ◌∷◌, length, Option, None, Some, if◌then◌else◌}
 use Rattle.sel_arrow.specs.Value.{Value}
-use Rattle.polars_compute.specs.Select.{select, effective_mask}
+use Rattle.sel_kernels.specs.Select.{select, effective_mask}
 use Rattle.sel_lines.specs.Numbers.{number_of, truth_of}
 use Rattle.sel_lines.specs.Columns.{column_of, column_text}
 use Rattle.sel_lines.specs.Words.{if_both}

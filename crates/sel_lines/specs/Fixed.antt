@@ -4,7 +4,7 @@ use Rattle.std.specs.Prelude.{Some, if◌then◌else◌, option_and_then}
 use Rattle.sel_bits.specs.Faults.{error_text}
 use Rattle.sel_bits.specs.declared.faults.PolarsError.TheVariants.{ComputeError}
 use Rattle.sel_arrow.specs.Value.{Value, Number, Truth}
-use Rattle.polars_compute.specs.Entries.{fixed_get, any_out_of_bounds}
+use Rattle.sel_kernels.specs.Entries.{fixed_get, any_out_of_bounds}
 use Rattle.sel_lines.specs.Blocks.{blocks_of, parsed_width}
 use Rattle.sel_lines.specs.Columns.{column_text}
 use Rattle.sel_lines.specs.Numbers.{number_of, truth_of}

@@ -4,7 +4,7 @@ use Rattle.std.specs.Prelude.{option_map, if◌then◌else◌, codes}
 use Rattle.std.specs.List.{slice_split}
 use Rattle.sel_bits.specs.Limits.{max_rows}
 use Rattle.sel_arrow.specs.Value.{Value}
-use Rattle.polars_compute.specs.Flatten.{flatten, parts_fit}
+use Rattle.sel_kernels.specs.Flatten.{flatten, parts_fit}
 use Rattle.sel_lines.specs.Columns.{all_some, column_of, column_text}
 use Rattle.sel_lines.specs.Numbers.{number_of, size_of}
 use Rattle.sel_lines.specs.Words.{if_both}

@@ -1,7 +1,7 @@
 -- The output for `get LISTS INDEX`.
 use Rattle.std.specs.Prelude.{ℕ, List, [], ◌∷◌, Option, None, Some}
 use Rattle.sel_arrow.specs.Value.{Value, Number}
-use Rattle.polars_compute.specs.Lists.{list_get}
+use Rattle.sel_kernels.specs.Lists.{list_get}
 use Rattle.sel_lines.specs.Columns.{column_text}
 use Rattle.sel_lines.specs.Lists.{lists_of}
 use Rattle.sel_lines.specs.Numbers.{number_of}

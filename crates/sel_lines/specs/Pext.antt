@@ -4,7 +4,7 @@ use Rattle.std.specs.Prelude.{if◌then◌else◌, nat_le, nat_lt}
 use Rattle.std.specs.Fmt.{digits}
 use Rattle.std.specs.List.{list_all}
 use Rattle.std.specs.Str.Parse.{digits_value}
-use Rattle.polars_compute.specs.Compress.{compress}
+use Rattle.sel_kernels.specs.Compress.{compress}
 use Rattle.sel_lines.specs.Words.{if_both}
 
 -- The maximum number of hexadecimal digits of a 64-bit word.

@@ -4,7 +4,7 @@ use Rattle.std.specs.List.{join_with_byte}
 use Rattle.sel_arrow.specs.Value.{Value}
 use Rattle.sel_lines.specs.Columns.{all_some, column_of, column_text}
 use Rattle.sel_lines.specs.Numbers.{index_of, number_of, truth_of}
-use Rattle.polars_compute.specs.SelectRows.{select_rows_of, selection_fits}
+use Rattle.sel_kernels.specs.SelectRows.{select_rows_of, selection_fits}
 use Rattle.sel_lines.specs.Words.{if_both}
 
 -- For each column the rows at the indices among those that the mask selects; none if a length does

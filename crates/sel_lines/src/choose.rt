@@ -12,11 +12,11 @@ ghost use Rattle.sel_lines.specs.Words.{if_both};
 
 use crate::columns::{parse_column, print_computed};
 use crate::rows::Rows;
-use polars_compute::if_then_else::IfThenElseKernel;
 use sel_arrow::array::Array;
 use sel_arrow::boolean::BooleanArray;
 use sel_arrow::primitive::PrimitiveArray;
 use sel_bits::faults::PolarsResult;
+use sel_ternary::if_then_else::IfThenElseKernel;
 use std::alloc::{AllocError, Global};
 
 /// Returns the output of `choose` for `words`, or `None` if they are invalid.

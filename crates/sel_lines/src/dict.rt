@@ -11,11 +11,11 @@ use crate::columns::{parse_column, print_column};
 use crate::line_errors::memory_error;
 use crate::rows::Rows;
 use crate::texts::parse_texts;
-use polars_compute::propagate_dictionary::{keys_in_bounds, propagate_dictionary_value_nulls};
 use sel_arrow::array::Array;
 use sel_arrow::primitive::PrimitiveArray;
 use sel_arrow::utf8view::Utf8ViewArray;
 use sel_bits::faults::PolarsResult;
+use sel_kernels::propagate_dictionary::{keys_in_bounds, propagate_dictionary_value_nulls};
 use std::alloc::{AllocError, Global};
 
 /// Returns the output of `dict` for `words`, or `None` if they are invalid.

@@ -1,7 +1,7 @@
 //! The command `filter COL MASK`.
 ghost use Rattle.std.specs.Prelude.{◌≡◌, ◌≤◌, IfOk, IfErr, All, length, map, option_map, string_bytes};
 ghost use Rattle.sel_bits.specs.Faults.{IsOutOfMemory};
-ghost use Rattle.polars_compute.specs.Select.{select, effective_mask};
+ghost use Rattle.sel_kernels.specs.Select.{select, effective_mask};
 ghost use Rattle.sel_arrow.specs.Columns.{boolean_rows, primitive_rows};
 ghost use Rattle.sel_arrow.specs.Rows.{rows, type_of};
 ghost use Rattle.sel_arrow.specs.Shape.{of_int64};
@@ -13,12 +13,12 @@ ghost use Rattle.sel_lines.specs.Rows.{parsed_rows};
 
 use crate::columns::{parse_column, print_computed};
 use crate::rows::Rows;
-use polars_compute::filter::filter;
 use sel_arrow::array::Array;
 use sel_arrow::array_ref::ArrayRef;
 use sel_arrow::boolean::BooleanArray;
 use sel_arrow::primitive::PrimitiveArray;
 use sel_bits::faults::PolarsResult;
+use sel_kernels::filter::filter;
 use std::alloc::{AllocError, Global};
 
 /// Returns the output of `filter` for `words`, or `None` if they are invalid.

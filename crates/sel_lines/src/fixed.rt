@@ -11,8 +11,8 @@ use crate::columns::print_column;
 use crate::filter::numbers_of;
 use crate::line_errors::memory_error;
 use crate::numbers::Item;
-use polars_compute::gather::sublist::fixed_size_list::sub_fixed_size_list_get_literal;
 use sel_bits::faults::PolarsError;
+use sel_kernels::gather::sublist::fixed_size_list::sub_fixed_size_list_get_literal;
 use std::alloc::{AllocError, Global};
 
 /// Returns the output of `fixed` for `words`, or `None` if they are invalid.

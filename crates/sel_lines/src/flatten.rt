@@ -15,11 +15,11 @@ use crate::filter::numbers_of;
 use crate::line_errors::memory_error;
 use crate::numbers::parse_size;
 use crate::words::split_at_each;
-use polars_compute::horizontal_flatten::{flatten_is_safe, horizontal_flatten_unchecked};
 use sel_arrow::array::Array;
 use sel_arrow::array_ref::ArrayRef;
 use sel_arrow::primitive::PrimitiveArray;
 use sel_bits::faults::{PolarsError, PolarsResult};
+use sel_kernels::horizontal_flatten::{flatten_is_safe, horizontal_flatten_unchecked};
 use std::alloc::{AllocError, Global};
 
 /// A column and its number of values per output row.

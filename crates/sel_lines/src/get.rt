@@ -5,14 +5,14 @@ ghost use Rattle.sel_lines.specs.Columns.{column_text};
 ghost use Rattle.sel_lines.specs.Get.{get_words};
 ghost use Rattle.sel_lines.specs.Lines.{longest_line};
 ghost use Rattle.sel_lines.specs.ListParts.{AreKept, HasRead};
-ghost use Rattle.polars_compute.specs.Lists.{list_get};
+ghost use Rattle.sel_kernels.specs.Lists.{list_get};
 
 use crate::columns::print_column;
 use crate::filter::numbers_of;
 use crate::line_errors::memory_error;
 use crate::lists::{Lists, parse_lists};
 use crate::numbers::Item;
-use polars_compute::gather::sublist::list::sublist_get;
+use sel_kernels::gather::sublist::list::sublist_get;
 use std::alloc::{AllocError, Global};
 
 /// Returns the output of `get` for `words`, or `None` if they are invalid.

@@ -3,7 +3,7 @@ ghost use Rattle.std.specs.Prelude.{◌≡◌, IfOk, map, option_map, string_byt
 ghost use Rattle.std.specs.List.{list_all};
 ghost use Rattle.sel_lines.specs.Pext.{is_hex_digit, is_hex_word, word_of_hex, pext_words};
 
-use polars_compute::filter::boolean::pext64_polyfill;
+use sel_kernels::filter::boolean::pext64_polyfill;
 use std::alloc::{AllocError, Global};
 
 const MOST_DIGITS: usize = 16;

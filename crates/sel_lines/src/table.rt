@@ -9,20 +9,20 @@ ghost use Rattle.sel_lines.specs.Columns.{all_some, column_of, column_text};
 ghost use Rattle.sel_lines.specs.Lines.{longest_line};
 ghost use Rattle.sel_lines.specs.Numbers.{number_of};
 ghost use Rattle.sel_lines.specs.Rows.{parsed_rows};
-ghost use Rattle.polars_compute.specs.SelectRows.{rows_of_arrays};
+ghost use Rattle.sel_kernels.specs.SelectRows.{rows_of_arrays};
 ghost use Rattle.sel_lines.specs.Table.{columns_text, selected_rows, table_answer, table_words};
 ghost use Rattle.sel_lines.specs.Parts.{AreNumbers};
 
 use crate::columns::{parse_column, print_column};
 use crate::line_errors::memory_error;
 use crate::rows::Rows;
-use polars_compute::select::{select_is_safe, select_rows};
 use sel_arrow::array::Array;
 use sel_arrow::array_ref::ArrayRef;
 use sel_arrow::boolean::BooleanArray;
 use sel_arrow::column::Column;
 use sel_arrow::primitive::IdxArr;
 use sel_bits::faults::PolarsResult;
+use sel_kernels::select::{select_is_safe, select_rows};
 use std::alloc::{AllocError, Global};
 
 /// Returns the output of `table` for `words`, or `None` if they are invalid.

@@ -10,11 +10,11 @@ ghost use Rattle.sel_lines.specs.Take.{take_answer, take_words};
 
 use crate::columns::{parse_column, print_computed};
 use crate::rows::Rows;
-use polars_compute::gather::indices_in_bounds;
-use polars_compute::gather::primitive::take_primitive_unchecked;
 use sel_arrow::array::Array;
 use sel_arrow::primitive::{IdxArr, PrimitiveArray};
 use sel_bits::faults::PolarsResult;
+use sel_kernels::gather::indices_in_bounds;
+use sel_kernels::gather::primitive::take_primitive_unchecked;
 use std::alloc::{AllocError, Global};
 
 /// Returns the output of `take` for `words`, or `None` if they are invalid.

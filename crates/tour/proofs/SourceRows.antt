@@ -2,7 +2,8 @@
 use Rattle.std.proofs.Common.{◌≡◌, true, List, [], ◌∷◌, length, refl, ap, ◌∙◌}
 use Rattle.std.{specs.Prelude.◌==◌, specs.Prelude.◌&&◌, specs.List.list_all, proofs.lemmas.Bool.Decides.Decides-eqb}
 use Rattle.sel_arrow.{specs.Value.Value, specs.Value.Null, proofs.Lists.and_first, proofs.Lists.and_second}
-use Rattle.polars_compute.specs.{Laws.SelectedRowsAreTaken, Pick.pick, SelectRows.select_rows_of}
+use Rattle.polars_compute.specs.Laws.{SelectedRowsAreTaken}
+use Rattle.sel_kernels.specs.{Pick.pick, SelectRows.select_rows_of}
 use Rattle.tour.specs.Together.{rows_at, source_picks}
 
 pub rows_together : SelectedRowsAreTaken → (columns : List (List Value)) (mask indices : List Value) → list_all (λ rows. length rows == length mask) columns ≡ true →

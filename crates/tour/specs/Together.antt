@@ -2,8 +2,8 @@
 use Rattle.std.specs.Prelude.{ℕ, List, [], ◌∷◌, map, Option}
 use Rattle.sel_arrow.specs.Value.{Value, Null}
 use Rattle.polars_compute.specs.Laws.{source_pick}
-use Rattle.polars_compute.specs.Pick.{pick}
-use Rattle.polars_compute.specs.Select.{effective_mask, kept}
+use Rattle.sel_kernels.specs.Pick.{pick}
+use Rattle.sel_kernels.specs.Select.{effective_mask, kept}
 
 -- The source row of each index among the rows that the mask keeps; none for a null index.
 abbrev pub source_picks : List Value → List Value → List (Option (ℕ × ℕ))

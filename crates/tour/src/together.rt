@@ -5,8 +5,8 @@ ghost use Rattle.std.specs.Prelude.{◌≡◌, IsTrue, IfOk, IfErr, count_by, le
 ghost use Rattle.sel_arrow.specs.Columns.{boolean_rows, primitive_rows};
 ghost use Rattle.sel_arrow.specs.Rows.{rows};
 ghost use Rattle.sel_bits.specs.declared.faults.PolarsError.TheVariants as error;
-ghost use Rattle.polars_compute.specs.Select.{is_true};
-ghost use Rattle.polars_compute.specs.SelectRows.{rows_of_arrays, selection_fits};
+ghost use Rattle.sel_kernels.specs.Select.{is_true};
+ghost use Rattle.sel_kernels.specs.SelectRows.{rows_of_arrays, selection_fits};
 ghost use Rattle.tour.specs.Together.{rows_at, source_picks};
 
 use crate::examples::ages;

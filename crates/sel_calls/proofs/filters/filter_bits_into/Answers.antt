@@ -1,5 +1,5 @@
 use Rattle.std.proofs.Common.{◌≡◌, ◌≤◌, ◌*◌, ◌∙◌, length, ap, sym, arith}
-use Rattle.polars_compute.specs.Select.{select}
+use Rattle.sel_kernels.specs.Select.{select}
 use Rattle.sel_calls.proofs.{Common.rows, Common.ArrayRef, Common.Bits, AllKept.all_kept, Made.returns-again, Made.returns-first}
 use Rattle.sel_calls.proofs.filters.filter_bits_into.Goals as goal
 

@@ -1,6 +1,6 @@
 use Rattle.std.proofs.Common.{w64, to_z, of_z}
 use Rattle.sel_calls.proofs.{Entries.get-error, Entries.same-indices, Made.returns-first, Made.returns-made, Made.returns-none}
-use Rattle.polars_compute.specs.Entries.{at_each}
+use Rattle.sel_kernels.specs.Entries.{at_each}
 use Rattle.sel_calls.proofs.fixed.entry_into.Goals as goal
 
 pub returns-in-Ok : goal.returns-in-Ok

@@ -1,6 +1,6 @@
 use Rattle.sel_calls.proofs.Common.{length-map, type_of, Value, Null, ArrayRef, Column, pick, PickFits, Shape, length_mismatch, ExceedsNone, IsLimitOrMemory, picks_from, depth}
 use Rattle.std.proofs.Common.{rules, arith, ◌≡◌, ◌≤◌, ◌<◌, ◌∙◌, All, Bor, ap, sym, subst, map, length, List}
-use Rattle.polars_compute.proofs.Flattening.{as_sources}
+use Rattle.sel_kernels.proofs.Flattening.{as_sources}
 use Rattle.sel_gather.specs.Sources.{first_type}
 use Rattle.sel_calls.proofs.{Depths.first_depth, Alike.alike_columns, Alike.first_same, Alike.of_clones, PickWords.rows_fit, PickWords.rows_had}
 use Rattle.sel_calls.proofs.Made.{returns-failed, returns-first, returns-made, returns-refused}

@@ -1,7 +1,7 @@
 use Rattle.std.proofs.Common.{◌∙◌, ap, sym, subst, length, replicate, w64, to_z, of_z}
 use Rattle.std.proofs.lemmas.Bool.{cond-true, cond-false}
 use Rattle.sel_lines.proofs.{Common.to_z-of_z, Common.IfOk-weaker, Common.Number, Common.column_text, Common.entries_text, ReadBlocks.entries_printed}
-use Rattle.polars_compute.specs.Entries.{at_each, IsGetError}
+use Rattle.sel_kernels.specs.Entries.{at_each, IsGetError}
 use Rattle.sel_lines.proofs.fixed.answer_blocks.Goals as goal
 
 pub returns-in-Ok : goal.returns-in-Ok

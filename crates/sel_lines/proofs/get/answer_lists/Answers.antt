@@ -1,7 +1,7 @@
 use Rattle.std.proofs.Common.{◌∙◌, ap, w64}
 use Rattle.sel_lines.proofs.Common.{to_z-of_z, IfOk-weaker, rows, column_text}
 use Rattle.sel_arrow.specs.NestedArrays.{list_column}
-use Rattle.polars_compute.specs.Lists.{list_get}
+use Rattle.sel_kernels.specs.Lists.{list_get}
 use Rattle.sel_lines.proofs.get.answer_lists.Goals as goal
 
 pub returns-in-Ok : goal.returns-in-Ok

@@ -1,6 +1,6 @@
 use Rattle.std.proofs.Common.{◌∙◌, ap, length}
 use Rattle.sel_arrow.specs.{Columns.boolean_rows, Rows.rows}
-use Rattle.polars_compute.proofs.SelectedRows.{kept_count}
+use Rattle.sel_kernels.proofs.SelectedRows.{kept_count}
 use Rattle.tour.proofs.together.count_kept.Goals as goal
 
 pub returns-clause-count : goal.returns-clause-count

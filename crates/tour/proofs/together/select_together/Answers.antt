@@ -1,6 +1,6 @@
 use Rattle.std.specs.{Prelude.length, Prelude.count_by, Prelude.◌==◌, List.list_all}
 use Rattle.sel_arrow.{specs.Columns.boolean_rows, specs.Columns.primitive_rows, proofs.Lists.and_first}
-use Rattle.polars_compute.specs.{Pick.all_within, Select.is_true, SelectRows.rows_of_arrays}
+use Rattle.sel_kernels.specs.{Pick.all_within, Select.is_true, SelectRows.rows_of_arrays}
 use Rattle.tour.proofs.SourceRows.{rows_together}
 use Rattle.tour.proofs.together.select_together.Goals as goal
 

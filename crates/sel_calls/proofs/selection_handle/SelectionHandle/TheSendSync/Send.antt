@@ -2,7 +2,7 @@
 use denote.Param.Send.{IsSend}
 use Rattle.sel_ffi.proofs.Crossing.{handle_send}
 use Rattle.sel_calls.{proofs.Handles.selections, specs.contracts.selection_handle.SelectionHandle.the_row}
-use Rattle.polars_compute.proofs.filter.selection.Selection.TheSendSync.{the_send}
+use Rattle.sel_kernels.proofs.filter.selection.Selection.TheSendSync.{the_send}
 
 pub send : IsSend the_row
 send = handle_send selections the_send

@@ -1,7 +1,7 @@
 -- Several threads may read through one `SelectionRef` at the same time.
 use denote.Param.Send.{IsSync}
 use Rattle.sel_ffi.proofs.Crossing.{ref_sync}
-use Rattle.polars_compute.proofs.filter.selection.Selection.TheSendSync.{the_sync}
+use Rattle.sel_kernels.proofs.filter.selection.Selection.TheSendSync.{the_sync}
 use Rattle.sel_calls.specs.contracts.selection_ref.SelectionRef.{the_type, the_row}
 
 pub sync : IsSync the_row

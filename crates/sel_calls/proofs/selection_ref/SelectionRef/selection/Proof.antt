@@ -1,7 +1,7 @@
 -- `selection` reads the pointer field, compares it with null, and returns a `&` to the selection for the lifetime of the `&SelectionRef`.
 use Rattle.sel_ffi.proofs.RefShared.{shared}
 use Rattle.sel_calls.proofs.selection_ref.SelectionRef.selection.{Statement.statement, Code.unfolded}
-use Rattle.polars_compute.proofs.filter.selection.Selection.TheLaws as laws
+use Rattle.sel_kernels.proofs.filter.selection.Selection.TheLaws as laws
 use Rattle.sel_calls.specs.contracts.selection_ref.SelectionRef as reference
 
 pub selection_spec : {M : Type 1} → statement M

@@ -1,6 +1,0 @@
--- Loop invariant: the blocks at the indices so far.
-use Rattle.polars_compute.proofs.Common.{◌≡◌, take, primitive_rows, block_items}
-use Rattle.polars_compute.proofs.gather.blocks.take_sized.Given as goal
-
-abbrev pub invariant-loop-k : goal.invariant-loop-k
-invariant-loop-k g l = l.taken.items ≡ block_items g.row.N l.zero l.values (take l.k (primitive_rows l.indices))

@@ -1,7 +1,0 @@
-use Rattle.polars_compute.proofs.{Common.arith, Elements.few_lists}
-use Rattle.polars_compute.proofs.gather.sublist.list.ListPlacesPlaces.len.Goals as goal
-
-pub returns-clause-few : goal.returns-clause-few
-returns-clause-few c =
-    let arr = c.args.self.now.arr.now in
-    omega (arith, c.len_proxy.ensures.count, few_lists arr.offsets arr.values arr.validity arr.formed c.args.self.now.index)

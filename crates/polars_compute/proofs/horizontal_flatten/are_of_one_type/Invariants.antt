@@ -1,6 +1,0 @@
--- Loop invariant: the columns so far have the type of the first.
-use Rattle.polars_compute.proofs.Common.{◌≡◌, All, take, type_of}
-use Rattle.polars_compute.proofs.horizontal_flatten.are_of_one_type.Given as goal
-
-abbrev pub invariant-loop-array : goal.invariant-loop-array
-invariant-loop-array l = All (λ a. type_of a.column ≡ type_of l.first.column) (take l.array-index l.arrays)

@@ -1,6 +1,0 @@
--- Loop invariant: the columns so far.
-use Rattle.polars_compute.proofs.Common.{◌≡◌, map, take}
-use Rattle.polars_compute.proofs.horizontal_flatten.columns_of.Given as goal
-
-abbrev pub invariant-loop-array : goal.invariant-loop-array
-invariant-loop-array l = map (λ c. c.now) l.found.items ≡ map (λ a. a.column) (take l.array-index l.arrays)

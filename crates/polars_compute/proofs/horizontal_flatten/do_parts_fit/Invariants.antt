@@ -1,6 +1,0 @@
--- Loop invariant: the result depends only on the remaining columns.
-use Rattle.polars_compute.proofs.Common.{◌≡◌, drop, map, rows, parts_fit}
-use Rattle.polars_compute.proofs.horizontal_flatten.do_parts_fit.Given as goal
-
-abbrev pub invariant-loop-s : goal.invariant-loop-s
-invariant-loop-s l = parts_fit l.height (drop l.s (map (λ a. rows a.column) l.arrays)) (drop l.s l.widths) ≡ parts_fit l.height (map (λ a. rows a.column) l.arrays) l.widths

@@ -1,0 +1,12 @@
+pub mod BlockTakes
+pub mod Common
+pub mod Dictionaries
+pub mod Elements
+pub mod Flattening
+pub mod KeptColumns
+pub mod RowNeeds
+pub mod SelectedRows
+pub mod Selects
+pub mod TakenSpans
+pub mod TakenStructs
+pub mod Takes

@@ -1,0 +1,6 @@
+-- Loop invariant: the columns so far.
+use Rattle.sel_kernels.proofs.Common.{◌≡◌, map, take}
+use Rattle.sel_kernels.proofs.horizontal_flatten.columns_of.Given as goal
+
+abbrev pub invariant-loop-array : goal.invariant-loop-array
+invariant-loop-array l = map (λ c. c.now) l.found.items ≡ map (λ a. a.column) (take l.array-index l.arrays)
