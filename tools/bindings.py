@@ -1,8 +1,10 @@
 #!/usr/bin/env python3
 """Tests the code around the C library that `make lib` has built: the Arrow interface, the examples, the Rust and the Python package.
 
-tools/bindings.py                         everything; missing optional dependencies are reported, and what needs them is skipped
-tools/bindings.py c|rust|python|dask|gdal ..   only these parts
+tools/bindings.py                                    everything; missing optional dependencies are reported, and what needs them is skipped
+tools/bindings.py c|rust|python|wheel|dask|gdal ..   only these parts
+
+What cargo and mypy keep between runs is in build/cargo and build/mypy.
 """
 
 from __future__ import annotations
@@ -103,7 +105,7 @@ def try_rust(folder: pathlib.Path) -> None:
     if not has("cargo"):
         return left_out("the Rust package")
     crate = ROOT / "bindings" / "rust"
-    env = {**os.environ, "SEL_LIBRARY_DIR": str(BUILD), "CARGO_TARGET_DIR": str(folder / "rust"), "RUSTFLAGS": "-D warnings"}
+    env = {**os.environ, "SEL_LIBRARY_DIR": str(BUILD), "CARGO_TARGET_DIR": str(BUILD / "cargo"), "RUSTFLAGS": "-D warnings"}
     if subprocess.run(["cargo", "clippy", "--version"], cwd=crate, stdout=subprocess.DEVNULL, stderr=subprocess.DEVNULL, check=False).returncode == 0:
         run("cargo", "clippy", "--offline", "--quiet", "--all-targets", "--", "-D", "warnings", cwd=crate, env=env)
     else:
@@ -123,12 +125,12 @@ def counting_library(folder: pathlib.Path) -> pathlib.Path:
     return library
 
 
-def check_types(folder: pathlib.Path) -> None:
+def check_types() -> None:
     """Checks the types of the Python package, of its tests, and of the tools."""
     if not has("mypy", "numpy"):
         return left_out("mypy over the Python package")
     package, tools = ROOT / "bindings" / "python", ROOT / "tools"
-    mypy = ["mypy", "--strict", "--no-error-summary", "--cache-dir", folder / "mypy"]
+    mypy = ["mypy", "--strict", "--no-error-summary", "--cache-dir", BUILD / "mypy"]
     of_package = [path for folder in ("sel", "bench", "build_backend", "tests") for path in sorted((package / folder).glob("*.py"))]
     of_tools = [path for folder in (tools, tools / "bench", tools / "refuse") for path in sorted(folder.glob("*.py"))]
     for files in (of_package, of_tools):
@@ -136,18 +138,29 @@ def check_types(folder: pathlib.Path) -> None:
     print("the types of the Python package and of the tools: ok")
 
 
-def try_python(folder: pathlib.Path) -> None:
+def python_env() -> dict[str, str]:
+    """Returns the environment in which Python finds the package of the repository and the built library."""
     package = ROOT / "bindings" / "python"
-    env = {**os.environ, "SEL_LIBRARY": str(BUILD / "libsel.so"), "PYTHONPATH": str(package), "PYTHONDONTWRITEBYTECODE": "1"}
-    check_types(folder)
+    return {**os.environ, "SEL_LIBRARY": str(BUILD / "libsel.so"), "PYTHONPATH": str(package), "PYTHONDONTWRITEBYTECODE": "1"}
+
+
+def try_python(folder: pathlib.Path) -> None:
+    package, env = ROOT / "bindings" / "python", python_env()
+    check_types()
     if not has("numpy"):
         left_out("conversion from and to numpy arrays")
     run(PYTHON, "-m", "unittest", "discover", "-s", package / "tests", cwd=folder, env=env)
     run(PYTHON, package / "tests" / "refused_allocations.py", cwd=folder, env={**env, "SEL_LIBRARY": str(counting_library(folder))})
     for name in ("filter_take.py", "when_then.py"):
         prints(name, run(PYTHON, EXAMPLES / name, env=env))
+    print("the Python package: ok")
+
+
+def try_wheel(folder: pathlib.Path) -> None:
+    """Runs the tests of the Python package over its wheel and over an editable install, in an environment of their own."""
     if not has("venv"):
         return left_out("the wheel in a virtual environment")
+    package, env = ROOT / "bindings" / "python", python_env()
     wheel = folder / run(PYTHON, package / "build_backend" / "wheel_of_sel.py", folder, env=env).strip()
     run(PYTHON, "-m", "venv", folder / "venv")
     own = folder / "venv" / "bin" / "python"
@@ -160,14 +173,13 @@ def try_python(folder: pathlib.Path) -> None:
     found = run(own, "-c", "import sel; print(sel.__file__, sel.Column([1, None]))", cwd=folder, env=plain)
     if found != f"{package / 'sel' / '__init__.py'} [1,null]\n":
         sys.exit(f"pip install --editable: {found}")
-    print(f"the Python package and its wheel {wheel.name}: ok")
+    print(f"the wheel {wheel.name}: ok")
 
 
 def try_dask(folder: pathlib.Path) -> None:
     if not has("numpy", "dask"):
         return left_out("examples/partitions_dask.py")
-    env = {**os.environ, "SEL_LIBRARY": str(BUILD / "libsel.so"), "PYTHONPATH": str(ROOT / "bindings" / "python"), "PYTHONDONTWRITEBYTECODE": "1"}
-    prints("partitions_dask.py", run(PYTHON, EXAMPLES / "partitions_dask.py", cwd=folder, env=env, timeout=300))
+    prints("partitions_dask.py", run(PYTHON, EXAMPLES / "partitions_dask.py", cwd=folder, env=python_env(), timeout=300))
 
 
 def try_gdal(folder: pathlib.Path) -> None:
@@ -180,7 +192,7 @@ def try_gdal(folder: pathlib.Path) -> None:
     print(run(program, folder), end="")
 
 
-PARTS = {"c": try_c, "rust": try_rust, "python": try_python, "dask": try_dask, "gdal": try_gdal}
+PARTS = {"c": try_c, "rust": try_rust, "python": try_python, "wheel": try_wheel, "dask": try_dask, "gdal": try_gdal}
 
 
 def main() -> None:

@@ -201,14 +201,15 @@ AFTER_LIBRARY = [
     ("tests in C", ["tools/clib.py", "--test"]),
     ("fuzz targets", ["tools/fuzz.py", "--check"]),
     ("Rust package", ["tools/bindings.py", "rust"]),
+    ("Python wheel", ["tools/bindings.py", "wheel"]),
     ("Arrow interface in C", ["tools/bindings.py", "c"]),
     ("Dask example", ["tools/bindings.py", "dask"]),
     ("random columns", ["tools/soak.py", "--check"]),
     ("archive", ["tools/dist.py", "--check"]),
     ("Arrow streams of GDAL", ["tools/bindings.py", "gdal"]),
 ]
-# of these, what `make check` leaves out, since it has commands of its own: make fuzz, make soak, make dist
-NOT_FAST = {"fuzz targets", "random columns", "archive"}
+# of these, what `make check` leaves out, since it has commands of its own: make fuzz, make soak, make dist, tools/bindings.py wheel
+NOT_FAST = {"fuzz targets", "random columns", "archive", "Python wheel"}
 # these run the program bench_internals too
 AFTER_BOTH = [
     ("benchmark answers", ["tools/bench/run.py", "quick"]),
