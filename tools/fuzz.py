@@ -2,7 +2,7 @@
 """Runs the fuzz targets of tests/fuzz over the C library: libFuzzer with AddressSanitizer and UndefinedBehaviorSanitizer.
 
 tools/fuzz.py [--minutes N] [TARGET ..]   each target, at once, for N minutes (1 if no number is given), from the stored inputs
-tools/fuzz.py --check                     each for ten seconds: what `make test` runs
+tools/fuzz.py --check                     each for five seconds: what `make test` runs
 tools/fuzz.py --store                     stores a small set of the inputs with the same coverage, and every input that failed
 
 TARGET is `arrow`, `calls` or `text`. The C code around the library and the test code are instrumented; the proved functions are linked
@@ -163,7 +163,7 @@ def main() -> int:
         sys.exit("build/libsel.a is not there: make lib builds it")
     if given.store:
         return store(targets)
-    return run_all(targets, 10 if given.check else round(60 * given.minutes))
+    return run_all(targets, 5 if given.check else round(60 * given.minutes))
 
 
 if __name__ == "__main__":

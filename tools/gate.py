@@ -7,7 +7,7 @@ tools/gate.py check   proves what has changed over cached proofs and runs the fa
 tools/gate.py setup   installs the optional programs and libraries that the checks use: what `make setup` runs
 
 Checks that need only some of the proved libraries run while `rt ci` runs, as soon as those are proved, at a lower priority. (The C
-library is built at the same priority as the proofs, since ten checks wait for it.) The others run after `rt ci`. The table
+library is built at the same priority as the proofs, since eleven checks wait for it.) The others run after `rt ci`. The table
 lists what a check leaves out because an optional dependency is missing.
 """
 
