@@ -1,8 +1,8 @@
 #!/usr/bin/env python3
 """Tests the code around the C library that `make lib` has built: the Arrow interface, the examples, the Rust and the Python package.
 
-tools/bindings.py                                    everything; missing optional dependencies are reported, and what needs them is skipped
-tools/bindings.py c|rust|python|wheel|dask|gdal ..   only these parts
+tools/bindings.py            everything; missing optional dependencies are reported, and what needs them is skipped
+tools/bindings.py PART ..    only these parts: c, rust, python, wheel, dask, gdal; types and lint, which read the sources alone
 
 What cargo and mypy keep between runs is in build/cargo and build/mypy.
 """
@@ -15,6 +15,7 @@ import shutil
 import subprocess
 import sys
 import tempfile
+from concurrent.futures import ThreadPoolExecutor
 
 ROOT = pathlib.Path(__file__).resolve().parent.parent
 sys.dont_write_bytecode = True
@@ -101,16 +102,28 @@ def try_c(folder: pathlib.Path) -> None:
     print("arrow_test.c and the examples under valgrind: ok")
 
 
-def try_rust(folder: pathlib.Path) -> None:
+def rust_env() -> dict[str, str]:
+    """Returns the environment in which cargo finds the built library, and builds into build/cargo."""
+    return {**os.environ, "SEL_LIBRARY_DIR": str(BUILD), "CARGO_TARGET_DIR": str(BUILD / "cargo"), "RUSTFLAGS": "-D warnings"}
+
+
+def lint_rust(_folder: pathlib.Path) -> None:
+    """Runs clippy over the Rust package and writes its documentation, without the library."""
     if not has("cargo"):
-        return left_out("the Rust package")
-    crate = ROOT / "bindings" / "rust"
-    env = {**os.environ, "SEL_LIBRARY_DIR": str(BUILD), "CARGO_TARGET_DIR": str(BUILD / "cargo"), "RUSTFLAGS": "-D warnings"}
+        return left_out("clippy over the Rust package, and its documentation")
+    crate, env = ROOT / "bindings" / "rust", rust_env()
     if subprocess.run(["cargo", "clippy", "--version"], cwd=crate, stdout=subprocess.DEVNULL, stderr=subprocess.DEVNULL, check=False).returncode == 0:
         run("cargo", "clippy", "--offline", "--quiet", "--all-targets", "--", "-D", "warnings", cwd=crate, env=env)
     else:
         left_out("clippy over the Rust package")
     run("cargo", "doc", "--offline", "--quiet", "--no-deps", cwd=crate, env={**env, "RUSTDOCFLAGS": "-D warnings"})
+    print("clippy and the documentation of the Rust package: ok")
+
+
+def try_rust(folder: pathlib.Path) -> None:
+    if not has("cargo"):
+        return left_out("the Rust package")
+    crate, env = ROOT / "bindings" / "rust", rust_env()
     run("cargo", "test", "--offline", "--quiet", cwd=crate, env=env)
     for name in ("filter", "threads"):
         prints(f"{name}.rs", run("cargo", "run", "--offline", "--quiet", "--example", name, cwd=crate, env=env))
@@ -125,7 +138,7 @@ def counting_library(folder: pathlib.Path) -> pathlib.Path:
     return library
 
 
-def check_types() -> None:
+def check_types(_folder: pathlib.Path) -> None:
     """Checks the types of the Python package, of its tests, and of the tools."""
     if not has("mypy", "numpy"):
         return left_out("mypy over the Python package")
@@ -146,11 +159,13 @@ def python_env() -> dict[str, str]:
 
 def try_python(folder: pathlib.Path) -> None:
     package, env = ROOT / "bindings" / "python", python_env()
-    check_types()
     if not has("numpy"):
         left_out("conversion from and to numpy arrays")
-    run(PYTHON, "-m", "unittest", "discover", "-s", package / "tests", cwd=folder, env=env)
-    run(PYTHON, package / "tests" / "refused_allocations.py", cwd=folder, env={**env, "SEL_LIBRARY": str(counting_library(folder))})
+    counting = {**env, "SEL_LIBRARY": str(counting_library(folder))}
+    with ThreadPoolExecutor(1) as pool:
+        refused = pool.submit(run, PYTHON, package / "tests" / "refused_allocations.py", cwd=folder, env=counting)
+        run(PYTHON, "-m", "unittest", "discover", "-s", package / "tests", cwd=folder, env=env)
+        refused.result()
     for name in ("filter_take.py", "when_then.py"):
         prints(name, run(PYTHON, EXAMPLES / name, env=env))
     print("the Python package: ok")
@@ -192,14 +207,15 @@ def try_gdal(folder: pathlib.Path) -> None:
     print(run(program, folder), end="")
 
 
-PARTS = {"c": try_c, "rust": try_rust, "python": try_python, "wheel": try_wheel, "dask": try_dask, "gdal": try_gdal}
+PARTS = {"types": check_types, "lint": lint_rust, "c": try_c, "rust": try_rust, "python": try_python, "wheel": try_wheel, "dask": try_dask, "gdal": try_gdal}
+WITHOUT_LIBRARY = {"types", "lint"}
 
 
 def main() -> None:
     words = sys.argv[1:] or list(PARTS)
     if not set(words) <= set(PARTS):
         sys.exit(__doc__)
-    if not (BUILD / "libsel.a").exists():
+    if not set(words) <= WITHOUT_LIBRARY and not (BUILD / "libsel.a").exists():
         sys.exit("build/libsel.a is missing: make lib builds it")
     folder = pathlib.Path(tempfile.mkdtemp())
     try:

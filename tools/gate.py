@@ -194,6 +194,11 @@ DOCUMENTS = [
     ("toolchain", ["tools/toolchain.py", "--check"]),
     ("report of make lib", ["tools/libraries.py", "--check"]),
 ]
+# these read sources alone: `make check` runs them while it builds the C library
+LINTS = [
+    ("Rust lint", ["tools/bindings.py", "lint"]),
+    ("Python types", ["tools/bindings.py", "types"]),
+]
 # the longest first
 AFTER_LIBRARY = [
     ("Python package", ["tools/bindings.py", "python"]),
@@ -203,13 +208,15 @@ AFTER_LIBRARY = [
     ("Rust package", ["tools/bindings.py", "rust"]),
     ("Python wheel", ["tools/bindings.py", "wheel"]),
     ("Arrow interface in C", ["tools/bindings.py", "c"]),
+    *LINTS,
     ("Dask example", ["tools/bindings.py", "dask"]),
     ("random columns", ["tools/soak.py", "--check"]),
     ("archive", ["tools/dist.py", "--check"]),
     ("Arrow streams of GDAL", ["tools/bindings.py", "gdal"]),
 ]
-# of these, what `make check` leaves out, since it has commands of its own: make fuzz, make soak, make dist, tools/bindings.py wheel
-NOT_FAST = {"fuzz targets", "random columns", "archive", "Python wheel"}
+# of these, what `make check` leaves out, since it has commands of its own: tools/clib.py --test, make fuzz, make soak, make dist,
+# tools/bindings.py wheel
+NOT_FAST = {"tests in C", "fuzz targets", "random columns", "archive", "Python wheel"}
 # these run the program bench_internals too
 AFTER_BOTH = [
     ("benchmark answers", ["tools/bench/run.py", "quick"]),
@@ -289,12 +296,13 @@ def run_all(anew: bool) -> int:
 
 
 def run_fast() -> int:
-    """Proves what has changed over cached proofs and builds the C library, checks the documents meanwhile, and then runs the fast checks side by side."""
-    fast = [check for check in AFTER_LIBRARY if check[0] not in NOT_FAST]
-    board = Board(1 + len(DOCUMENTS) + len(fast))
+    """Proves what has changed over cached proofs and builds the C library, checks the documents and other sources meanwhile, and then runs the fast checks side by side."""
+    sources = [*DOCUMENTS, *LINTS]
+    fast = [check for check in AFTER_LIBRARY if check[0] not in NOT_FAST and check not in LINTS]
+    board = Board(1 + len(sources) + len(fast))
     with ThreadPoolExecutor(len(fast)) as pool:
         built = pool.submit(run_check, board, "C library", ["tools/clib.py"])
-        for name, command in DOCUMENTS:
+        for name, command in sources:
             run_check(board, name, command, beside=True)
         for name, command in fast if built.result() else []:
             pool.submit(run_check, board, name, command)

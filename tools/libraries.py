@@ -97,12 +97,15 @@ class Build:
 
     def prove(self, crate: Crate) -> bool:
         """Runs the toolchain on a crate and keeps its verdict; returns whether it succeeded."""
-        words = [self.rt, "lib", *jobs(), *(self.options if crate.name == TOP else [])]
+        folder = self.root / "crates" / crate.name
+        # a crate that was proved before has little to prove, which one process does sooner; but `sel_c` calls all that changed
+        is_new = crate.name == TOP or not (folder / "out" / "incremental").exists()
+        words = [self.rt, "lib", *(jobs() if is_new else []), *(self.options if crate.name == TOP else [])]
         ended = threading.Event()
         reporter = threading.Thread(target=self.report, args=(crate, ended))
         reporter.start()
         try:
-            with subprocess.Popen(words, cwd=self.root / "crates" / crate.name, text=True, errors="replace", stdin=subprocess.DEVNULL,
+            with subprocess.Popen(words, cwd=folder, text=True, errors="replace", stdin=subprocess.DEVNULL,
                                   stdout=subprocess.PIPE, stderr=subprocess.STDOUT) as ran:
                 for line in ran.stdout or ():
                     crate.note(line)

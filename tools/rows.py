@@ -19,6 +19,7 @@ import subprocess
 import sys
 import tempfile
 import time
+from concurrent.futures import ThreadPoolExecutor
 from typing import Dict, List, NamedTuple, Optional, Tuple
 
 ROOT = pathlib.Path(__file__).resolve().parent.parent
@@ -97,21 +98,20 @@ def run(program: pathlib.Path, *words: str, fault: Optional[str] = None, under: 
     return Counts(lines, cases, refused, failed, done.returncode)
 
 
-def run_checked(library: pathlib.Path, plain: pathlib.Path) -> Tuple[bool, str]:
-    """Runs all files with sanitizers and under valgrind. Returns whether nothing failed, and what was run."""
-    is_right, said = True, []
-    if has_sanitizers():
-        is_right = run(build(library, "rows_sanitized", ["-O1", *SANITIZERS])).status == 0
-        said.append("the same with sanitizers" if is_right else "FAILED with sanitizers")
-    else:
-        said.append("not run with sanitizers, which the compiler lacks")
+def run_sanitized(library: pathlib.Path) -> Tuple[bool, str]:
+    """Runs all files with sanitizers. Returns whether nothing failed, and what was run."""
+    if not has_sanitizers():
+        return True, "not run with sanitizers, which the compiler lacks"
+    is_right = run(build(library, "rows_sanitized", ["-O1", *SANITIZERS])).status == 0
+    return is_right, "the same with sanitizers" if is_right else "FAILED with sanitizers"
+
+
+def run_under_valgrind(plain: pathlib.Path) -> Tuple[bool, str]:
+    """Runs all files at one offset under valgrind. Returns whether nothing failed, and what was run."""
     if shutil.which("valgrind") is None:
-        said.append("not run under valgrind, which is missing")
-    else:
-        under = run(plain, "--layout", "7", "--no-refusals", under=VALGRIND)
-        is_right = is_right and under.status == 0
-        said.append(f"{under.cases} cases under valgrind" if under.status == 0 else "FAILED under valgrind")
-    return is_right, "; ".join(said)
+        return True, "not run under valgrind, which is missing"
+    under = run(plain, "--layout", "7", "--no-refusals", under=VALGRIND)
+    return under.status == 0, f"{under.cases} cases under valgrind" if under.status == 0 else "FAILED under valgrind"
 
 
 def read_faults() -> List[Fault]:
@@ -155,12 +155,15 @@ def main() -> None:
     BUILD.mkdir(exist_ok=True)
     start = time.monotonic()
     plain = build(library, "rows", ["-O1"])
-    counts = run(plain)
-    is_checked, said = run_checked(library, plain)
-    wrong = run(plain, "--must-fail", str(TESTS / "wrong.txt"))
-    faults = read_faults()
-    missed = missed_faults(library, faults)
-    is_right = counts.status == 0 and is_checked and wrong.status == 0 and not missed
+    with ThreadPoolExecutor(2) as pool:
+        checks = [pool.submit(run_sanitized, library), pool.submit(run_under_valgrind, plain)]
+        counts = run(plain)
+        wrong = run(plain, "--must-fail", str(TESTS / "wrong.txt"))
+        faults = read_faults()
+        missed = missed_faults(library, faults)
+        checked = [check.result() for check in checks]
+    said = "; ".join(what for _, what in checked)
+    is_right = counts.status == 0 and all(is_checked for is_checked, _ in checked) and wrong.status == 0 and not missed
     print(f"rows: {'ok' if is_right else 'FAILED'}: {counts.lines} lines, {counts.cases} cases, {counts.refused} allocations refused, "
           f"{counts.failed} failed; {said}; {wrong.lines - wrong.failed} of {wrong.lines} wrong lines and "
           f"{len(faults) - len(missed)} of {len(faults)} faults found; {time.monotonic() - start:.0f} seconds")
