@@ -221,17 +221,17 @@ static void test_selections(void) {
     sel_free(&out);
 }
 
-/* Checks a filter of all rows: it has added the block of its handle alone, and its result outlives the column. */
-static void shares(sel_status status, sel_column *column, sel_column *kept, long before) {
+/* Checks a call that copies no values: it has added so many blocks, and its result, the first rows of tens, outlives the column. */
+static void shares(sel_status status, sel_column *column, sel_column *result, long before, long more, size_t rows) {
     const int64_t all[4] = {10, 20, 30, 40};
     IS(done(status));
     if (status == SEL_OK) {
-        IS(blocks_in_use() == before + 1);
+        IS(blocks_in_use() == before + more);
         sel_free(column);
-        IS(holds(kept, all, 4));
+        IS(holds(result, all, rows));
     }
     sel_free(column);
-    sel_free(kept);
+    sel_free(result);
 }
 
 static void test_filters_of_all_rows(void) {
@@ -247,7 +247,7 @@ static void test_filters_of_all_rows(void) {
         const sel_status status = call == 0 ? sel_filter(&column, &mask, &kept)
                                   : call == 1 ? sel_filter_selection(&column, &by, &kept)
                                               : sel_filter_bits(&column, bits, 1, 4, &kept);
-        shares(status, &column, &kept, before);
+        shares(status, &column, &kept, before, 1, 4);
     }
     sel_free(&mask);
     sel_selection_free(&by);
@@ -264,12 +264,47 @@ static void test_choices_of_one_side(void) {
         if (mask.at != NULL && whole.at != NULL && other.at != NULL) {
             const long before = blocks_in_use();
             const sel_status status = side == 0 ? sel_if_then_else(&mask, &whole, &other, &kept) : sel_if_then_else(&mask, &other, &whole, &kept);
-            shares(status, &whole, &kept, before);
+            shares(status, &whole, &kept, before, 1, 4);
         }
         sel_free(&mask);
         sel_free(&whole);
         sel_free(&other);
     }
+}
+
+/* Calls on one row copy no values: the result shares the column, or, if the row is not kept, its buffers. */
+static void test_calls_on_one_row(void) {
+    const uint8_t bits[1] = {0}, set[1] = {1};
+    const int64_t ten[1] = {10}, two[1] = {2};
+    const uint32_t first[1] = {0};
+    sel_column kept = {0}, not_kept = {0}, other = {0}, at = {0};
+    sel_selection none = {0};
+    DONE(sel_boolean_new(set, 1, 1, SEL_ALL_VALID, &kept));
+    DONE(sel_boolean_new(bits, 1, 1, SEL_ALL_VALID, &not_kept));
+    DONE(sel_int64_new(two, 1, SEL_ALL_VALID, &other));
+    DONE(sel_uint32_new(first, 1, SEL_ALL_VALID, &at));
+    DONE(sel_selection_of_bits(bits, 1, 1, &none));
+    for (int call = 0; call < 8 && kept.at != NULL && not_kept.at != NULL && other.at != NULL && at.at != NULL && none.at != NULL; call++) {
+        sel_column column = {0}, out = {0};
+        DONE(sel_int64_new(ten, 1, SEL_ALL_VALID, &column));
+        if (column.at == NULL) break;
+        const long before = blocks_in_use();
+        switch (call) {
+        case 0: shares(sel_filter(&column, &kept, &out), &column, &out, before, 1, 1); break;
+        case 1: shares(sel_filter(&column, &not_kept, &out), &column, &out, before, 2, 0); break;
+        case 2: shares(sel_filter_selection(&column, &none, &out), &column, &out, before, 2, 0); break;
+        case 3: shares(sel_take(&column, &at, &out), &column, &out, before, 1, 1); break;
+        case 4: shares(sel_if_then_else_broadcast_true(&kept, &column, &other, &out), &column, &out, before, 1, 1); break;
+        case 5: shares(sel_if_then_else_broadcast_true(&not_kept, &other, &column, &out), &column, &out, before, 1, 1); break;
+        case 6: shares(sel_if_then_else_broadcast_false(&not_kept, &other, &column, &out), &column, &out, before, 1, 1); break;
+        default: shares(sel_if_then_else_broadcast_both(&kept, &column, &other, &out), &column, &out, before, 1, 1); break;
+        }
+    }
+    sel_free(&kept);
+    sel_free(&not_kept);
+    sel_free(&other);
+    sel_free(&at);
+    sel_selection_free(&none);
 }
 
 static void test_takes(void) {
@@ -543,7 +578,7 @@ static void test_short_validities(void) {
 
 static void (*const tests[])(void) = {
     test_nulls, test_booleans, test_int8, test_int16, test_int32, test_int64, test_uint8, test_uint16, test_uint32,
-    test_uint64, test_int128, test_uint128, test_whole, test_filters, test_selections, test_filters_of_all_rows, test_choices_of_one_side, test_takes, test_reverse, test_bytes,
+    test_uint64, test_int128, test_uint128, test_whole, test_filters, test_selections, test_filters_of_all_rows, test_choices_of_one_side, test_calls_on_one_row, test_takes, test_reverse, test_bytes,
     test_lists, test_structs, test_views, test_choices, test_broadcasts, test_chosen_kinds, test_flattens, test_collected_rows, test_dictionaries, test_equal_rows, test_prints, test_prints_types,
     test_parses, test_misread_texts, test_parse_memory, test_flatten_limits, test_list_limits, test_empty_inputs, test_empty_outputs, test_strings,
     test_short_validities,

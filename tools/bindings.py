@@ -2,9 +2,9 @@
 """Tests the code around the C library that `make lib` has built: the Arrow interface, the examples, the Rust and the Python package.
 
 tools/bindings.py            everything; missing optional dependencies are reported, and what needs them is skipped
-tools/bindings.py PART ..    only these parts: c, rust, python, wheel, dask, gdal; types and lint, which read the sources alone
+tools/bindings.py PART ..    only these parts: c, rust, rust_docs, python, wheel, dask, gdal; types and lint, which read the sources alone
 
-What cargo and mypy keep between runs is in build/cargo and build/mypy.
+SEL_BUILD names another folder than build/. What cargo and mypy keep between runs is in its folders cargo and mypy.
 """
 
 from __future__ import annotations
@@ -21,9 +21,8 @@ ROOT = pathlib.Path(__file__).resolve().parent.parent
 sys.dont_write_bytecode = True
 sys.path.insert(0, str(ROOT / "tools"))
 
-from package import ARROW_SOURCES  # noqa: E402
+from package import ARROW_SOURCES, BUILD  # noqa: E402
 
-BUILD = ROOT / "build"
 EXAMPLES = ROOT / "examples"
 CC = os.environ.get("CC", "cc")
 CFLAGS = ["-std=c11", "-g", "-Wall", "-Wextra", "-pedantic", "-Werror", "-I", str(ROOT / "include")]
@@ -103,8 +102,8 @@ def try_c(folder: pathlib.Path) -> None:
 
 
 def rust_env() -> dict[str, str]:
-    """Returns the environment in which cargo finds the built library, and builds into build/cargo."""
-    return {**os.environ, "SEL_LIBRARY_DIR": str(BUILD), "CARGO_TARGET_DIR": str(BUILD / "cargo"), "RUSTFLAGS": "-D warnings"}
+    """Returns the environment in which cargo finds the built library, and builds beside it."""
+    return {**os.environ, "SEL_LIBRARY_DIR": str(BUILD), "LD_LIBRARY_PATH": str(BUILD), "CARGO_TARGET_DIR": str(BUILD / "cargo"), "RUSTFLAGS": "-D warnings"}
 
 
 def lint_rust(_folder: pathlib.Path) -> None:
@@ -124,10 +123,18 @@ def try_rust(folder: pathlib.Path) -> None:
     if not has("cargo"):
         return left_out("the Rust package")
     crate, env = ROOT / "bindings" / "rust", rust_env()
-    run("cargo", "test", "--offline", "--quiet", cwd=crate, env=env)
+    run("cargo", "test", "--offline", "--quiet", "--lib", "--tests", "--examples", cwd=crate, env=env)
     for name in ("filter", "threads"):
         prints(f"{name}.rs", run("cargo", "run", "--offline", "--quiet", "--example", name, cwd=crate, env=env))
     print("the Rust package: ok")
+
+
+def try_rust_docs(folder: pathlib.Path) -> None:
+    """Runs the examples in the documentation of the Rust package, each of which rustdoc compiles as a program of its own."""
+    if not has("cargo"):
+        return left_out("the examples in the documentation of the Rust package")
+    run("cargo", "test", "--offline", "--quiet", "--doc", cwd=ROOT / "bindings" / "rust", env=rust_env())
+    print("the examples in the documentation of the Rust package: ok")
 
 
 def counting_library(folder: pathlib.Path) -> pathlib.Path:
@@ -162,10 +169,17 @@ def try_python(folder: pathlib.Path) -> None:
     if not has("numpy"):
         left_out("conversion from and to numpy arrays")
     counting = {**env, "SEL_LIBRARY": str(counting_library(folder))}
-    with ThreadPoolExecutor(1) as pool:
-        refused = pool.submit(run, PYTHON, package / "tests" / "refused_allocations.py", cwd=folder, env=counting)
-        run(PYTHON, "-m", "unittest", "discover", "-s", package / "tests", cwd=folder, env=env)
-        refused.result()
+    tests = package / "tests"
+    names = sorted(path.stem for path in tests.glob("test_*.py"))
+    names.remove("test_rows")
+    # the conformance suite, and the others in two parts that take about as long
+    parts = [["test_rows"], names[::2], names[1::2]]
+    with ThreadPoolExecutor(len(parts)) as pool:
+        unit = {**env, "PYTHONPATH": f"{tests}:{package}"}
+        running = [pool.submit(run, PYTHON, "-m", "unittest", *part, cwd=folder, env=unit) for part in parts]
+        run(PYTHON, tests / "refused_allocations.py", cwd=folder, env=counting)
+        for part in running:
+            part.result()
     for name in ("filter_take.py", "when_then.py"):
         prints(name, run(PYTHON, EXAMPLES / name, env=env))
     print("the Python package: ok")
@@ -207,7 +221,7 @@ def try_gdal(folder: pathlib.Path) -> None:
     print(run(program, folder), end="")
 
 
-PARTS = {"types": check_types, "lint": lint_rust, "c": try_c, "rust": try_rust, "python": try_python, "wheel": try_wheel, "dask": try_dask, "gdal": try_gdal}
+PARTS = {"types": check_types, "lint": lint_rust, "c": try_c, "rust": try_rust, "rust_docs": try_rust_docs, "python": try_python, "wheel": try_wheel, "dask": try_dask, "gdal": try_gdal}
 WITHOUT_LIBRARY = {"types", "lint"}
 
 

@@ -206,6 +206,7 @@ AFTER_LIBRARY = [
     ("tests in C", ["tools/clib.py", "--test"]),
     ("fuzz targets", ["tools/fuzz.py", "--check"]),
     ("Rust package", ["tools/bindings.py", "rust"]),
+    ("examples of the Rust documentation", ["tools/bindings.py", "rust_docs"]),
     ("Python wheel", ["tools/bindings.py", "wheel"]),
     ("Arrow interface in C", ["tools/bindings.py", "c"]),
     *LINTS,
@@ -215,8 +216,9 @@ AFTER_LIBRARY = [
     ("Arrow streams of GDAL", ["tools/bindings.py", "gdal"]),
 ]
 # of these, what `make check` leaves out, since it has commands of its own: tools/clib.py --test, make fuzz, make soak, make dist,
-# tools/bindings.py wheel
-NOT_FAST = {"tests in C", "fuzz targets", "random columns", "archive", "Python wheel"}
+# tools/bindings.py wheel, rust_docs and dask
+NOT_FAST = {"tests in C", "fuzz targets", "random columns", "archive", "Python wheel", "examples of the Rust documentation", "Dask example"}
+FAST_OPTIONS = {"conformance suite": ["--fast"]}
 # these run the program bench_internals too
 AFTER_BOTH = [
     ("benchmark answers", ["tools/bench/run.py", "quick"]),
@@ -297,11 +299,15 @@ def run_all(anew: bool) -> int:
 
 def run_fast() -> int:
     """Proves what has changed over cached proofs and builds the C library, checks the documents and other sources meanwhile, and then runs the fast checks side by side."""
+    # not where `make lib` builds, since another compiler makes this library
+    os.environ["SEL_BUILD"] = str(ROOT / "build" / "fast")
+    # the tests of the Rust package, which are then compiled only when they change
+    os.environ |= {"SEL_LIBRARY_KIND": "dylib", "CARGO_PROFILE_DEV_OPT_LEVEL": "1"}
     sources = [*DOCUMENTS, *LINTS]
-    fast = [check for check in AFTER_LIBRARY if check[0] not in NOT_FAST and check not in LINTS]
+    fast = [(name, [*command, *FAST_OPTIONS.get(name, [])]) for name, command in AFTER_LIBRARY if name not in NOT_FAST and (name, command) not in LINTS]
     board = Board(1 + len(sources) + len(fast))
     with ThreadPoolExecutor(len(fast)) as pool:
-        built = pool.submit(run_check, board, "C library", ["tools/clib.py"])
+        built = pool.submit(run_check, board, "C library", ["tools/clib.py", "--fast"])
         for name, command in sources:
             run_check(board, name, command, beside=True)
         for name, command in fast if built.result() else []:

@@ -1,16 +1,19 @@
 #!/usr/bin/env python3
 """Runs the conformance suite of tests/ over the C library.
 
-tools/rows.py [LIBRARY]    LIBRARY is the archive to link, build/libsel.a if none is named
+tools/rows.py [--fast] [LIBRARY]    LIBRARY is the archive to link, build/libsel.a if none is named; SEL_BUILD names another folder than build/
 
 Builds tests/run plainly and with the address and undefined behaviour sanitizers, and runs all files of tests/rows by both, and at
 one offset under valgrind. Then tests/wrong.txt, each line of which must fail, and tests/faults.txt: each fault of tests/faults.c
-must be found by its line. The last line lists missing optional dependencies.
-Writes into build/, prints what failed and one line that sums up, and exits with status 1 if anything failed.
+must be found by its line. The last line lists missing optional dependencies. With --fast nothing is run under valgrind, unless there are
+no sanitizers, which find the same.
+Writes into build/, where it keeps the compiled sources of the runner, prints what failed and one line that sums up, and exits with
+status 1 if anything failed.
 """
 
 from __future__ import annotations
 
+import hashlib
 import os
 import pathlib
 import re
@@ -24,12 +27,13 @@ from typing import Dict, List, NamedTuple, Optional, Tuple
 
 ROOT = pathlib.Path(__file__).resolve().parent.parent
 TESTS = ROOT / "tests"
-BUILD = ROOT / "build"
+BUILD = pathlib.Path(os.environ.get("SEL_BUILD") or ROOT / "build")
 CC = os.environ.get("CC", "cc")
 FLAGS = ["-std=c11", "-g", "-Wall", "-Wextra", "-pedantic", "-Werror", "-I", str(ROOT / "include")]
 SANITIZERS = ["-fsanitize=address,undefined", "-fno-sanitize-recover=all", "-fno-omit-frame-pointer"]
 VALGRIND = ("valgrind", "--quiet", "--error-exitcode=3", "--leak-check=full")
 ALLOCATOR = ("malloc", "calloc", "realloc", "free")
+VERSION = subprocess.run([CC, "--version"], stdout=subprocess.PIPE, encoding="utf-8", errors="replace", check=False).stdout
 COUNTS = re.compile(r"(\d+) lines, (\d+) cases, (\d+) allocations refused, (\d+) failed")
 
 
@@ -62,12 +66,31 @@ def wrapped(names: Tuple[str, ...]) -> List[str]:
     return [f"-Wl,--wrap={name}" for name in names]
 
 
-def build(library: pathlib.Path, name: str, more: List[str]) -> pathlib.Path:
-    """Compiles the runner under a name; ends the program if that fails."""
-    program = BUILD / name
-    command = [CC, *FLAGS, *more, *sources(), str(library), *wrapped(ALLOCATOR), "-o", str(program)]
+def must_run(command: List[str]) -> None:
+    """Runs a command; ends the program if that fails."""
     if subprocess.run(command, check=False).returncode != 0:
         sys.exit(f"failed: {' '.join(command)}")
+
+
+def compiled(source: str, flags: List[str], folder: pathlib.Path) -> str:
+    """Returns the object file of a source, which is compiled unless that was done before, by the same command and of the same files."""
+    made, key = folder / f"{pathlib.Path(source).stem}.o", folder / f"{pathlib.Path(source).stem}.key"
+    files = [pathlib.Path(source), *sorted(TESTS.glob("*.h")), *sorted((ROOT / "include").glob("*.h"))]
+    said = repr([VERSION, source, flags, [hashlib.sha256(path.read_bytes()).hexdigest() for path in files]])
+    if not (made.exists() and key.exists() and key.read_text() == said):
+        key.unlink(missing_ok=True)
+        must_run([CC, *flags, "-c", source, "-o", str(made)])
+        key.write_text(said)
+    return str(made)
+
+
+def build(library: pathlib.Path, name: str, more: List[str], sources: List[str], wraps: Tuple[str, ...] = ()) -> pathlib.Path:
+    """Builds the runner of these sources under a name; ends the program if that fails."""
+    program, folder, flags = BUILD / name, BUILD / "objects" / name, [*FLAGS, *more]
+    folder.mkdir(parents=True, exist_ok=True)
+    with ThreadPoolExecutor(len(os.sched_getaffinity(0))) as pool:
+        objects = list(pool.map(lambda source: compiled(source, flags, folder), sources))
+    must_run([CC, *flags, *objects, str(library), *wrapped(ALLOCATOR + wraps), "-o", str(program)])
     return program
 
 
@@ -98,12 +121,14 @@ def run(program: pathlib.Path, *words: str, fault: Optional[str] = None, under: 
     return Counts(lines, cases, refused, failed, done.returncode)
 
 
-def run_sanitized(library: pathlib.Path) -> Tuple[bool, str]:
-    """Runs all files with sanitizers. Returns whether nothing failed, and what was run."""
+def run_sanitized(library: pathlib.Path) -> Optional[Counts]:
+    """Runs all files with sanitizers, the longest first, as many at once as there are processors. Returns the sums, or None without sanitizers."""
     if not has_sanitizers():
-        return True, "not run with sanitizers, which the compiler lacks"
-    is_right = run(build(library, "rows_sanitized", ["-O1", *SANITIZERS])).status == 0
-    return is_right, "the same with sanitizers" if is_right else "FAILED with sanitizers"
+        return None
+    program = build(library, "rows_sanitized", ["-O1", *SANITIZERS], sources())
+    files = sorted((TESTS / "rows").glob("*.txt"), key=lambda path: -path.stat().st_size)
+    with ThreadPoolExecutor(len(os.sched_getaffinity(0))) as pool:
+        return Counts(*map(sum, zip(*pool.map(lambda path: run(program, str(path)), files))))
 
 
 def run_under_valgrind(plain: pathlib.Path) -> Tuple[bool, str]:
@@ -133,7 +158,7 @@ def wraps_of_faults() -> Tuple[str, ...]:
 
 def missed_faults(library: pathlib.Path, faults: List[Fault]) -> List[str]:
     """Returns the faults that their lines do not find, or whose lines fail without them."""
-    program = build(library, "rows_faults", ["-O1", str(TESTS / "faults.c"), *wrapped(wraps_of_faults())])
+    program = build(library, "rows_faults", ["-O1"], [*sources(), str(TESTS / "faults.c")], wraps_of_faults())
     path, missed = BUILD / "fault.txt", []
     for fault in faults:
         path.write_text(f"#! {fault.says}\n{fault.line}\n", encoding="utf-8")
@@ -146,26 +171,38 @@ def missed_faults(library: pathlib.Path, faults: List[Fault]) -> List[str]:
     return missed
 
 
-def main() -> None:
-    if len(sys.argv) > 2 or sys.argv[1:2] == ["--help"]:
+def read_arguments() -> Tuple[bool, pathlib.Path]:
+    """Returns whether valgrind is left out, and the library."""
+    words = sys.argv[1:]
+    is_fast = words[:1] == ["--fast"]
+    words = words[is_fast:]
+    if len(words) > 1 or words[:1] == ["--help"]:
         sys.exit(__doc__)
-    library = pathlib.Path(sys.argv[1]).resolve() if len(sys.argv) == 2 else BUILD / "libsel.a"
+    library = pathlib.Path(words[0]).resolve() if words else BUILD / "libsel.a"
     if not library.exists():
         sys.exit(f"{library} is not there: make lib builds it")
+    return is_fast and has_sanitizers(), library
+
+
+def main() -> None:
+    is_fast, library = read_arguments()
     BUILD.mkdir(exist_ok=True)
     start = time.monotonic()
-    plain = build(library, "rows", ["-O1"])
+    plain = build(library, "rows", ["-O1"], sources())
     with ThreadPoolExecutor(2) as pool:
-        checks = [pool.submit(run_sanitized, library), pool.submit(run_under_valgrind, plain)]
+        sanitizing = pool.submit(run_sanitized, library)
+        checking = None if is_fast else pool.submit(run_under_valgrind, plain)
         counts = run(plain)
         wrong = run(plain, "--must-fail", str(TESTS / "wrong.txt"))
         faults = read_faults()
         missed = missed_faults(library, faults)
-        checked = [check.result() for check in checks]
-    said = "; ".join(what for _, what in checked)
-    is_right = counts.status == 0 and all(is_checked for is_checked, _ in checked) and wrong.status == 0 and not missed
+        sanitized, (is_checked, said) = sanitizing.result(), checking.result() if checking else (True, "not run under valgrind, as asked")
+    # with sanitizers a call may allocate more often
+    is_same = sanitized is None or sanitized[:2] == counts[:2] and sanitized.status == 0
+    again = "not run with sanitizers, which the compiler lacks" if sanitized is None else f"{'the same' if is_same else 'FAILED'} with sanitizers"
+    is_right = counts.status == 0 and is_same and is_checked and wrong.status == 0 and not missed
     print(f"rows: {'ok' if is_right else 'FAILED'}: {counts.lines} lines, {counts.cases} cases, {counts.refused} allocations refused, "
-          f"{counts.failed} failed; {said}; {wrong.lines - wrong.failed} of {wrong.lines} wrong lines and "
+          f"{counts.failed} failed; {again}; {said}; {wrong.lines - wrong.failed} of {wrong.lines} wrong lines and "
           f"{len(faults) - len(missed)} of {len(faults)} faults found; {time.monotonic() - start:.0f} seconds")
     sys.exit(0 if is_right else 1)
 

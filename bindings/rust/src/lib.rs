@@ -37,8 +37,8 @@
 //! ```
 //!
 //! # Requirements
-//! The crate has no dependencies and requires Rust 1.73. It links `libsel.a` from the folder that the environment variable
-//! `SEL_LIBRARY_DIR` names at build time, or else from the checkout's `build`.
+//! The crate has no dependencies and requires Rust 1.73. It links `libsel.a`, or `libsel.so` if the environment variable
+//! `SEL_LIBRARY_KIND` is `dylib` at build time, from the folder that `SEL_LIBRARY_DIR` names, or else from the checkout's `build`.
 //!
 //! # Threads
 //! A [`Column`] and a [`Selection`] are `Send` and `Sync`: threads may read the same column at the same time, and move and drop columns that

@@ -22,7 +22,7 @@ pub extern "C" fn sel_take(
 ) -> u32
     ensures { Takes result of.now.tree indices.now.tree out.old.tree out.new.tree }
 {
-    let Some(column) = of.column() else {
+    let Some(column) = of.shared() else {
         return NO_COLUMN;
     };
     let Some(at) = indices.column() else {
@@ -50,7 +50,7 @@ pub extern "C" fn sel_take_rows(
     ensures { TakesAt result of.now.tree indices.now bits.now has_bits
         out.old.tree out.new.tree }
 {
-    let Some(column) = of.column() else {
+    let Some(column) = of.shared() else {
         return NO_COLUMN;
     };
     take_rows_into(alloc, column, indices, bits, has_bits, out)

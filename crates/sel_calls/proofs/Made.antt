@@ -14,6 +14,11 @@ pub returns-again : (status : ℕ) (before after : Held) (column : ArrayRef) (va
     ReturnsColumn status before after values (type_of column.column) [] (status ≡ ok)
 returns-again status before after column values made low same = grind (arith, common_steps)
 
+-- A column without rows is stored, unless memory runs out.
+pub returns-no-rows : (status : ℕ) (before after : Held) (values : List Value) (column : ArrayRef) (shape : Shape) → [] ≡ values → type_of column.column ≡ shape →
+    ReturnsColumn status before after [] (type_of column.column) [] (status ≡ ok) → ReturnsColumn status before after values shape [] (status ≡ ok)
+returns-no-rows status before after values column shape none typed told = grind (arith, common_steps)
+
 -- On an error nothing is stored.
 pub returns-none : (status : ℕ) (before : Held) (values : List Value) (shape : Shape) (conditions : List (ℕ × Type 0)) (AllHold : Type 0) → status ≢ ok → ReturnsFirst status conditions AllHold →
     ReturnsColumn status before before values shape conditions AllHold

@@ -1,6 +1,6 @@
 //! If-then-else between two columns or scalars by a boolean mask.
 
-ghost use Rattle.std.specs.Prelude.{◌≡◌, ◌≢◌, ◌≤◌, ◌∷◌, [], length, true, false, List, IfOk, IfErr, IfSome, Some};
+ghost use Rattle.std.specs.Prelude.{◌≡◌, ◌≢◌, ◌≤◌, ◌⊎◌, ◌∷◌, [], length, true, false, List, IfOk, IfErr, IfSome, Some};
 ghost use Rattle.sel_bits.specs.Limits.{max_rows};
 ghost use Rattle.sel_arrow.specs.Columns.{boolean_rows};
 ghost use Rattle.sel_arrow.specs.Depth.{depth};
@@ -12,7 +12,7 @@ ghost use Rattle.sel_bits.specs.Choose.{choose};
 ghost use Rattle.sel_ternary.specs.Chosen.{chosen_rows, SideFits};
 ghost use Rattle.sel_calls.specs.Choices.{ChoosesFrom};
 ghost use Rattle.sel_ffi.specs.Status.{out_of_memory, unsupported_type, IsOneOf};
-ghost use Rattle.sel_gather.specs.Need.{exceeded_taken, ExceedsNone, IsLimitOrMemory};
+ghost use Rattle.sel_gather.specs.Need.{exceeded_limits, exceeded_taken, ExceedsNone, IsLimitOrMemory};
 ghost use Rattle.sel_kernels.specs.Select.{effective_mask};
 
 use sel_arrow::array::Array;
@@ -69,7 +69,8 @@ pub fn choose_handles(
     choose_shared(alloc, by, first, second, true_column, false_column, out)
 }
 
-// Stores the if-then-else in `out`; shares a side if all rows come from it.
+// Stores the if-then-else in `out`; shares a side if all rows come from it. A mask of one row has as
+// many rows as a scalar.
 fn choose_shared(
     alloc: Global,
     mask: &ArrayRef,
@@ -82,13 +83,21 @@ fn choose_shared(
     ensures { ChoosesFrom result (Some mask.now) (Some if_true.now) (Some if_false.now)
         true_column false_column out.old.tree out.new.tree }
 {
-    if true_column && false_column {
+    if has_all_rows(true_column, mask) && has_all_rows(false_column, mask) {
         if let Some(side) = whole_side(mask, if_true, if_false) {
             return put_again(alloc, side, out);
         }
     }
     let (trues, falses) = (if_true.column(), if_false.column());
     choose_into(alloc, mask, trues, falses, true_column, false_column, out)
+}
+
+// Returns whether a side that fits has as many rows as the mask: it is a column, or a scalar for one
+// row.
+fn has_all_rows(is_column: bool, mask: &ArrayRef) -> bool
+    ensures { result ≡ true → is_column ≡ true ⊎ length (rows mask.now.column) ≡ 1 }
+{
+    is_column || mask.len() == 1
 }
 
 // Returns the side that all rows come from. None if both sides have some, the mask has a validity,
@@ -132,9 +141,11 @@ fn whole_side<'a>(
 }
 
 // Returns whether no rows of the column's type can exceed a limit, as integers and booleans cannot.
-fn exceeds_none(column: &Column) -> bool
-    ensures { result ≡ true → (columns : List Column) (values : List Value) →
+pub(crate) fn exceeds_none(column: &Column) -> bool
+    ensures taken { result ≡ true → (columns : List Column) (values : List Value) →
         ExceedsNone (exceeded_taken (type_of column.now) columns values) }
+    ensures own { result ≡ true → (values : List Value) →
+        ExceedsNone (exceeded_limits (type_of column.now) values) }
 {
     match_numbers! { column, _numbers => true,
         Column::Null(_) | Column::Boolean(_) => true,

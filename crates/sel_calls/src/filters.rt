@@ -1,7 +1,8 @@
 //! Filters: the rows that a mask selects.
 
-ghost use Rattle.std.specs.Prelude.{◌≡◌, [], ◌∷◌, length, Some};
+ghost use Rattle.std.specs.Prelude.{◌≡◌, ◌≤◌, [], ◌∷◌, length, Some};
 ghost use Rattle.sel_arrow.specs.Columns.{boolean_rows};
+ghost use Rattle.sel_arrow.specs.Depth.{depth};
 ghost use Rattle.sel_arrow.specs.Rows.{rows, type_of};
 ghost use Rattle.sel_calls.specs.Filters.{Filters, FiltersByBits};
 ghost use Rattle.sel_calls.specs.Returns.{ReturnsColumn};
@@ -48,8 +49,29 @@ fn filter_by(alloc: Global, column: &SharedColumn, mask: &BooleanArray, out: &mu
     if mask.validity.is_none() && mask.values.is_all_true() {
         return put_again(alloc, column, out);
     }
+    if mask.validity.is_none() && mask.len() <= FEW_ROWS && mask.values.set_bits() == 0 {
+        return put_no_rows(alloc, column.column(), out);
+    }
     match filter(alloc, column.column(), mask) {
         Ok(kept) => put(alloc, kept, out),
+        Err(_) => OUT_OF_MEMORY,
+    }
+}
+
+// Up to so many rows a mask without a true bit is found at once. The buffers that an empty result
+// shares are small then.
+pub(crate) const FEW_ROWS: usize = 64;
+
+/// Stores in `out` no rows, of the type of `column`, whose buffers they share.
+///
+/// Errors: `OUT_OF_MEMORY`.
+pub(crate) fn put_no_rows(alloc: Global, column: &ArrayRef, out: &mut Handle) -> u32
+    requires { depth (type_of column.now.column) ≤ 128 }
+    ensures { ReturnsColumn result out.old.tree out.new.tree [] (type_of column.now.column) []
+        (result ≡ ok) }
+{
+    match column.sliced(alloc, 0, 0) {
+        Ok(none) => put(alloc, none, out),
         Err(_) => OUT_OF_MEMORY,
     }
 }

@@ -3,6 +3,7 @@
 ghost use Rattle.std.specs.Prelude.{◌≡◌, [], Some};
 ghost use Rattle.sel_calls.specs.Selections.{Prepares, PreparesColumn, PreparesBits, FiltersBySelection};
 
+use crate::filters::{FEW_ROWS, put_no_rows};
 use crate::selection_handle::SelectionHandle;
 use sel_arrow::array::Array;
 use sel_arrow::array_ref::ArrayRef;
@@ -90,6 +91,9 @@ pub fn filter_selected_into(
     }
     if selection.count == selection.len() {
         return put_again(alloc, column, out);
+    }
+    if selection.count == 0 && selection.len() <= FEW_ROWS {
+        return put_no_rows(alloc, column.column(), out);
     }
     match filter_selected(alloc, column.column(), selection) {
         Ok(kept) => put(alloc, kept, out),

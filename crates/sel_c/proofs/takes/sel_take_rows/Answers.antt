@@ -5,4 +5,4 @@ use Rattle.sel_c.proofs.takes.sel_take_rows.Goals as goal
 
 pub returns : goal.returns
 returns c =
-    subst (λ (of : Held). TakesAt c.take_rows_into.result of c.args.indices.now c.args.bits.now c.args.has_bits c.args.out.now.tree c.take_rows_into.new.out.tree) (sym c.in-Some.ensures.column) c.take_rows_into.ensures
+    subst (λ (of : Held). TakesAt c.take_rows_into.result of c.args.indices.now c.args.bits.now c.args.has_bits c.args.out.now.tree c.take_rows_into.new.out.tree) (sym c.in-Some.ensures) c.take_rows_into.ensures
