@@ -5,8 +5,8 @@ tools/rows.py [--fast] [LIBRARY]    LIBRARY is the archive to link, build/libsel
 
 Builds tests/run plainly and with the address and undefined behaviour sanitizers, and runs all files of tests/rows by both, and at
 one offset under valgrind. Then tests/wrong.txt, each line of which must fail, and tests/faults.txt: each fault of tests/faults.c
-must be found by its line. The last line lists missing optional dependencies. With --fast nothing is run under valgrind, unless there are
-no sanitizers, which find the same.
+must be found by its line. The last line lists missing optional dependencies. With --fast allocations are refused only where the runner is
+plain, and nothing is run under valgrind, which finds what the sanitizers find, unless the compiler lacks these.
 Writes into build/, where it keeps the compiled sources of the runner, prints what failed and one line that sums up, and exits with
 status 1 if anything failed.
 """
@@ -121,14 +121,14 @@ def run(program: pathlib.Path, *words: str, fault: Optional[str] = None, under: 
     return Counts(lines, cases, refused, failed, done.returncode)
 
 
-def run_sanitized(library: pathlib.Path) -> Optional[Counts]:
+def run_sanitized(library: pathlib.Path, *options: str) -> Optional[Counts]:
     """Runs all files with sanitizers, the longest first, as many at once as there are processors. Returns the sums, or None without sanitizers."""
     if not has_sanitizers():
         return None
     program = build(library, "rows_sanitized", ["-O1", *SANITIZERS], sources())
     files = sorted((TESTS / "rows").glob("*.txt"), key=lambda path: -path.stat().st_size)
     with ThreadPoolExecutor(len(os.sched_getaffinity(0))) as pool:
-        return Counts(*map(sum, zip(*pool.map(lambda path: run(program, str(path)), files))))
+        return Counts(*map(sum, zip(*pool.map(lambda path: run(program, *options, str(path)), files))))
 
 
 def run_under_valgrind(plain: pathlib.Path) -> Tuple[bool, str]:
@@ -190,7 +190,7 @@ def main() -> None:
     start = time.monotonic()
     plain = build(library, "rows", ["-O1"], sources())
     with ThreadPoolExecutor(2) as pool:
-        sanitizing = pool.submit(run_sanitized, library)
+        sanitizing = pool.submit(run_sanitized, library, *(["--no-refusals"] if is_fast else []))
         checking = None if is_fast else pool.submit(run_under_valgrind, plain)
         counts = run(plain)
         wrong = run(plain, "--must-fail", str(TESTS / "wrong.txt"))
@@ -199,7 +199,9 @@ def main() -> None:
         sanitized, (is_checked, said) = sanitizing.result(), checking.result() if checking else (True, "not run under valgrind, as asked")
     # with sanitizers a call may allocate more often
     is_same = sanitized is None or sanitized[:2] == counts[:2] and sanitized.status == 0
-    again = "not run with sanitizers, which the compiler lacks" if sanitized is None else f"{'the same' if is_same else 'FAILED'} with sanitizers"
+    again = "not run with sanitizers, which the compiler lacks"
+    if sanitized is not None:
+        again = f"{'the same' if is_same else 'FAILED'} with sanitizers and {sanitized.refused} allocations refused"
     is_right = counts.status == 0 and is_same and is_checked and wrong.status == 0 and not missed
     print(f"rows: {'ok' if is_right else 'FAILED'}: {counts.lines} lines, {counts.cases} cases, {counts.refused} allocations refused, "
           f"{counts.failed} failed; {again}; {said}; {wrong.lines - wrong.failed} of {wrong.lines} wrong lines and "
