@@ -103,7 +103,8 @@ def try_c(folder: pathlib.Path) -> None:
 
 def rust_env() -> dict[str, str]:
     """Returns the environment in which cargo finds the built library, and builds beside it."""
-    return {**os.environ, "SEL_LIBRARY_DIR": str(BUILD), "LD_LIBRARY_PATH": str(BUILD), "CARGO_TARGET_DIR": str(BUILD / "cargo"), "RUSTFLAGS": "-D warnings"}
+    paths = ":".join([str(BUILD), *filter(None, [os.environ.get("LD_LIBRARY_PATH")])])
+    return {**os.environ, "SEL_LIBRARY_DIR": str(BUILD), "LD_LIBRARY_PATH": paths, "CARGO_TARGET_DIR": str(BUILD / "cargo"), "RUSTFLAGS": "-D warnings"}
 
 
 def lint_rust(_folder: pathlib.Path) -> None:

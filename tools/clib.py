@@ -2,7 +2,7 @@
 """Builds the C library from crates/sel_c, and tests it.
 
 tools/clib.py                  proves, with a report of how far it is, then writes build/libsel.a, build/libsel.so, build/sel.pc and build/VERDICTS
-tools/clib.py --fast           the same, with code by the toolchain's own compiler instead of LLVM, which takes a third of the time: for `make check`
+tools/clib.py --fast           the same, with code by the toolchain's own compiler, which takes less time than LLVM: for `make check`
 tools/clib.py --gate           builds over the libraries that `rt ci` has proved, also while it still runs
 tools/clib.py --test           checks the headers, and runs the tests of c/ over the built library
 tools/clib.py --check          builds and tests

@@ -7,7 +7,7 @@ tools/gate.py check   proves what has changed over cached proofs and runs the fa
 tools/gate.py setup   installs the optional programs and libraries that the checks use: what `make setup` runs
 
 Checks that need only some of the proved libraries run while `rt ci` runs, as soon as those are proved, at a lower priority. (The C
-library is built at the same priority as the proofs, since eleven checks wait for it.) The others run after `rt ci`. The table
+library is built at the same priority as the proofs, since its checks and those of the bindings wait for it.) The others run after `rt ci`. The table
 lists what a check leaves out because an optional dependency is missing.
 """
 
@@ -301,7 +301,7 @@ def run_fast() -> int:
     """Proves what has changed over cached proofs and builds the C library, checks the documents and other sources meanwhile, and then runs the fast checks side by side."""
     # not where `make lib` builds, since another compiler makes this library
     os.environ["SEL_BUILD"] = str(ROOT / "build" / "fast")
-    # the tests of the Rust package, which are then compiled only when they change
+    # linked with the shared library, the tests of the Rust package are compiled only when they change
     os.environ |= {"SEL_LIBRARY_KIND": "dylib", "CARGO_PROFILE_DEV_OPT_LEVEL": "1"}
     sources = [*DOCUMENTS, *LINTS]
     fast = [(name, [*command, *FAST_OPTIONS.get(name, [])]) for name, command in AFTER_LIBRARY if name not in NOT_FAST and (name, command) not in LINTS]

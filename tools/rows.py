@@ -84,12 +84,12 @@ def compiled(source: str, flags: List[str], folder: pathlib.Path) -> str:
     return str(made)
 
 
-def build(library: pathlib.Path, name: str, more: List[str], sources: List[str], wraps: Tuple[str, ...] = ()) -> pathlib.Path:
-    """Builds the runner of these sources under a name; ends the program if that fails."""
+def build(library: pathlib.Path, name: str, more: List[str], files: List[str], wraps: Tuple[str, ...] = ()) -> pathlib.Path:
+    """Builds the runner from these files under a name; ends the program if that fails."""
     program, folder, flags = BUILD / name, BUILD / "objects" / name, [*FLAGS, *more]
     folder.mkdir(parents=True, exist_ok=True)
     with ThreadPoolExecutor(len(os.sched_getaffinity(0))) as pool:
-        objects = list(pool.map(lambda source: compiled(source, flags, folder), sources))
+        objects = list(pool.map(lambda source: compiled(source, flags, folder), files))
     must_run([CC, *flags, *objects, str(library), *wrapped(ALLOCATOR + wraps), "-o", str(program)])
     return program
 
@@ -172,7 +172,7 @@ def missed_faults(library: pathlib.Path, faults: List[Fault]) -> List[str]:
 
 
 def read_arguments() -> Tuple[bool, pathlib.Path]:
-    """Returns whether valgrind is left out, and the library."""
+    """Returns whether this is the fast run, and the library."""
     words = sys.argv[1:]
     is_fast = words[:1] == ["--fast"]
     words = words[is_fast:]
@@ -197,8 +197,9 @@ def main() -> None:
         faults = read_faults()
         missed = missed_faults(library, faults)
         sanitized, (is_checked, said) = sanitizing.result(), checking.result() if checking else (True, "not run under valgrind, as asked")
-    # with sanitizers a call may allocate more often
-    is_same = sanitized is None or sanitized[:2] == counts[:2] and sanitized.status == 0
+    # lines, cases and, unless none was refused, allocations refused
+    same = 2 if is_fast else 3
+    is_same = sanitized is None or sanitized[:same] == counts[:same] and sanitized.status == 0
     again = "not run with sanitizers, which the compiler lacks"
     if sanitized is not None:
         again = f"{'the same' if is_same else 'FAILED'} with sanitizers and {sanitized.refused} allocations refused"

@@ -58,8 +58,8 @@ fn filter_by(alloc: Global, column: &SharedColumn, mask: &BooleanArray, out: &mu
     }
 }
 
-// Up to so many rows a mask without a true bit is found at once. The buffers that an empty result
-// shares are small then.
+// The most rows of a mask that is counted here. If it keeps none, the column is sliced without the
+// moves of the kernel's result; only speed depends on this.
 pub(crate) const FEW_ROWS: usize = 64;
 
 /// Stores in `out` no rows, of the type of `column`, whose buffers they share.
