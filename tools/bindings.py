@@ -2,7 +2,7 @@
 """Tests the code around the C library that `make lib` has built: the Arrow interface, the examples, the Rust and the Python package.
 
 tools/bindings.py            everything; missing optional dependencies are reported, and what needs them is skipped
-tools/bindings.py PART ..    only these parts: c, rust, rust_docs, python, wheel, dask, gdal; types and lint, which read the sources alone
+tools/bindings.py PART ..    only these parts: c, valgrind, rust, rust_docs, python, python_memory, wheel, dask, gdal; types and lint, which read the sources alone
 
 SEL_BUILD names another folder than build/. What cargo and mypy keep between runs is in its folders cargo and mypy.
 """
@@ -24,6 +24,9 @@ sys.path.insert(0, str(ROOT / "tools"))
 from package import ARROW_SOURCES, BUILD  # noqa: E402
 
 EXAMPLES = ROOT / "examples"
+EXAMPLES_IN_C = ("filter.c", "arrow_roundtrip.c")
+# the tests of the Arrow interface, the file with `main` first
+ARROW_TESTS = [ROOT / "c" / "arrow_test.c", *sorted((ROOT / "c").glob("arrow_test_*.c"))]
 CC = os.environ.get("CC", "cc")
 CFLAGS = ["-std=c11", "-g", "-Wall", "-Wextra", "-pedantic", "-Werror", "-I", str(ROOT / "include")]
 SANITIZED = ["-fsanitize=address,undefined", "-fno-sanitize-recover=all", "-fno-omit-frame-pointer"]
@@ -65,6 +68,11 @@ def built(source: pathlib.Path, folder: pathlib.Path, *flags: str | pathlib.Path
     return program
 
 
+def built_arrow_test(folder: pathlib.Path) -> pathlib.Path:
+    """Builds the tests of the Arrow interface. Returns the program."""
+    return built(ARROW_TESTS[0], folder, *ARROW_TESTS[1:], *WRAPPED)
+
+
 def try_malformed(folder: pathlib.Path) -> None:
     """Imports malformed arrays under sanitizers that stop at each bad access and each undefined operation."""
     if not has("sanitizers"):
@@ -84,19 +92,21 @@ def try_c(folder: pathlib.Path) -> None:
     run(CC, *CFLAGS, "-fsyntax-only", "-x", "c", header)
     if has("c++"):
         run(os.environ.get("CXX", "c++"), "-std=c++17", "-Wall", "-Wextra", "-pedantic", "-Werror", "-fsyntax-only", "-x", "c++", header)
-    more = sorted((ROOT / "c").glob("arrow_test_*.c"))
-    test = built(ROOT / "c" / "arrow_test.c", folder, *more, *WRAPPED)
-    print(run(test), end="")
+    print(run(built_arrow_test(folder)), end="")
     if has("sanitizers"):
-        sources = [ROOT / "c" / "arrow_test.c", *more, *ARROW_SOURCES]
+        sources = [*ARROW_TESTS, *ARROW_SOURCES]
         run(CC, *CFLAGS, *SANITIZED, *sources, BUILD / "libsel.a", *WRAPPED, "-o", folder / "arrow_test_sanitized")
         run(folder / "arrow_test_sanitized")
     try_malformed(folder)
-    for name in ("filter.c", "arrow_roundtrip.c"):
+    for name in EXAMPLES_IN_C:
         prints(name, run(built(EXAMPLES / name, folder)))
+
+
+def try_valgrind(folder: pathlib.Path) -> None:
+    """Runs the tests of the Arrow interface and the examples in C under valgrind."""
     if not has("valgrind"):
         return left_out("arrow_test.c and the examples under valgrind")
-    for program in (test, folder / "filter", folder / "arrow_roundtrip"):
+    for program in (built_arrow_test(folder), *(built(EXAMPLES / name, folder) for name in EXAMPLES_IN_C)):
         run("valgrind", "--quiet", "--error-exitcode=3", "--leak-check=full", program)
     print("arrow_test.c and the examples under valgrind: ok")
 
@@ -169,7 +179,6 @@ def try_python(folder: pathlib.Path) -> None:
     package, env = ROOT / "bindings" / "python", python_env()
     if not has("numpy"):
         left_out("conversion from and to numpy arrays")
-    counting = {**env, "SEL_LIBRARY": str(counting_library(folder))}
     tests = package / "tests"
     names = sorted(path.stem for path in tests.glob("test_*.py"))
     names.remove("test_rows")
@@ -177,13 +186,18 @@ def try_python(folder: pathlib.Path) -> None:
     parts = [["test_rows"], names[::2], names[1::2]]
     with ThreadPoolExecutor(len(parts)) as pool:
         unit = {**env, "PYTHONPATH": f"{tests}:{package}"}
-        running = [pool.submit(run, PYTHON, "-m", "unittest", *part, cwd=folder, env=unit) for part in parts]
-        run(PYTHON, tests / "refused_allocations.py", cwd=folder, env=counting)
-        for part in running:
+        for part in [pool.submit(run, PYTHON, "-m", "unittest", *part, cwd=folder, env=unit) for part in parts]:
             part.result()
     for name in ("filter_take.py", "when_then.py"):
         prints(name, run(PYTHON, EXAMPLES / name, env=env))
     print("the Python package: ok")
+
+
+def try_python_memory(folder: pathlib.Path) -> None:
+    """Runs the uses of the Python package with each allocation of the library refused."""
+    env = {**python_env(), "SEL_LIBRARY": str(counting_library(folder))}
+    run(PYTHON, ROOT / "bindings" / "python" / "tests" / "refused_allocations.py", cwd=folder, env=env)
+    print("the Python package with refused allocations: ok")
 
 
 def try_wheel(folder: pathlib.Path) -> None:
@@ -222,7 +236,7 @@ def try_gdal(folder: pathlib.Path) -> None:
     print(run(program, folder), end="")
 
 
-PARTS = {"types": check_types, "lint": lint_rust, "c": try_c, "rust": try_rust, "rust_docs": try_rust_docs, "python": try_python, "wheel": try_wheel, "dask": try_dask, "gdal": try_gdal}
+PARTS = {"types": check_types, "lint": lint_rust, "c": try_c, "valgrind": try_valgrind, "rust": try_rust, "rust_docs": try_rust_docs, "python": try_python, "python_memory": try_python_memory, "wheel": try_wheel, "dask": try_dask, "gdal": try_gdal}
 WITHOUT_LIBRARY = {"types", "lint"}
 
 

@@ -205,10 +205,12 @@ AFTER_LIBRARY = [
     ("conformance suite", ["tools/rows.py"]),
     ("tests in C", ["tools/clib.py", "--test"]),
     ("fuzz targets", ["tools/fuzz.py", "--check"]),
+    ("Python package with refused allocations", ["tools/bindings.py", "python_memory"]),
     ("Rust package", ["tools/bindings.py", "rust"]),
     ("examples of the Rust documentation", ["tools/bindings.py", "rust_docs"]),
     ("Python wheel", ["tools/bindings.py", "wheel"]),
     ("Arrow interface in C", ["tools/bindings.py", "c"]),
+    ("Arrow interface under valgrind", ["tools/bindings.py", "valgrind"]),
     *LINTS,
     ("Dask example", ["tools/bindings.py", "dask"]),
     ("random columns", ["tools/soak.py", "--check"]),
@@ -216,8 +218,9 @@ AFTER_LIBRARY = [
     ("Arrow streams of GDAL", ["tools/bindings.py", "gdal"]),
 ]
 # of these, what `make check` leaves out, since it has commands of its own: tools/clib.py --test, make fuzz, make soak, make dist,
-# tools/bindings.py wheel, rust_docs and dask
-NOT_FAST = {"tests in C", "fuzz targets", "random columns", "archive", "Python wheel", "examples of the Rust documentation", "Dask example"}
+# tools/bindings.py python_memory, valgrind, wheel, rust_docs and dask
+NOT_FAST = {"tests in C", "fuzz targets", "random columns", "archive", "Python package with refused allocations", "Arrow interface under valgrind",
+            "Python wheel", "examples of the Rust documentation", "Dask example"}
 FAST_OPTIONS = {"conformance suite": ["--fast"]}
 # these run the program bench_internals too
 AFTER_BOTH = [

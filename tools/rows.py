@@ -5,8 +5,8 @@ tools/rows.py [--fast] [LIBRARY]    LIBRARY is the archive to link, build/libsel
 
 Builds tests/run plainly and with the address and undefined behaviour sanitizers, and runs all files of tests/rows by both, and at
 one offset under valgrind. Then tests/wrong.txt, each line of which must fail, and tests/faults.txt: each fault of tests/faults.c
-must be found by its line. The last line lists missing optional dependencies. With --fast allocations are refused only where the runner is
-plain, and nothing is run under valgrind, which finds what the sanitizers find, unless the compiler lacks these.
+must be found by its line. The last line lists missing optional dependencies. With --fast the run with sanitizers is at one offset and refuses
+no allocation, and nothing is run under valgrind, which finds what the sanitizers find, unless the compiler lacks these.
 Writes into build/, where it keeps the compiled sources of the runner, prints what failed and one line that sums up, and exits with
 status 1 if anything failed.
 """
@@ -31,6 +31,8 @@ BUILD = pathlib.Path(os.environ.get("SEL_BUILD") or ROOT / "build")
 CC = os.environ.get("CC", "cc")
 FLAGS = ["-std=c11", "-g", "-Wall", "-Wextra", "-pedantic", "-Werror", "-I", str(ROOT / "include")]
 SANITIZERS = ["-fsanitize=address,undefined", "-fno-sanitize-recover=all", "-fno-omit-frame-pointer"]
+# the runner's options for a quick run
+AT_ONE_OFFSET = ("--layout", "7", "--no-refusals")
 VALGRIND = ("valgrind", "--quiet", "--error-exitcode=3", "--leak-check=full")
 ALLOCATOR = ("malloc", "calloc", "realloc", "free")
 VERSION = subprocess.run([CC, "--version"], stdout=subprocess.PIPE, encoding="utf-8", errors="replace", check=False).stdout
@@ -135,7 +137,7 @@ def run_under_valgrind(plain: pathlib.Path) -> Tuple[bool, str]:
     """Runs all files at one offset under valgrind. Returns whether nothing failed, and what was run."""
     if shutil.which("valgrind") is None:
         return True, "not run under valgrind, which is missing"
-    under = run(plain, "--layout", "7", "--no-refusals", under=VALGRIND)
+    under = run(plain, *AT_ONE_OFFSET, under=VALGRIND)
     return under.status == 0, f"{under.cases} cases under valgrind" if under.status == 0 else "FAILED under valgrind"
 
 
@@ -190,19 +192,19 @@ def main() -> None:
     start = time.monotonic()
     plain = build(library, "rows", ["-O1"], sources())
     with ThreadPoolExecutor(2) as pool:
-        sanitizing = pool.submit(run_sanitized, library, *(["--no-refusals"] if is_fast else []))
+        sanitizing = pool.submit(run_sanitized, library, *(AT_ONE_OFFSET if is_fast else []))
         checking = None if is_fast else pool.submit(run_under_valgrind, plain)
         counts = run(plain)
         wrong = run(plain, "--must-fail", str(TESTS / "wrong.txt"))
         faults = read_faults()
         missed = missed_faults(library, faults)
         sanitized, (is_checked, said) = sanitizing.result(), checking.result() if checking else (True, "not run under valgrind, as asked")
-    # lines, cases and, unless none was refused, allocations refused
-    same = 2 if is_fast else 3
+    # lines and, unless it is at one offset, cases and allocations refused
+    same = 1 if is_fast else 3
     is_same = sanitized is None or sanitized[:same] == counts[:same] and sanitized.status == 0
     again = "not run with sanitizers, which the compiler lacks"
     if sanitized is not None:
-        again = f"{'the same' if is_same else 'FAILED'} with sanitizers and {sanitized.refused} allocations refused"
+        again = f"{sanitized.cases} cases{'' if is_same else ' FAILED'} with sanitizers and {sanitized.refused} allocations refused"
     is_right = counts.status == 0 and is_same and is_checked and wrong.status == 0 and not missed
     print(f"rows: {'ok' if is_right else 'FAILED'}: {counts.lines} lines, {counts.cases} cases, {counts.refused} allocations refused, "
           f"{counts.failed} failed; {again}; {said}; {wrong.lines - wrong.failed} of {wrong.lines} wrong lines and "

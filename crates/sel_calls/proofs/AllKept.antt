@@ -1,5 +1,5 @@
 -- Masks that keep all rows or none, or choose all rows of one side, and calls on one row.
-use Rattle.std.proofs.Common.{◌≡◌, ◌∙◌, ◌⊎◌, inl, inr, arith, refl, sym, ℕ, zero, suc, ℤ, pos, negsuc, List, [], ◌∷◌, length, map-id, Bool, true, false, not, Option, Some, None, is_some, IsTrue}
+use Rattle.std.proofs.Common.{◌≡◌, ◌∙◌, ◌⊎◌, inl, inr, arith, refl, ℕ, zero, ℤ, pos, List, [], ◌∷◌, length, map-id, Bool, true, false, not, Option, Some, None, is_some, IsTrue}
 use Rattle.std.proofs.lemmas.{Grind.common_steps, Simd.map-map, List.length-map, List.Sums.count_by-le-length, List.Sums.sum_by-cons}
 use Rattle.sel_filter.proofs.Selects.{none_kept}
 pub use Rattle.sel_filter.proofs.Selects.{all_kept}

@@ -46,11 +46,16 @@ fn filter_by(alloc: Global, column: &SharedColumn, mask: &BooleanArray, out: &mu
     if column.column().len() != mask.len() {
         return LENGTH_MISMATCH;
     }
-    if mask.validity.is_none() && mask.values.is_all_true() {
+    if mask.validity.is_none() && mask.len() <= FEW_ROWS {
+        let count = mask.values.set_bits();
+        if count == mask.values.len() {
+            return put_again(alloc, column, out);
+        }
+        if count == 0 {
+            return put_no_rows(alloc, column.column(), out);
+        }
+    } else if mask.validity.is_none() && mask.values.is_all_true() {
         return put_again(alloc, column, out);
-    }
-    if mask.validity.is_none() && mask.len() <= FEW_ROWS && mask.values.set_bits() == 0 {
-        return put_no_rows(alloc, column.column(), out);
     }
     match filter(alloc, column.column(), mask) {
         Ok(kept) => put(alloc, kept, out),
