@@ -182,8 +182,8 @@ def try_python(folder: pathlib.Path) -> None:
     tests = package / "tests"
     names = sorted(path.stem for path in tests.glob("test_*.py"))
     names.remove("test_rows")
-    # the conformance suite, and the others in two parts that take about as long
-    parts = [["test_rows"], names[::2], names[1::2]]
+    # the conformance suite, and the others in three parts that take about as long
+    parts = [["test_rows"], names[::3], names[1::3], names[2::3]]
     with ThreadPoolExecutor(len(parts)) as pool:
         unit = {**env, "PYTHONPATH": f"{tests}:{package}"}
         for part in [pool.submit(run, PYTHON, "-m", "unittest", *part, cwd=folder, env=unit) for part in parts]:

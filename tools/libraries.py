@@ -22,7 +22,8 @@ import time
 
 sys.dont_write_bytecode = True
 
-from verdicts import ROOT, TOP, crates, keep  # noqa: E402
+from prover import crates_below, lines  # noqa: E402
+from verdicts import ROOT, TOP, crates, keep, sum_of, sum_of_sources  # noqa: E402
 
 # how long each crate takes from a clean build on the machine that docs/TESTING.md names; a build here keeps its own times in build/seconds
 MEASURED = ROOT / "tools" / "seconds.txt"
@@ -74,6 +75,9 @@ class Build:
     def __init__(self, options: list[str], rt: str = "rt", root: pathlib.Path = ROOT) -> None:
         self.names, self.options, self.rt, self.root, self.begun = crates(), options, rt, root, time.monotonic()
         self.times = root / "build" / "seconds"
+        self.uses = {name: used for name, (_, used) in lines().items()}
+        self.toolchain = subprocess.run([rt, "version"], capture_output=True, text=True, check=False).stdout if shutil.which(rt) else ""
+        self.sums = {name: sum_of_sources(name, root) for name in self.names}
         self.expected = {name: UNKNOWN for name in self.names} | {**seconds_of(MEASURED), **seconds_of(self.times)}
         # how long the crates took that were proved in this run
         self.took: dict[str, float] = {}
@@ -90,6 +94,18 @@ class Build:
         more = f"; about {in_words(left)} left" if left > 0 else ""
         print(f"[{elapsed // 60:3}:{elapsed % 60:02}, {self.done} of {len(self.names)} crates] {text}{more}", flush=True)
 
+    def sum_of_all(self, name: str) -> str:
+        """Returns a sum of the toolchain, and of the sources that a crate and those below it had when this build began."""
+        needed = [*crates_below(name, self.uses), name]
+        return sum_of("".join([self.toolchain, *(f"{it} {self.sums[it]}\n" for it in needed)]).encode())
+
+    def is_built(self, name: str) -> bool:
+        """Returns whether the library of a crate was built from the present sources. The toolchain looks at this too, which takes longer: when it
+        proves `sel_c`, it builds the libraries below that are not as it would build them."""
+        out = self.root / "crates" / name / "out"
+        kept = out / "built_from"
+        return name != TOP and (out / "rlib" / f"{name}.rlib" / "format").exists() and kept.exists() and kept.read_text() == self.sum_of_all(name)
+
     def report(self, crate: Crate, ended: threading.Event) -> None:
         """Says from time to time for how long the crate has been proved, until it has ended."""
         while not ended.wait(EVERY):
@@ -101,7 +117,7 @@ class Build:
         # a crate that was proved before has little to prove, which one process does sooner; but `sel_c` calls all that changed
         is_new = crate.name == TOP or not (folder / "out" / "incremental").exists()
         words = [self.rt, "lib", *(jobs() if is_new else []), *(self.options if crate.name == TOP else [])]
-        ended = threading.Event()
+        built_from, ended = self.sum_of_all(crate.name), threading.Event()
         reporter = threading.Thread(target=self.report, args=(crate, ended))
         reporter.start()
         try:
@@ -114,6 +130,8 @@ class Build:
             reporter.join()
         if ran.returncode == 0 and crate.verdict:
             keep(crate.name, crate.verdict, self.root)
+        if ran.returncode == 0:
+            (folder / "out" / "built_from").write_text(built_from)
         return ran.returncode == 0
 
     def run(self) -> bool:
@@ -122,7 +140,7 @@ class Build:
             sys.exit("the toolchain's command `rt` is not on the path: README.md says which toolchain is needed")
         for name in self.names:
             crate = Crate(name)
-            if not self.prove(crate):
+            if not self.is_built(name) and not self.prove(crate):
                 print("".join(crate.output[-60:]), end="", flush=True)
                 return False
             self.done += 1
@@ -140,6 +158,7 @@ class Build:
 
 # A toolchain that proves each crate at once, but sel_bits, which it has proved before, and that fails in the crate that FAILS names.
 FAKE = """#!/bin/sh
+[ "$1" = version ] && echo fake && exit 0
 name=$(basename "$PWD")
 echo "$@" > out/words
 [ "$name" = "$FAILS" ] && echo "error: not proved" && exit 1
@@ -158,6 +177,14 @@ def reported(folder: pathlib.Path, fails: str) -> tuple[bool, list[str]]:
     return done, [re.sub(r"^\[ *\d+:\d\d, |; about \d+ (s|min) left$", "", line) for line in output.getvalue().splitlines()]
 
 
+def words_of(folder: pathlib.Path) -> set[str]:
+    """Returns the crates for which the toolchain was called since this was asked before."""
+    found = [*folder.glob("crates/*/out/words")]
+    for path in found:
+        path.unlink()
+    return {path.parent.parent.name for path in found}
+
+
 def check() -> int:
     names = crates()
     with tempfile.TemporaryDirectory() as made:
@@ -168,16 +195,27 @@ def check() -> int:
             built.write_text(name)
         (folder / "rt").write_text(FAKE)
         (folder / "rt").chmod(0o755)
-        lines = [f"{number} of {len(names)} crates] {name}: {'proved before' if name == 'sel_bits' else '2 functions proved in 0 s'}" for number, name in enumerate(names, 1)]
+        said = [f"{number} of {len(names)} crates] {name}: {'proved before' if name == 'sel_bits' else '2 functions proved in 0 s'}" for number, name in enumerate(names, 1)]
+        before = [line.replace("2 functions proved in 0 s", "proved before") for line in said]
         found = reported(folder, "")
-        if found != (True, lines):
+        if found != (True, said):
             sys.exit(f"failed: the report of a build is {found}")
         if {*seconds_of(folder / "build" / "seconds")} != {*names} - {"sel_bits"}:
             sys.exit("failed: build/seconds does not have the crates that were proved")
         kept = {name for name in names if (folder / "crates" / name / "out" / "verdict").exists()}
         if kept != {*names} - {"sel_bits"} or "--cpu x86-64-v3" not in (folder / "crates" / TOP / "out" / "words").read_text():
             sys.exit("failed: a verdict is not kept, or the options do not reach the toolchain")
-        if reported(folder, names[2]) != (False, [*lines[:2], "error: not proved"]):
+        words_of(folder)
+        if not reported(folder, "")[0] or words_of(folder) != {TOP}:
+            sys.exit("failed: the toolchain is called for libraries that are built from the present sources")
+        source = folder / "crates" / names[2] / "src" / "lib.rt"
+        source.parent.mkdir()
+        source.write_text("changed")
+        uses = {name: used for name, (_, used) in lines().items()}
+        if not reported(folder, "")[0] or words_of(folder) != {names[2], *(name for name in names if names[2] in crates_below(name, uses))}:
+            sys.exit("failed: the toolchain is not called for a crate that was changed and for those above it")
+        source.write_text("changed again")
+        if reported(folder, names[2]) != (False, [*before[:2], "error: not proved"]):
             sys.exit("failed: a build goes on after a crate that is not proved")
     print(f"the report of a build of {len(names)} crates: ok")
     return 0

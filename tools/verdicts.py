@@ -18,9 +18,9 @@ def sum_of(data: bytes) -> str:
     return hashlib.sha256(data).hexdigest()
 
 
-def sum_of_sources(crate: str) -> str:
+def sum_of_sources(crate: str, root: pathlib.Path = ROOT) -> str:
     """Returns a sum of the crate's code, definitions and proofs: what the verdict is about."""
-    folder, found = ROOT / "crates" / crate, hashlib.sha256()
+    folder, found = root / "crates" / crate, hashlib.sha256()
     for path in sorted(path for part in ("src", "specs", "proofs") for path in (folder / part).rglob("*") if path.is_file()):
         found.update(f"{path.relative_to(folder)} {sum_of(path.read_bytes())}\n".encode())
     return found.hexdigest()
