@@ -23,7 +23,7 @@ import time
 sys.dont_write_bytecode = True
 
 from prover import crates_below, lines  # noqa: E402
-from verdicts import ROOT, TOP, crates, keep, sum_of, sum_of_sources  # noqa: E402
+from verdicts import ROOT, TOP, crates, keep, sum_of, sum_of_built, sum_of_sources  # noqa: E402
 
 # how long each crate takes from a clean build on the machine that docs/TESTING.md names; a build here keeps its own times in build/seconds
 MEASURED = ROOT / "tools" / "seconds.txt"
@@ -79,6 +79,7 @@ class Build:
         self.toolchain = subprocess.run([rt, "version"], capture_output=True, text=True, check=False).stdout if shutil.which(rt) else ""
         self.sums = {name: sum_of_sources(name, root) for name in self.names}
         self.expected = {name: UNKNOWN for name in self.names} | {**seconds_of(MEASURED), **seconds_of(self.times)}
+        self.built = {name for name in self.names if self.is_built(name)}
         # how long the crates took that were proved in this run
         self.took: dict[str, float] = {}
         self.done = 0
@@ -86,7 +87,7 @@ class Build:
     def left(self, running: float) -> float:
         """Returns about how many seconds are left, `running` after the crate in turn began, by how long the others took."""
         slower = sum(self.took.values()) / sum(self.expected[name] for name in self.took) if self.took else 1.0
-        left = [slower * self.expected[name] for name in self.names[self.done :]]
+        left = [slower * self.expected[name] for name in self.names[self.done :] if name not in self.built]
         return sum(left) - min(running, left[0]) if left else 0.0
 
     def say(self, text: str, running: float = 0.0) -> None:
@@ -100,11 +101,11 @@ class Build:
         return sum_of("".join([self.toolchain, *(f"{it} {self.sums[it]}\n" for it in needed)]).encode())
 
     def is_built(self, name: str) -> bool:
-        """Returns whether the library of a crate was built from the present sources. The toolchain looks at this too, which takes longer: when it
-        proves `sel_c`, it builds the libraries below that are not as it would build them."""
+        """Returns whether the library of a crate is the one that an earlier build here made of the present sources. The toolchain looks at this too,
+        which takes longer: when it proves `sel_c`, it builds the libraries below that are not as it would build them."""
         out = self.root / "crates" / name / "out"
-        kept = out / "built_from"
-        return name != TOP and (out / "rlib" / f"{name}.rlib" / "format").exists() and kept.exists() and kept.read_text() == self.sum_of_all(name)
+        kept, library = out / "built_from", out / "rlib" / f"{name}.rlib" / "format"
+        return name != TOP and library.exists() and kept.exists() and kept.read_text() == f"{self.sum_of_all(name)} {sum_of_built(name, self.root)}\n"
 
     def report(self, crate: Crate, ended: threading.Event) -> None:
         """Says from time to time for how long the crate has been proved, until it has ended."""
@@ -117,7 +118,7 @@ class Build:
         # a crate that was proved before has little to prove, which one process does sooner; but `sel_c` calls all that changed
         is_new = crate.name == TOP or not (folder / "out" / "incremental").exists()
         words = [self.rt, "lib", *(jobs() if is_new else []), *(self.options if crate.name == TOP else [])]
-        built_from, ended = self.sum_of_all(crate.name), threading.Event()
+        ended = threading.Event()
         reporter = threading.Thread(target=self.report, args=(crate, ended))
         reporter.start()
         try:
@@ -131,7 +132,7 @@ class Build:
         if ran.returncode == 0 and crate.verdict:
             keep(crate.name, crate.verdict, self.root)
         if ran.returncode == 0:
-            (folder / "out" / "built_from").write_text(built_from)
+            (folder / "out" / "built_from").write_text(f"{self.sum_of_all(crate.name)} {sum_of_built(crate.name, self.root)}\n")
         return ran.returncode == 0
 
     def run(self) -> bool:
@@ -140,7 +141,7 @@ class Build:
             sys.exit("the toolchain's command `rt` is not on the path: README.md says which toolchain is needed")
         for name in self.names:
             crate = Crate(name)
-            if not self.is_built(name) and not self.prove(crate):
+            if name not in self.built and not self.prove(crate):
                 print("".join(crate.output[-60:]), end="", flush=True)
                 return False
             self.done += 1
@@ -208,6 +209,9 @@ def check() -> int:
         words_of(folder)
         if not reported(folder, "")[0] or words_of(folder) != {TOP}:
             sys.exit("failed: the toolchain is called for libraries that are built from the present sources")
+        (folder / "crates" / names[-2] / "out" / "rlib" / f"{names[-2]}.rlib" / "format").write_text("another build")
+        if not reported(folder, "")[0] or words_of(folder) != {names[-2], TOP}:
+            sys.exit("failed: the toolchain is not called for a library that another command has built")
         source = folder / "crates" / names[2] / "src" / "lib.rt"
         source.parent.mkdir()
         source.write_text("changed")
