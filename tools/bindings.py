@@ -186,8 +186,8 @@ def try_python(folder: pathlib.Path) -> None:
     parts = [["test_rows"], names[::3], names[1::3], names[2::3]]
     with ThreadPoolExecutor(len(parts)) as pool:
         unit = {**env, "PYTHONPATH": f"{tests}:{package}"}
-        for part in [pool.submit(run, PYTHON, "-m", "unittest", *part, cwd=folder, env=unit) for part in parts]:
-            part.result()
+        for running in [pool.submit(run, PYTHON, "-m", "unittest", *part, cwd=folder, env=unit) for part in parts]:
+            running.result()
     for name in ("filter_take.py", "when_then.py"):
         prints(name, run(PYTHON, EXAMPLES / name, env=env))
     print("the Python package: ok")

@@ -1,6 +1,6 @@
 """Every call and most of the package with each allocation of the library refused: an exception, no leak, and nothing freed twice.
 
-Not run by `unittest discover`: `tools/bindings.py python` runs it over a library that is linked with tests/memory.c, which counts the
+Not run by `unittest discover`: `tools/bindings.py python_memory` runs it over a library that is linked with tests/memory.c, which counts the
 blocks of memory in use and refuses allocations on demand. SEL_LIBRARY names that library.
 """
 
