@@ -4,6 +4,8 @@
     tools/bench/upstream.py FOLDER [NEWER]          prints the section of docs/BENCHMARKS.md
     tools/bench/upstream.py FOLDER [NEWER] --write  writes it into the page, in place of the earlier one; the rest of the page stays as it is
 
+Each folder keeps what its program has printed in `times`, from which tools/bench/profiles.py takes the cases to look at.
+
 FOLDER has the program built for x86-64-v2, as the library is; NEWER, if given, built for x86-64-v3 with the library that `make lib CPU=x86-64-v3`
 makes. The program is FOLDER/sides or FOLDER/target/release/sides. It makes each result with the C library, filters by a prepared mask, and with upstream's kernels, both built for the
 same processors, compares them, times each contender after three untimed calls, and prints a line for each contender of a case, with tabs between: the case, the
@@ -26,8 +28,8 @@ ROOT = pathlib.Path(__file__).resolve().parent.parent.parent
 PAGE = ROOT / "docs" / "BENCHMARKS.md"
 HEADING, NEXT_HEADING = "## Beside upstream's kernels", "## Summary"
 ROUNDS = "9"
-# what the page aims at, and how many rows it lists above it
-MOST_RATIO, MOST_LISTED = 1.1, 40
+# what the page aims at
+MOST_RATIO = 1.1
 
 # the best time of each contender of a case, in ns per row
 Times = Dict[str, Dict[str, float]]
@@ -92,9 +94,9 @@ def row(kernel: Kernel, newer: Dict[str, Kernel]) -> str:
 def slower(found: Times) -> List[str]:
     """Returns the table of the cases that take longer than aimed at, the worst first."""
     worst = sorted(((times["port"] / times["upstream"], case) for case, times in found.items() if times["port"] > MOST_RATIO * times["upstream"]), reverse=True)
-    lines = [f"{len(worst)} of {len(found)} cases take more than {MOST_RATIO} times as long as upstream's kernel{f'; the first {MOST_LISTED}' if len(worst) > MOST_LISTED else ''}:", "",
+    lines = [f"{len(worst)} of {len(found)} cases take more than {MOST_RATIO} times as long as upstream's kernel:", "",
              "| case | this library | upstream | best loop | copy | library to upstream |", "|---|---|---|---|---|---|"]
-    for ratio, case in worst[:MOST_LISTED]:
+    for ratio, case in worst:
         times = found[case]
         cells = [f"{each:.3f}" if 0 < each < float("inf") else "-" for each in (times["port"], times["upstream"], loop(times), times.get("memcpy", 0.0))]
         lines.append(f"| {case} | {' | '.join(cells)} | {ratio:.2f} |")
@@ -102,8 +104,10 @@ def slower(found: Times) -> List[str]:
 
 
 def measured(folder: pathlib.Path) -> Times:
-    """Runs the program of a folder."""
-    return read(subprocess.run([program(folder), ROUNDS], stdout=subprocess.PIPE, text=True, check=True).stdout)
+    """Runs the program of a folder, and keeps its output there."""
+    output = subprocess.run([program(folder), ROUNDS], stdout=subprocess.PIPE, text=True, check=True).stdout
+    (folder / "times").write_text(output)
+    return read(output)
 
 
 def section(folder: pathlib.Path, newer: Optional[pathlib.Path] = None) -> List[str]:

@@ -65,7 +65,7 @@ pub extern "C" fn sel_int8_lend(alloc: Global, from: &mut Int8Memory, out: &mut 
     ensures { Lends result (λ values. Int8 values) from.old.items from.new.items
         out.old.buffer out.new.buffer }
 {
-    lend_memory(alloc, from, out)
+    lend_memory::<Int8Memory>(alloc, from, out)
 }
 
 /// Returns in `out` the lent memory of the buffer, of which `of` must be the last owner. `of` is
@@ -75,7 +75,7 @@ pub extern "C" fn sel_int8_back(alloc: Global, of: &mut BufferHandle, out: &mut 
     ensures { GivesBack result (λ values. Int8 values) of.old.buffer of.new.buffer
         out.new.items }
 {
-    give_memory_back(alloc, of, out)
+    give_memory_back::<Int8Memory>(alloc, of, out)
 }
 
 /// Returns in `out` a buffer of the values, without a copy. On error `from` keeps them.
@@ -88,7 +88,7 @@ pub extern "C" fn sel_int16_lend(
     ensures { Lends result (λ values. Int16 values) from.old.items from.new.items
         out.old.buffer out.new.buffer }
 {
-    lend_memory(alloc, from, out)
+    lend_memory::<Int16Memory>(alloc, from, out)
 }
 
 /// Returns in `out` the lent memory of the buffer, of which `of` must be the last owner. `of` is
@@ -98,7 +98,7 @@ pub extern "C" fn sel_int16_back(alloc: Global, of: &mut BufferHandle, out: &mut
     ensures { GivesBack result (λ values. Int16 values) of.old.buffer of.new.buffer
         out.new.items }
 {
-    give_memory_back(alloc, of, out)
+    give_memory_back::<Int16Memory>(alloc, of, out)
 }
 
 /// Returns in `out` a buffer of the values, without a copy. On error `from` keeps them.
@@ -111,7 +111,7 @@ pub extern "C" fn sel_int32_lend(
     ensures { Lends result (λ values. Int32 values) from.old.items from.new.items
         out.old.buffer out.new.buffer }
 {
-    lend_memory(alloc, from, out)
+    lend_memory::<Int32Memory>(alloc, from, out)
 }
 
 /// Returns in `out` the lent memory of the buffer, of which `of` must be the last owner. `of` is
@@ -121,7 +121,7 @@ pub extern "C" fn sel_int32_back(alloc: Global, of: &mut BufferHandle, out: &mut
     ensures { GivesBack result (λ values. Int32 values) of.old.buffer of.new.buffer
         out.new.items }
 {
-    give_memory_back(alloc, of, out)
+    give_memory_back::<Int32Memory>(alloc, of, out)
 }
 
 /// Returns in `out` a buffer of the values, without a copy. On error `from` keeps them.
@@ -134,7 +134,7 @@ pub extern "C" fn sel_int64_lend(
     ensures { Lends result (λ values. Int64 values) from.old.items from.new.items
         out.old.buffer out.new.buffer }
 {
-    lend_memory(alloc, from, out)
+    lend_memory::<Int64Memory>(alloc, from, out)
 }
 
 /// Returns in `out` the lent memory of the buffer, of which `of` must be the last owner. `of` is
@@ -144,7 +144,7 @@ pub extern "C" fn sel_int64_back(alloc: Global, of: &mut BufferHandle, out: &mut
     ensures { GivesBack result (λ values. Int64 values) of.old.buffer of.new.buffer
         out.new.items }
 {
-    give_memory_back(alloc, of, out)
+    give_memory_back::<Int64Memory>(alloc, of, out)
 }
 
 /// Returns in `out` a buffer of the values, without a copy. On error `from` keeps them.
@@ -157,7 +157,7 @@ pub extern "C" fn sel_uint8_lend(
     ensures { Lends result (λ values. UInt8 values) from.old.items from.new.items
         out.old.buffer out.new.buffer }
 {
-    lend_memory(alloc, from, out)
+    lend_memory::<UInt8Memory>(alloc, from, out)
 }
 
 /// Returns in `out` the lent memory of the buffer, of which `of` must be the last owner. `of` is
@@ -167,7 +167,7 @@ pub extern "C" fn sel_uint8_back(alloc: Global, of: &mut BufferHandle, out: &mut
     ensures { GivesBack result (λ values. UInt8 values) of.old.buffer of.new.buffer
         out.new.items }
 {
-    give_memory_back(alloc, of, out)
+    give_memory_back::<UInt8Memory>(alloc, of, out)
 }
 
 /// Returns in `out` a buffer of the values, without a copy. On error `from` keeps them.
@@ -180,7 +180,7 @@ pub extern "C" fn sel_uint16_lend(
     ensures { Lends result (λ values. UInt16 values) from.old.items from.new.items
         out.old.buffer out.new.buffer }
 {
-    lend_memory(alloc, from, out)
+    lend_memory::<UInt16Memory>(alloc, from, out)
 }
 
 /// Returns in `out` the lent memory of the buffer, of which `of` must be the last owner. `of` is
@@ -194,7 +194,7 @@ pub extern "C" fn sel_uint16_back(
     ensures { GivesBack result (λ values. UInt16 values) of.old.buffer of.new.buffer
         out.new.items }
 {
-    give_memory_back(alloc, of, out)
+    give_memory_back::<UInt16Memory>(alloc, of, out)
 }
 
 /// Returns in `out` a buffer of the values, without a copy. On error `from` keeps them.
@@ -207,7 +207,7 @@ pub extern "C" fn sel_uint32_lend(
     ensures { Lends result (λ values. UInt32 values) from.old.items from.new.items
         out.old.buffer out.new.buffer }
 {
-    lend_memory(alloc, from, out)
+    lend_memory::<UInt32Memory>(alloc, from, out)
 }
 
 /// Returns in `out` the lent memory of the buffer, of which `of` must be the last owner. `of` is
@@ -221,7 +221,7 @@ pub extern "C" fn sel_uint32_back(
     ensures { GivesBack result (λ values. UInt32 values) of.old.buffer of.new.buffer
         out.new.items }
 {
-    give_memory_back(alloc, of, out)
+    give_memory_back::<UInt32Memory>(alloc, of, out)
 }
 
 /// Returns in `out` a buffer of the values, without a copy. On error `from` keeps them.
@@ -234,7 +234,7 @@ pub extern "C" fn sel_uint64_lend(
     ensures { Lends result (λ values. UInt64 values) from.old.items from.new.items
         out.old.buffer out.new.buffer }
 {
-    lend_memory(alloc, from, out)
+    lend_memory::<UInt64Memory>(alloc, from, out)
 }
 
 /// Returns in `out` the lent memory of the buffer, of which `of` must be the last owner. `of` is
@@ -248,7 +248,7 @@ pub extern "C" fn sel_uint64_back(
     ensures { GivesBack result (λ values. UInt64 values) of.old.buffer of.new.buffer
         out.new.items }
 {
-    give_memory_back(alloc, of, out)
+    give_memory_back::<UInt64Memory>(alloc, of, out)
 }
 
 /// Returns in `out` a buffer of the values, without a copy. On error `from` keeps them.
@@ -261,7 +261,7 @@ pub extern "C" fn sel_views_lend(
     ensures { Lends result (λ values. Views values) from.old.items from.new.items
         out.old.buffer out.new.buffer }
 {
-    lend_memory(alloc, from, out)
+    lend_memory::<ViewMemory>(alloc, from, out)
 }
 
 /// Returns in `out` the lent memory of the buffer, of which `of` must be the last owner. `of` is
@@ -271,7 +271,7 @@ pub extern "C" fn sel_views_back(alloc: Global, of: &mut BufferHandle, out: &mut
     ensures { GivesBack result (λ values. Views values) of.old.buffer of.new.buffer
         out.new.items }
 {
-    give_memory_back(alloc, of, out)
+    give_memory_back::<ViewMemory>(alloc, of, out)
 }
 
 /// Returns in `out` a bitmap of the first `len` bits of the bytes, without a copy. On error `from`

@@ -83,7 +83,7 @@ pub extern "C" fn sel_int8_new(
     ensures { MakesNumbers result out.old.tree out.new.tree of_int8 (λ x. x)
         values.now bits.now has_bits }
 {
-    make_numbers(alloc, values, bits, has_bits, out)
+    make_numbers::<i8>(alloc, values, bits, has_bits, out)
 }
 
 /// Returns in `out` the column of these 16-bit integers.
@@ -101,7 +101,7 @@ pub extern "C" fn sel_int16_new(
     ensures { MakesNumbers result out.old.tree out.new.tree of_int16 (λ x. x)
         values.now bits.now has_bits }
 {
-    make_numbers(alloc, values, bits, has_bits, out)
+    make_numbers::<i16>(alloc, values, bits, has_bits, out)
 }
 
 /// Returns in `out` the column of these 32-bit integers.
@@ -119,7 +119,7 @@ pub extern "C" fn sel_int32_new(
     ensures { MakesNumbers result out.old.tree out.new.tree of_int32 (λ x. x)
         values.now bits.now has_bits }
 {
-    make_numbers(alloc, values, bits, has_bits, out)
+    make_numbers::<i32>(alloc, values, bits, has_bits, out)
 }
 
 /// Returns in `out` the column of these 64-bit integers.
@@ -137,7 +137,7 @@ pub extern "C" fn sel_int64_new(
     ensures { MakesNumbers result out.old.tree out.new.tree of_int64 (λ x. x)
         values.now bits.now has_bits }
 {
-    make_numbers(alloc, values, bits, has_bits, out)
+    make_numbers::<i64>(alloc, values, bits, has_bits, out)
 }
 
 /// Returns in `out` the column of these unsigned 8-bit integers.
@@ -155,7 +155,7 @@ pub extern "C" fn sel_uint8_new(
     ensures { MakesNumbers result out.old.tree out.new.tree of_uint8 pos
         values.now bits.now has_bits }
 {
-    make_numbers(alloc, values, bits, has_bits, out)
+    make_numbers::<u8>(alloc, values, bits, has_bits, out)
 }
 
 /// Returns in `out` the column of these unsigned 16-bit integers.
@@ -173,7 +173,7 @@ pub extern "C" fn sel_uint16_new(
     ensures { MakesNumbers result out.old.tree out.new.tree of_uint16 pos
         values.now bits.now has_bits }
 {
-    make_numbers(alloc, values, bits, has_bits, out)
+    make_numbers::<u16>(alloc, values, bits, has_bits, out)
 }
 
 /// Returns in `out` the column of these unsigned 32-bit integers.
@@ -191,7 +191,7 @@ pub extern "C" fn sel_uint32_new(
     ensures { MakesNumbers result out.old.tree out.new.tree of_uint32 pos
         values.now bits.now has_bits }
 {
-    make_numbers(alloc, values, bits, has_bits, out)
+    make_numbers::<u32>(alloc, values, bits, has_bits, out)
 }
 
 /// Returns in `out` the column of these unsigned 64-bit integers.
@@ -209,5 +209,5 @@ pub extern "C" fn sel_uint64_new(
     ensures { MakesNumbers result out.old.tree out.new.tree of_uint64 pos
         values.now bits.now has_bits }
 {
-    make_numbers(alloc, values, bits, has_bits, out)
+    make_numbers::<u64>(alloc, values, bits, has_bits, out)
 }

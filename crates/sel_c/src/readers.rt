@@ -86,7 +86,7 @@ pub extern "C" fn sel_boolean_values(alloc: Global, of: &ColumnRef, out: &mut [u
 pub extern "C" fn sel_int8_values(alloc: Global, of: &ColumnRef, out: &mut [i8]) -> u32
     ensures { CopiesNumbers result of.now.tree of_int8 (λ x. x) out.old out.new }
 {
-    held_numbers_into(alloc, of, out)
+    held_numbers_into::<i8>(alloc, of, out)
 }
 
 /// Copies the values to `out`, including those in null slots.
@@ -97,7 +97,7 @@ pub extern "C" fn sel_int8_values(alloc: Global, of: &ColumnRef, out: &mut [i8])
 pub extern "C" fn sel_int16_values(alloc: Global, of: &ColumnRef, out: &mut [i16]) -> u32
     ensures { CopiesNumbers result of.now.tree of_int16 (λ x. x) out.old out.new }
 {
-    held_numbers_into(alloc, of, out)
+    held_numbers_into::<i16>(alloc, of, out)
 }
 
 /// Copies the values to `out`, including those in null slots.
@@ -108,7 +108,7 @@ pub extern "C" fn sel_int16_values(alloc: Global, of: &ColumnRef, out: &mut [i16
 pub extern "C" fn sel_int32_values(alloc: Global, of: &ColumnRef, out: &mut [i32]) -> u32
     ensures { CopiesNumbers result of.now.tree of_int32 (λ x. x) out.old out.new }
 {
-    held_numbers_into(alloc, of, out)
+    held_numbers_into::<i32>(alloc, of, out)
 }
 
 /// Copies the values to `out`, including those in null slots.
@@ -119,7 +119,7 @@ pub extern "C" fn sel_int32_values(alloc: Global, of: &ColumnRef, out: &mut [i32
 pub extern "C" fn sel_int64_values(alloc: Global, of: &ColumnRef, out: &mut [i64]) -> u32
     ensures { CopiesNumbers result of.now.tree of_int64 (λ x. x) out.old out.new }
 {
-    held_numbers_into(alloc, of, out)
+    held_numbers_into::<i64>(alloc, of, out)
 }
 
 /// Copies the values to `out`, including those in null slots.
@@ -130,7 +130,7 @@ pub extern "C" fn sel_int64_values(alloc: Global, of: &ColumnRef, out: &mut [i64
 pub extern "C" fn sel_uint8_values(alloc: Global, of: &ColumnRef, out: &mut [u8]) -> u32
     ensures { CopiesNumbers result of.now.tree of_uint8 pos out.old out.new }
 {
-    held_numbers_into(alloc, of, out)
+    held_numbers_into::<u8>(alloc, of, out)
 }
 
 /// Copies the values to `out`, including those in null slots.
@@ -141,7 +141,7 @@ pub extern "C" fn sel_uint8_values(alloc: Global, of: &ColumnRef, out: &mut [u8]
 pub extern "C" fn sel_uint16_values(alloc: Global, of: &ColumnRef, out: &mut [u16]) -> u32
     ensures { CopiesNumbers result of.now.tree of_uint16 pos out.old out.new }
 {
-    held_numbers_into(alloc, of, out)
+    held_numbers_into::<u16>(alloc, of, out)
 }
 
 /// Copies the values to `out`, including those in null slots.
@@ -152,7 +152,7 @@ pub extern "C" fn sel_uint16_values(alloc: Global, of: &ColumnRef, out: &mut [u1
 pub extern "C" fn sel_uint32_values(alloc: Global, of: &ColumnRef, out: &mut [u32]) -> u32
     ensures { CopiesNumbers result of.now.tree of_uint32 pos out.old out.new }
 {
-    held_numbers_into(alloc, of, out)
+    held_numbers_into::<u32>(alloc, of, out)
 }
 
 /// Copies the values to `out`, including those in null slots.
@@ -163,5 +163,5 @@ pub extern "C" fn sel_uint32_values(alloc: Global, of: &ColumnRef, out: &mut [u3
 pub extern "C" fn sel_uint64_values(alloc: Global, of: &ColumnRef, out: &mut [u64]) -> u32
     ensures { CopiesNumbers result of.now.tree of_uint64 pos out.old out.new }
 {
-    held_numbers_into(alloc, of, out)
+    held_numbers_into::<u64>(alloc, of, out)
 }
