@@ -4,7 +4,7 @@ use Rattle.sel_filter.proofs.Common.{◌≡◌, ℕ, zero, suc, ◌+◌, ◌-◌
 use Rattle.sel_filter.proofs.Common.{drop, get_or, Bool, append-nil, append_assoc, length-append, bit_and, count_ones, ◌==◌, bit_at, trailing_zeros, w64}
 use Rattle.sel_filter.proofs.Common.{and_le_l, pow_mono, take-add, shr_and_one, length-take, length-drop, take_all, bits_from, bits, word_of, bits_suc}
 use Rattle.sel_filter.proofs.Common.{bits_zero, length_bits_from, length_bits, bits_split, word_of_lt, bit_at_shr, select, nil_from_length}
-use Rattle.std.proofs.lemmas.List.{take_at}
+use Rattle.std.proofs.lemmas.List.{take_at, drop-drop}
 use Rattle.sel_bits.proofs.Packed.{bits_word_of}
 use Rattle.sel_filter.proofs.{Firsts.first_kept, Firsts.first_within, Scalars.bits_part, WordLists.all_set, WordLists.none_more, WordLists.ones_is}
 use Rattle.sel_filter.proofs.Selects.{few_kept, length-select, select-append, select_end, select_more}
@@ -133,6 +133,20 @@ module _ {A : Type 0} (xs : List A) (ms : List Bool) (bytes : List ℕ) (s n : �
       → new ≡ front ++ select (take end xs) (take end ms)
   unfolding part
   part_kept front old new end m to wide was appended = grind (arith, long_part, select_more, same, word_is, bits_word_of)
+
+  -- If all bits are set, the values from position `f` on follow, without a gap.
+  pub full_kept : (front old : List A) (f : ℕ) → f ≤ at → word < 2 ^ count → count_ones word ≡ count → old ++ take (at - f) (drop f xs) ≡ front ++ select (take at xs) (take at ms)
+      → old ++ take (at + count - f) (drop f xs) ≡ front ++ select (take (at + count) xs) (take (at + count) ms)
+  full_kept front old f before fits full was =
+      let longer : at + count - f ≡ at - f + count = omega (arith, before) in
+      let rest : count ≡ at + count - at = omega arith in
+      let place : f + (at - f) ≡ at = omega (arith, before) in
+      let more : take (at + count - f) (drop f xs) ≡ take (at - f) (drop f xs) ++ take (at + count - at) (drop at xs) =
+      ap (λ k. take k (drop f xs)) longer ∙ take-add (at - f) count (drop f xs) ∙ (λ i. take (at - f) (drop f xs) ++ take (rest i) ((drop-drop (at - f) f xs ∙ ap (λ k. drop k xs) place) i))
+      in
+      part_kept front _ _ (at + count) count refl refl was
+      (ap (λ l. old ++ l) more ∙ sym (append_assoc old (take (at - f) (drop f xs)) (take (at + count - at) (drop at xs)))
+      ∙ ap (λ l. (old ++ take (at - f) (drop f xs)) ++ l) (sym (all_set (take (at + count - at) (drop at xs)) count word long_block fits full)))
 
 -- The values after the last whole block of 64 values.
 module _ {A : Type 0} (xs : List A) (ms : List Bool) (bytes : List ℕ) (s n : ℕ) (long : n ≡ length xs) (ms_is : ms ≡ bits_from bytes s n)

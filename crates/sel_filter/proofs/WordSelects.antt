@@ -25,7 +25,7 @@ module _ (v m : ℕ) (m_fits : m < 2 ^ 64) where
   unfolding compress
   compress_bits = grind (arith, kept_ones, bits_word_of, append-nil)
 
-full_count : count_ones 18446744073709551615 ≡ 64
+pub full_count : count_ones 18446744073709551615 ≡ 64
 full_count = count_word (replicate 64 true)
 
 pub select_full : (v m : ℕ) → m ≡ 18446744073709551615 → select (bits 64 v) (bits 64 m) ≡ bits 64 v

@@ -1,7 +1,7 @@
 //! Filters for blocks of up to 64 values by the bits of a word.
 #![tactic(auto, using(crate::proofs::Dense::kept_steps))]
 
-ghost use Rattle.std.specs.Prelude.{◌≡◌, ◌≤◌, ◌<◌, ◌^◌, ◌++◌, ◌+◌, ◌*◌, ◌∷◌, [], length, IfErr, OnOk, OnErr};
+ghost use Rattle.std.specs.Prelude.{◌≡◌, ◌≤◌, ◌<◌, ◌^◌, ◌++◌, ◌+◌, ◌*◌, ◌/◌, ◌∷◌, List, [], length, take, IfOk, IfErr, OnOk, OnErr};
 ghost use Rattle.std.specs.Vec.{vec_len, vec_capacity};
 ghost use Rattle.sel_bits.specs.Faults.{IsOutOfMemory};
 ghost use Rattle.sel_bits.specs.Bits.{bits_from};
@@ -11,7 +11,7 @@ ghost use Rattle.sel_filter.specs.Select.{select};
 
 use sel_bits::faults::PolarsResult;
 use sel_bits::words::{first_word, whole_word};
-use std::mem::replace;
+use std::mem::{replace, size_of_val};
 
 /// The spare capacity that a block needs: a value is written before it is known to be kept.
 pub(crate) const SPARE: usize = 65;
@@ -19,8 +19,14 @@ pub(crate) const SPARE: usize = 65;
 /// The largest number of set bits for which the values of a block are appended one by one.
 const FEW: u32 = 16;
 
-/// The largest number of runs of set bits for which the values of a block are appended by runs.
+/// The largest number of runs of set bits for which the values of a block are appended by runs. The
+/// lengths of the runs decide branches, which pays less for narrow values.
 const FEW_RUNS: u32 = 4;
+
+const FEW_RUNS_OF_NARROW: u32 = 1;
+
+/// The largest size of narrow values, in bytes.
+const NARROW: usize = 4;
 
 /// Appends the values whose bit is set, in blocks of 64 followed by the rest.
 ///
@@ -41,12 +47,19 @@ pub(crate) fn append_blocks<T: Copy>(
     ensures refusal { IfErr result IsOutOfMemory }
 {
     let len = values.len();
-    for block in 0..len / 64 {
-        let word = whole_word(bytes, 8 * block, 0);
-        if word == 0 {
-            continue;
+    let mut block: usize = 0;
+    while block < len / 64 {
+        let mask = whole_word(bytes, 8 * block, 0);
+        if is_mixed(mask, values) {
+            block = push_mixed(values, bytes, block, out);
+        } else if are_four_full(mask, &bytes[8 * block..]) {
+            block = append_full(values, bytes, block, out)?;
         }
-        append_block(&values[64 * block..64 * block + 64], word, out)?;
+        if block < len / 64 {
+            let word = whole_word(bytes, 8 * block, 0);
+            append_block(&values[64 * block..64 * block + 64], word, out)?;
+            block += 1;
+        }
     }
     let at = len / 64 * 64;
     let rest = len - at;
@@ -65,10 +78,36 @@ pub(crate) fn count_set(bytes: &[u8]) -> usize {
     count.wrapping_add(rest.count_ones() as usize)
 }
 
-/// Appends the values of a block whose bit is set.
-///
-/// Copies the whole block if all bits are set, and runs of values if there are few runs; appends
-/// one by one if few bits are set, and otherwise without branches.
+/// Returns whether a block of `values` is filtered value by value: few bits are set, or in many
+/// runs. Only speed depends on the result.
+#[inline(always)]
+fn is_mixed<T: Copy>(mask: u64, values: &[T]) -> bool {
+    mask.count_ones() <= FEW || (mask & !(mask << 1)).count_ones() > few_runs(values)
+}
+
+/// Returns the largest number of runs of set bits for which the values of a block are appended by
+/// runs. Only speed depends on the result.
+#[inline(always)]
+fn few_runs<T: Copy>(values: &[T]) -> u32 {
+    if values.len() >= 64 && size_of_val(&values[..64]) <= 64 * NARROW {
+        return FEW_RUNS_OF_NARROW;
+    }
+    FEW_RUNS
+}
+
+/// Returns whether all bits of four blocks are set, by the bits of the first one and the bytes of
+/// all. Only speed depends on the result.
+#[inline(always)]
+fn are_four_full(first: u64, bytes: &[u8]) -> bool {
+    if first != u64::MAX || bytes.len() < 32 {
+        return false;
+    }
+    let second = whole_word(bytes, 8, 0);
+    second & whole_word(bytes, 16, 0) & whole_word(bytes, 24, 0) == u64::MAX
+}
+
+/// Appends the values of a block whose bit is set: all at once, by runs of set bits, or value by
+/// value.
 ///
 /// # Errors
 /// `OutOfMemory` if an allocation fails; the old items of `out` are then still at its front.
@@ -80,20 +119,15 @@ fn append_block<T: Copy>(block: &[T], mask: u64, out: &mut Vec<T>) -> PolarsResu
     ensures begun { OnErr result (IsBeginning out.old.items out.new.items) }
     ensures refusal { IfErr result IsOutOfMemory }
 {
-    let count = mask.count_ones();
-    if count == 64 {
+    if mask.count_ones() == 64 {
         out.extend_from_slice(block)?;
         return Ok(());
     }
-    if count > FEW && (mask & !(mask << 1)).count_ones() <= FEW_RUNS {
+    if !is_mixed(mask, block) {
         return append_runs(block, mask, out);
     }
     out.reserve(SPARE)?;
-    if count <= FEW {
-        push_few(block, mask, out);
-    } else {
-        push_dense(block, mask, out);
-    }
+    push_block(block, mask, out);
     Ok(())
 }
 
@@ -145,6 +179,90 @@ fn append_runs<T: Copy>(block: &[T], mask: u64, out: &mut Vec<T>) -> PolarsResul
     Ok(())
 }
 
+/// Appends the values from block `first` on as long as all bits of the blocks are set. Returns the
+/// block after them.
+///
+/// # Errors
+/// `OutOfMemory` if an allocation fails; the old items of `out` are then still at its front.
+#[inline(never)]
+fn append_full<T: Copy>(
+    values: &[T],
+    bytes: &[u8],
+    first: usize,
+    out: &mut Vec<T>,
+) -> PolarsResult<usize>
+    requires bits { length values.now ≤ 8 * length bytes.now }
+    requires first { first ≤ length values.now / 64 }
+    ensures forward { IfOk result (λ end. first ≤ end) }
+    ensures within { IfOk result (λ end. end ≤ length values.now / 64) }
+    ensures appended { IfOk result (λ end. (front : List T) → out.old.items ≡ front ++
+        select (take (64 * first) values.now)
+        (take (64 * first) (bits_from bytes.now 0 (length values.now))) → out.new.items ≡ front ++
+        select (take (64 * end) values.now)
+        (take (64 * end) (bits_from bytes.now 0 (length values.now)))) }
+    ensures begun { OnErr result (IsBeginning out.old.items out.new.items) }
+    ensures refusal { IfErr result IsOutOfMemory }
+{
+    let mut end = first;
+    while end < values.len() / 64 && whole_word(bytes, 8 * end, 0) == u64::MAX {
+        end += 1;
+    }
+    out.extend_from_slice(&values[64 * first..64 * end])?;
+    Ok(end)
+}
+
+/// Appends the values whose bit is set, from block `first` on as long as the blocks are filtered
+/// value by value and the spare capacity suffices. Returns the block after them.
+#[inline(never)]
+fn push_mixed<T: Copy>(values: &[T], bytes: &[u8], first: usize, out: &mut Vec<T>) -> usize
+    requires bits { length values.now ≤ 8 * length bytes.now }
+    requires first { first ≤ length values.now / 64 }
+    ensures forward { first ≤ result }
+    ensures within { result ≤ length values.now / 64 }
+    ensures appended { (front : List T) → out.old.items ≡ front ++
+        select (take (64 * first) values.now)
+        (take (64 * first) (bits_from bytes.now 0 (length values.now))) → out.new.items ≡ front ++
+        select (take (64 * result) values.now)
+        (take (64 * result) (bits_from bytes.now 0 (length values.now))) }
+{
+    // A vector of this function alone, so that its length stays in a register.
+    let alloc = *out.allocator();
+    let mut kept = replace(out, Vec::new(alloc));
+    let mut block = first;
+    while block < values.len() / 64 && kept.capacity() - kept.len() >= SPARE {
+        let word = whole_word(bytes, 8 * block, 0);
+        if word == 0 {
+            block += 1;
+            continue;
+        }
+        if !is_mixed(word, values) {
+            break;
+        }
+        push_block(&values[64 * block..64 * block + 64], word, &mut kept);
+        block += 1;
+    }
+    *out = kept;
+    block
+}
+
+/// Appends the values of a block whose bit is set, one by one if few are, and otherwise without
+/// branches.
+///
+/// # Requires
+/// `out` has spare capacity for 65 values.
+#[inline(always)]
+fn push_block<T: Copy>(block: &[T], mask: u64, out: &mut Vec<T>)
+    requires block { length block.now ≡ 64 }
+    requires room { vec_len out.old + 65 ≤ vec_capacity out.old }
+    ensures appended { out.new.items ≡ out.old.items ++ select block.now (bits 64 mask) }
+{
+    if mask.count_ones() <= FEW {
+        push_few(block, mask, out);
+    } else {
+        push_dense(block, mask, out);
+    }
+}
+
 /// Appends the values of a block whose bit is set, two set bits at a time.
 ///
 /// # Requires
@@ -155,47 +273,39 @@ fn push_few<T: Copy>(block: &[T], mask: u64, out: &mut Vec<T>)
     requires room { vec_len out.old + 65 ≤ vec_capacity out.old }
     ensures appended { out.new.items ≡ out.old.items ++ select block.now (bits 64 mask) }
 {
-    // A vector of this function alone, so that its length stays in a register.
-    let alloc = *out.allocator();
-    let mut kept = replace(out, Vec::new(alloc));
-    let all = kept.len() + mask.count_ones() as usize;
+    let all = out.len() + mask.count_ones() as usize;
     let mut rest = mask;
     while rest != 0 {
-        kept.push_reserved(block[rest.trailing_zeros() as usize]);
+        out.push_reserved(block[rest.trailing_zeros() as usize]);
         rest &= rest - 1;
-        kept.push_reserved(block[rest.trailing_zeros() as usize % 64]);
+        out.push_reserved(block[rest.trailing_zeros() as usize % 64]);
         rest &= rest.wrapping_sub(1);
     }
     // (with an odd number of set bits, the last value is not one of them)
-    kept.truncate(all);
-    *out = kept;
+    out.truncate(all);
 }
 
 /// Appends the values whose bit is set, without a branch.
 ///
 /// # Requires
 /// `out` has spare capacity for 64 values.
-#[inline(never)]
+#[inline(always)]
 fn push_dense<T: Copy>(block: &[T], mask: u64, out: &mut Vec<T>)
     requires block { length block.now ≡ 64 }
     requires room { vec_len out.old + 64 ≤ vec_capacity out.old }
     ensures appended { out.new.items ≡ out.old.items ++ select block.now (bits 64 mask) }
 {
-    // A vector of this function alone, so that its length stays in a register.
-    let alloc = *out.allocator();
-    let mut kept = replace(out, Vec::new(alloc));
     let mut word = mask;
     // Rounds of 16: in some builds rounds of 4 took 1.4 times as long, most likely by the place of
     // the loop in the code (docs/BENCHMARKS.md).
     for round in 0..4usize {
         let at = 16 * round;
-        push_four(&block[at..at + 4], word, &mut kept);
-        push_four(&block[at + 4..at + 8], word >> 4, &mut kept);
-        push_four(&block[at + 8..at + 12], word >> 8, &mut kept);
-        push_four(&block[at + 12..at + 16], word >> 12, &mut kept);
+        push_four(&block[at..at + 4], word, out);
+        push_four(&block[at + 4..at + 8], word >> 4, out);
+        push_four(&block[at + 8..at + 12], word >> 8, out);
+        push_four(&block[at + 12..at + 16], word >> 12, out);
         word >>= 16;
     }
-    *out = kept;
 }
 
 /// Appends those of four values whose bit is set in the four lowest bits of `word`.

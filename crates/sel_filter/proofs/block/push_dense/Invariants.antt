@@ -6,6 +6,6 @@ use Rattle.sel_filter.proofs.block.push_dense.Given as goal
 abbrev pub invariant-loop-round : goal.invariant-loop-round
 invariant-loop-round g l = record {
   left : l.word ≡ l.mask / 2 ^ (16 * l.round);
-  capacity : vec_capacity l.kept ≡ vec_capacity l.fn.out;
-  dense : IsDense l.block l.mask l.fn.out.items l.kept.items (16 * l.round);
+  capacity : vec_capacity l.out ≡ vec_capacity l.fn.out;
+  dense : IsDense l.block l.mask l.fn.out.items l.out.items (16 * l.round);
 }
