@@ -49,9 +49,9 @@ def path_of(crate: str, path: pathlib.Path) -> list[str]:
 
 def is_public(crate: str, path: pathlib.Path) -> set[str] | None:
     """Returns None if each module on the path to a file is public, else the names that are re-exported from it. C calls the functions of
-    sel_c by their names alone, so its modules count as public."""
+    sel_c by their names alone, so its modules count as public, except those below another: their functions are not exported."""
     if crate == "sel_c":
-        return None
+        return None if path.parent == ROOT / "crates" / crate / "src" else set()
     at = ROOT / "crates" / crate / "src"
     exported: set[str] | None = None
     for part in path_of(crate, path)[1:]:

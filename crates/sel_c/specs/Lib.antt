@@ -1,1 +1,16 @@
+pub mod Below
+pub mod Choices
+pub mod Dictionaries
+pub mod Elements
+pub mod Entries
+pub mod Filters
 pub mod Numbers
+pub mod Parsed
+pub mod PickLengths
+pub mod Printed
+pub mod Returns
+pub mod Selections
+pub mod Several
+pub mod Takes
+pub mod Types
+pub mod Wides

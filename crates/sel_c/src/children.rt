@@ -1,8 +1,8 @@
 //! Children of lists and fields of structs.
 
-ghost use Rattle.sel_calls.specs.Below.{ReturnsChild, ReturnsField, ReturnsFieldCount, ReturnsListSize};
+ghost use Rattle.sel_c.specs.Below.{ReturnsChild, ReturnsField, ReturnsFieldCount, ReturnsListSize};
 
-use sel_calls::children::{child_into, field_count_into, field_into, width_into};
+use crate::calls::children::{child_into, field_count_into, field_into, width_into};
 use sel_ffi::column_ref::ColumnRef;
 use sel_ffi::handle::Handle;
 use sel_ffi::status::NO_COLUMN;

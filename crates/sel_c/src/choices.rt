@@ -5,9 +5,9 @@ ghost use Rattle.sel_ternary.specs.Choose.{choose, broadcast_true, broadcast_fal
 ghost use Rattle.sel_ternary.specs.Chosen.{first_row};
 ghost use Rattle.sel_ffi.specs.Status.{held_rows};
 ghost use Rattle.sel_kernels.specs.Select.{effective_mask};
-ghost use Rattle.sel_calls.specs.Choices.{Chooses};
+ghost use Rattle.sel_c.specs.Choices.{Chooses};
 
-use sel_calls::choices::choose_handles;
+use crate::calls::choices::choose_handles;
 use sel_ffi::column_ref::ColumnRef;
 use sel_ffi::handle::Handle;
 use std::alloc::Global;

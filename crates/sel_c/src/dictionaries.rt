@@ -1,8 +1,8 @@
 //! Dictionaries.
 
-ghost use Rattle.sel_calls.specs.Dictionaries.{PropagatesNulls};
+ghost use Rattle.sel_c.specs.Dictionaries.{PropagatesNulls};
 
-use sel_calls::dictionaries::propagate_columns_into;
+use crate::calls::dictionaries::propagate_columns_into;
 use sel_ffi::column_ref::ColumnRef;
 use sel_ffi::handle::Handle;
 use sel_ffi::status::NO_COLUMN;

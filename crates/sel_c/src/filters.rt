@@ -1,8 +1,8 @@
 //! Filter.
 
-ghost use Rattle.sel_calls.specs.Filters.{Filters, FiltersByBits};
+ghost use Rattle.sel_c.specs.Filters.{Filters, FiltersByBits};
 
-use sel_calls::filters::{filter_bits_into, filter_into};
+use crate::calls::filters::{filter_bits_into, filter_into};
 use sel_ffi::column_ref::ColumnRef;
 use sel_ffi::handle::Handle;
 use sel_ffi::status::NO_COLUMN;

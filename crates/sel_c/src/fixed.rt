@@ -1,8 +1,8 @@
 //! Fixed-size list element access.
 
-ghost use Rattle.sel_calls.specs.Elements.{GetsFixedEntries};
+ghost use Rattle.sel_c.specs.Elements.{GetsFixedEntries};
 
-use sel_calls::fixed::fixed_get_into;
+use crate::calls::fixed::fixed_get_into;
 use sel_ffi::column_ref::ColumnRef;
 use sel_ffi::handle::Handle;
 use sel_ffi::status::NO_COLUMN;

@@ -1,8 +1,8 @@
 //! Fixed-size list element access with an index for each row.
 
-ghost use Rattle.sel_calls.specs.Elements.{GetsFixedEntriesEach};
+ghost use Rattle.sel_c.specs.Elements.{GetsFixedEntriesEach};
 
-use sel_calls::fixed_each::fixed_get_each_into;
+use crate::calls::fixed_each::fixed_get_each_into;
 use sel_ffi::column_ref::ColumnRef;
 use sel_ffi::handle::Handle;
 use sel_ffi::status::NO_COLUMN;

@@ -1,6 +1,7 @@
 //! The functions of the C interface.
 #![tactic(auto)]
 
+mod calls;
 mod children;
 mod choices;
 mod dictionaries;

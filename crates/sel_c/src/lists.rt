@@ -3,13 +3,13 @@
 ghost use Rattle.std.specs.Prelude.{◌≡◌, ◌<◌, [], ◌∷◌};
 ghost use Rattle.sel_arrow.specs.Depth.{depth};
 ghost use Rattle.sel_arrow.specs.Shape.{of_large_list};
-ghost use Rattle.sel_calls.specs.Elements.{FindsOutOfBounds, GetsListElements};
-ghost use Rattle.sel_calls.specs.Returns.{ReturnsColumn};
+ghost use Rattle.sel_c.specs.Elements.{FindsOutOfBounds, GetsListElements};
+ghost use Rattle.sel_c.specs.Returns.{ReturnsColumn};
 ghost use Rattle.sel_ffi.specs.Status.{ok, no_column, too_deep, held_rows, held_type, HasColumn};
 ghost use Rattle.sel_kernels.specs.Lists.{unit_lists};
 
+use crate::calls::lists::{index_is_oob_into, sublist_get_into};
 use sel_arrow::array::Array;
-use sel_calls::lists::{index_is_oob_into, sublist_get_into};
 use sel_ffi::column_ref::ColumnRef;
 use sel_ffi::depth::{MAX_DEPTH, is_within};
 use sel_ffi::handle::Handle;

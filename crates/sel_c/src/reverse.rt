@@ -1,7 +1,7 @@
 //! Reversal.
 
 ghost use Rattle.std.specs.Prelude.{◌≡◌, ◌∷◌, [], reverse};
-ghost use Rattle.sel_calls.specs.Returns.{ReturnsColumn};
+ghost use Rattle.sel_c.specs.Returns.{ReturnsColumn};
 ghost use Rattle.sel_ffi.specs.Status.{ok, no_column, held_rows, held_type, HasColumn};
 
 use sel_ffi::column_ref::ColumnRef;

@@ -2,13 +2,13 @@
 
 ghost use Rattle.std.specs.Prelude.{◌≡◌, [], ◌∷◌, length, None};
 ghost use Rattle.sel_bits.specs.Bits.{count_true};
-ghost use Rattle.sel_calls.specs.Returns.{ReturnsValue};
-ghost use Rattle.sel_calls.specs.Selections.{PreparesColumn, PreparesBits, FiltersBySelection, HasSelection, held_mask};
+ghost use Rattle.sel_c.specs.Returns.{ReturnsValue};
+ghost use Rattle.sel_c.specs.Selections.{PreparesColumn, PreparesBits, FiltersBySelection, HasSelection, held_mask};
 ghost use Rattle.sel_ffi.specs.Status.{no_column};
 
-use sel_calls::selection_handle::SelectionHandle;
-use sel_calls::selection_ref::SelectionRef;
-use sel_calls::selections::{filter_selected_into, selection_into, selection_of_bits_into};
+use crate::calls::selection_handle::SelectionHandle;
+use crate::calls::selection_ref::SelectionRef;
+use crate::calls::selections::{filter_selected_into, selection_into, selection_of_bits_into};
 use sel_ffi::column_ref::ColumnRef;
 use sel_ffi::handle::Handle;
 use sel_ffi::status::{NO_COLUMN, OK};

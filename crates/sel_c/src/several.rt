@@ -2,10 +2,10 @@
 
 ghost use Rattle.std.specs.Prelude.{◌∷◌, [], All, map};
 ghost use Rattle.std.specs.List.{flat_map};
-ghost use Rattle.sel_calls.specs.Several.{picks_conditions, picks_in, CollectsRows, FlattensColumns};
+ghost use Rattle.sel_c.specs.Several.{picks_conditions, picks_in, CollectsRows, FlattensColumns};
 ghost use Rattle.sel_ffi.specs.Status.{no_column, held_columns, held_rows, held_type, HasColumn};
 
-use sel_calls::several::{PickWords, collect_into, flatten_into};
+use crate::calls::several::{PickWords, collect_into, flatten_into};
 use sel_ffi::column_ref::ColumnRef;
 use sel_ffi::handle::Handle;
 use sel_ffi::several::share_all;

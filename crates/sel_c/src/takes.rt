@@ -1,8 +1,8 @@
 //! Take (gather).
 
-ghost use Rattle.sel_calls.specs.Takes.{Takes, TakesAt};
+ghost use Rattle.sel_c.specs.Takes.{Takes, TakesAt};
 
-use sel_calls::takes::{take_into, take_rows_into};
+use crate::calls::takes::{take_into, take_rows_into};
 use sel_ffi::column_ref::ColumnRef;
 use sel_ffi::handle::Handle;
 use sel_ffi::status::NO_COLUMN;

@@ -1,11 +1,11 @@
 //! Comparison, printing and parsing.
 
 ghost use Rattle.std.specs.Prelude.{◌≡◌, ◌≢◌, ◌↔◌, [], ◌∷◌, IsTrue};
-ghost use Rattle.sel_calls.specs.Parsed.{Parses};
-ghost use Rattle.sel_calls.specs.Printed.{held_text, held_type_text, Prints};
+ghost use Rattle.sel_c.specs.Parsed.{Parses};
+ghost use Rattle.sel_c.specs.Printed.{held_text, held_type_text, Prints};
 ghost use Rattle.sel_ffi.specs.Status.{ok, out_of_memory, no_column, held_rows, HasColumn, ReturnsFirst};
 
-use sel_calls::texts::{parse_into, print_into, print_type_into};
+use crate::calls::texts::{parse_into, print_into, print_type_into};
 use sel_ffi::column_ref::ColumnRef;
 use sel_ffi::handle::Handle;
 use sel_ffi::status::{NO_COLUMN, OK};

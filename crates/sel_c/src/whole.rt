@@ -1,7 +1,7 @@
 //! Columns: slice, share, free.
 
 ghost use Rattle.std.specs.Prelude.{◌≡◌, ◌≤◌, ◌+◌, [], ◌∷◌, length, take, drop, None};
-ghost use Rattle.sel_calls.specs.Returns.{ReturnsColumn};
+ghost use Rattle.sel_c.specs.Returns.{ReturnsColumn};
 ghost use Rattle.sel_ffi.specs.Status.{ok, no_column, index_out_of_bounds, held_rows, held_type, HasColumn};
 
 use sel_arrow::array::Array;

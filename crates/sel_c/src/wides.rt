@@ -4,13 +4,13 @@ ghost use Rattle.std.specs.Prelude.{◌≡◌, length};
 ghost use Rattle.sel_arrow.specs.Masked.{number_rows};
 ghost use Rattle.sel_arrow.specs.Rows.{rows, type_of};
 ghost use Rattle.sel_arrow.specs.Shape.{of_int128, of_uint128};
-ghost use Rattle.sel_calls.specs.Wides.{signed_wide, unsigned_wide};
+ghost use Rattle.sel_c.specs.Wides.{signed_wide, unsigned_wide};
 ghost use Rattle.sel_ffi.specs.Inputs.{validity_in, flat_rules};
 ghost use Rattle.sel_ffi.specs.Outputs.{CopiesNumbers};
 ghost use Rattle.sel_ffi.specs.Status.{Makes, ReportsExactly};
 
+use crate::calls::wides::{Wide, wides_into, wides_of};
 use sel_arrow::primitive::ArrowPrimitive;
-use sel_calls::wides::{Wide, wides_into, wides_of};
 use sel_ffi::column_ref::ColumnRef;
 use sel_ffi::handle::Handle;
 use sel_ffi::status::{NO_COLUMN, put, status_of_maker};

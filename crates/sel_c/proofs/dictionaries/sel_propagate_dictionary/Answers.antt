@@ -1,6 +1,6 @@
 use Rattle.std.proofs.Common.{Some, subst, sym}
 use Rattle.sel_ffi.specs.Held.{Held}
-use Rattle.sel_calls.specs.Dictionaries.{PropagatesNulls}
+use Rattle.sel_c.specs.Dictionaries.{PropagatesNulls}
 use Rattle.sel_c.proofs.dictionaries.sel_propagate_dictionary.Goals as goal
 
 pub returns : goal.returns

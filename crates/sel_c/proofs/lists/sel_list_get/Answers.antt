@@ -1,6 +1,6 @@
 use Rattle.std.proofs.{Common.Some, Common.subst, Common.sym, Common.w64, Common.ℤ, lemmas.Int.to_z-of_z}
 use Rattle.sel_ffi.specs.Held.{Held}
-use Rattle.sel_calls.specs.Elements.{GetsListElements}
+use Rattle.sel_c.specs.Elements.{GetsListElements}
 use Rattle.sel_c.proofs.lists.sel_list_get.Goals as goal
 
 pub returns : goal.returns

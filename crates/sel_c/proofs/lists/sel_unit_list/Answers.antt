@@ -1,7 +1,7 @@
 use Rattle.std.proofs.Common.{◌<◌, inr, rules}
 use Rattle.sel_arrow.specs.Depth.{depth}
 use Rattle.sel_ffi.specs.Status.{held_type, HasColumn}
-use Rattle.sel_calls.proofs.Limits.{returns-low}
+use Rattle.sel_c.proofs.Limits.{returns-low}
 use Rattle.sel_c.proofs.lists.sel_unit_list.Goals as goal
 
 pub returns-in-Ok-array_to_unit_list : goal.returns-in-Ok-array_to_unit_list

@@ -1,7 +1,7 @@
 use Rattle.std.proofs.Common.{◌<◌, ℕ, List, subst, sym}
 use Rattle.sel_arrow.specs.{Depth.deepest, Shape.Shape, Shape.shapes_of}
 use Rattle.sel_ffi.specs.{Inputs.struct_rules, Status.ReportsExactly}
-use Rattle.sel_calls.proofs.Counts.{counts_of_rows}
+use Rattle.sel_c.proofs.Counts.{counts_of_rows}
 use Rattle.sel_c.proofs.nested_makers.sel_struct_new.Goals as goal
 
 pub returns-then-status-eq-OK-clause-status : goal.returns-then-status-eq-OK-clause-status

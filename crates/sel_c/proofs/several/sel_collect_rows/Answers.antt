@@ -1,6 +1,6 @@
 use Rattle.std.proofs.Common.{ap, inr, map, ◌∙◌}
 use Rattle.sel_arrow.specs.{Rows.rows, Rows.type_of, Rows.buffers_held, declared.array_ref.ArrayRef.ArrayRef}
-use Rattle.sel_calls.proofs.SameNeeds.{pick_held}
+use Rattle.sel_c.proofs.SameNeeds.{pick_held}
 use Rattle.sel_c.proofs.several.sel_collect_rows.Goals as goal
 
 pub returns-in-Ok : goal.returns-in-Ok

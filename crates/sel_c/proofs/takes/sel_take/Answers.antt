@@ -1,6 +1,6 @@
 use Rattle.std.proofs.Common.{Some, subst, sym}
 use Rattle.sel_ffi.specs.Held.{Held}
-use Rattle.sel_calls.specs.Takes.{Takes}
+use Rattle.sel_c.specs.Takes.{Takes}
 use Rattle.sel_c.proofs.takes.sel_take.Goals as goal
 
 pub returns : goal.returns

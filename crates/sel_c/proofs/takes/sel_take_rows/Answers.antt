@@ -1,6 +1,6 @@
 use Rattle.std.proofs.Common.{subst, sym}
 use Rattle.sel_ffi.specs.Held.{Held}
-use Rattle.sel_calls.specs.Takes.{TakesAt}
+use Rattle.sel_c.specs.Takes.{TakesAt}
 use Rattle.sel_c.proofs.takes.sel_take_rows.Goals as goal
 
 pub returns : goal.returns
