@@ -73,8 +73,8 @@ def proved(over_gate: bool, cpu: str, compiler: list[str]) -> pathlib.Path:
             sys.exit("failed: the library is not built")
         return archive
     archive.parent.mkdir(exist_ok=True)
-    jobs = max(len(os.sched_getaffinity(0)) // 2, 1)
-    command = [*words("build", "sel_c", folder), *for_cpu(cpu), "--jobs", str(jobs), "--toolchain", str(kit() / "toolchain"), "-o", str(archive)]
+    # (one process: two take a third more processor time, and the other processors have proofs to do)
+    command = [*words("build", "sel_c", folder), *for_cpu(cpu), "--toolchain", str(kit() / "toolchain"), "-o", str(archive)]
     ran = subprocess.run(command, cwd=folder, stdout=subprocess.PIPE, stderr=subprocess.STDOUT, text=True, errors="replace", check=False)
     verdict = re.search(r"(?m)^logic=proved .*$", ran.stdout)
     if ran.returncode != 0 or not verdict:
