@@ -1,10 +1,11 @@
 #!/usr/bin/env python3
-"""Finds where the library's time goes in the cases that take longer than upstream's kernels, by samples of `perf record` and `perf annotate`.
+"""Finds where the library's time goes in the cases that take longer than upstream's kernels or the best loop, by samples of `perf record` and
+`perf annotate`.
 
 tools/bench/profiles.py FOLDER [TIMES]   prints a table for docs/BENCHMARKS.md
 
-FOLDER is as for tools/bench/upstream.py, TIMES a file with the output of a run of its program; without it the program runs first. `perf` is
-Debian's `linux-perf`.
+FOLDER is as for tools/bench/upstream.py, TIMES a file with the output of a run of its program, as FOLDER/times is after tools/bench/upstream.py; without it the
+program runs first. `perf` is Debian's `linux-perf`.
 """
 
 from __future__ import annotations
@@ -37,9 +38,9 @@ def symbols() -> Set[str]:
 
 
 def slow_cases(found: upstream.Times) -> List[Tuple[float, float, str]]:
-    """Returns the cases above the ratio aimed at to upstream's kernel, the worst first, with that to the best loop too."""
+    """Returns the cases above the ratio aimed at to upstream's kernel or to the best loop, with both ratios, by the first one, the worst first."""
     ratios = [(times["port"] / times["upstream"], times["port"] / upstream.loop(times), case) for case, times in found.items()]
-    return sorted((each for each in ratios if each[0] > upstream.MOST_RATIO), reverse=True)
+    return sorted((each for each in ratios if max(each[:2]) > upstream.MOST_RATIO), reverse=True)
 
 
 def hottest(data: str, symbol: str) -> str:

@@ -91,10 +91,15 @@ def row(kernel: Kernel, newer: Dict[str, Kernel]) -> str:
     return f"| {' | '.join(cells)} |"
 
 
+def behind_loop(found: Times) -> int:
+    """Returns the number of cases that take longer than aimed at beside the best loop."""
+    return sum(times["port"] > MOST_RATIO * loop(times) for times in found.values())
+
+
 def slower(found: Times) -> List[str]:
     """Returns the table of the cases that take longer than aimed at, the worst first."""
     worst = sorted(((times["port"] / times["upstream"], case) for case, times in found.items() if times["port"] > MOST_RATIO * times["upstream"]), reverse=True)
-    lines = [f"{len(worst)} of {len(found)} cases take more than {MOST_RATIO} times as long as upstream's kernel:", "",
+    lines = [f"{len(worst)} of {len(found)} cases take more than {MOST_RATIO} times as long as upstream's kernel, and {behind_loop(found)} as the best loop, which [Profiles](#profiles) lists too:", "",
              "| case | this library | upstream | best loop | copy | library to upstream |", "|---|---|---|---|---|---|"]
     for ratio, case in worst:
         times = found[case]
@@ -117,7 +122,7 @@ def section(folder: pathlib.Path, newer: Optional[pathlib.Path] = None) -> List[
     others = measured(newer) if newer else {}
     by_name = {kernel.name: kernel for kernel in kernels(others)}
     slow = sum(times["port"] > MOST_RATIO * times["upstream"] for times in others.values())
-    both = [f"Built for x86-64-v3, {slow} of {len(others)} cases do; the last column of the table above has the ratios.", ""] if newer else []
+    both = [f"Built for x86-64-v3, {slow} and {behind_loop(others)} of {len(others)} cases do; the last column of the table above has the ratios to upstream's kernels.", ""] if newer else []
     return [HEADING, "", "The time of this library by that of upstream's kernel, of the best loop in safe Rust (plain or tuned by hand) and of a copy of the same bytes: the least and the greatest ratio of a "
             "kernel's cases, and the median in parentheses. All are built for the same processors (x86-64-v2) and run in one process, in turn in each round, each after three "
             f"untimed calls, since this library's values are not in the memory that the other contenders share; the best of {ROUNDS} rounds counts. Filters take a mask that is prepared "
