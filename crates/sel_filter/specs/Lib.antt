@@ -1,3 +1,4 @@
+pub mod Blocks
 pub mod Compress
 pub mod Runs
 pub mod Scalar

@@ -1,12 +1,13 @@
 //! Filters for blocks of up to 64 values by the bits of a word.
 #![tactic(auto, using(crate::proofs::Dense::kept_steps))]
 
-ghost use Rattle.std.specs.Prelude.{◌≡◌, ◌≤◌, ◌<◌, ◌^◌, ◌++◌, ◌+◌, ◌*◌, ◌/◌, ◌∷◌, List, [], length, take, IfOk, IfErr, OnOk, OnErr};
+ghost use Rattle.std.specs.Prelude.{◌≡◌, ◌≤◌, ◌<◌, ◌^◌, ◌++◌, ◌+◌, ◌*◌, ◌/◌, ◌∷◌, List, [], length, IfOk, IfErr, OnOk, OnErr};
 ghost use Rattle.std.specs.Vec.{vec_len, vec_capacity};
 ghost use Rattle.sel_bits.specs.Faults.{IsOutOfMemory};
 ghost use Rattle.sel_bits.specs.Bits.{bits_from};
 ghost use Rattle.sel_bits.specs.Copying.{IsBeginning};
 ghost use Rattle.sel_bits.specs.Words.{bits};
+ghost use Rattle.sel_filter.specs.Blocks.{kept_of_blocks};
 ghost use Rattle.sel_filter.specs.Select.{select};
 
 use sel_bits::faults::PolarsResult;
@@ -19,10 +20,10 @@ pub(crate) const SPARE: usize = 65;
 /// The largest number of set bits for which the values of a block are appended one by one.
 const FEW: u32 = 16;
 
-/// The largest number of runs of set bits for which the values of a block are appended by runs. The
-/// lengths of the runs decide branches, which pays less for narrow values.
+/// The largest number of runs of set bits for which the values of a block are appended by runs.
 const FEW_RUNS: u32 = 4;
 
+/// The same for narrow values: a branch on the length of a run costs more than their copy saves.
 const FEW_RUNS_OF_NARROW: u32 = 1;
 
 /// The largest size of narrow values, in bytes.
@@ -195,11 +196,9 @@ fn append_full<T: Copy>(
     requires first { first ≤ length values.now / 64 }
     ensures forward { IfOk result (λ end. first ≤ end) }
     ensures within { IfOk result (λ end. end ≤ length values.now / 64) }
-    ensures appended { IfOk result (λ end. (front : List T) → out.old.items ≡ front ++
-        select (take (64 * first) values.now)
-        (take (64 * first) (bits_from bytes.now 0 (length values.now))) → out.new.items ≡ front ++
-        select (take (64 * end) values.now)
-        (take (64 * end) (bits_from bytes.now 0 (length values.now)))) }
+    ensures appended { IfOk result (λ end. (front : List T) →
+        out.old.items ≡ front ++ kept_of_blocks values.now bytes.now first →
+        out.new.items ≡ front ++ kept_of_blocks values.now bytes.now end) }
     ensures begun { OnErr result (IsBeginning out.old.items out.new.items) }
     ensures refusal { IfErr result IsOutOfMemory }
 {
@@ -219,11 +218,9 @@ fn push_mixed<T: Copy>(values: &[T], bytes: &[u8], first: usize, out: &mut Vec<T
     requires first { first ≤ length values.now / 64 }
     ensures forward { first ≤ result }
     ensures within { result ≤ length values.now / 64 }
-    ensures appended { (front : List T) → out.old.items ≡ front ++
-        select (take (64 * first) values.now)
-        (take (64 * first) (bits_from bytes.now 0 (length values.now))) → out.new.items ≡ front ++
-        select (take (64 * result) values.now)
-        (take (64 * result) (bits_from bytes.now 0 (length values.now))) }
+    ensures appended { (front : List T) →
+        out.old.items ≡ front ++ kept_of_blocks values.now bytes.now first →
+        out.new.items ≡ front ++ kept_of_blocks values.now bytes.now result }
 {
     // A vector of this function alone, so that its length stays in a register.
     let alloc = *out.allocator();
