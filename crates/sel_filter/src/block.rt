@@ -23,7 +23,7 @@ const FEW: u32 = 16;
 /// The largest number of runs of set bits for which the values of a block are appended by runs.
 const FEW_RUNS: u32 = 4;
 
-/// The same for narrow values: a branch on the length of a run costs more than their copy saves.
+/// The same for narrow values: a mispredicted branch costs more than the copy of a run saves.
 const FEW_RUNS_OF_NARROW: u32 = 1;
 
 /// The largest size of narrow values, in bytes.
