@@ -181,7 +181,7 @@ fn append_runs<T: Copy>(block: &[T], mask: u64, out: &mut Vec<T>) -> PolarsResul
 }
 
 /// Appends the values from block `first` on as long as all bits of the blocks are set. Returns the
-/// block after them.
+/// block after them; only speed depends on which it is.
 ///
 /// # Errors
 /// `OutOfMemory` if an allocation fails; the old items of `out` are then still at its front.
@@ -211,7 +211,8 @@ fn append_full<T: Copy>(
 }
 
 /// Appends the values whose bit is set, from block `first` on as long as the blocks are filtered
-/// value by value and the spare capacity suffices. Returns the block after them.
+/// value by value and the spare capacity suffices. Returns the block after them; only speed depends
+/// on which it is.
 #[inline(never)]
 fn push_mixed<T: Copy>(values: &[T], bytes: &[u8], first: usize, out: &mut Vec<T>) -> usize
     requires bits { length values.now ≤ 8 * length bytes.now }
