@@ -14,6 +14,7 @@ pub mod Padded
 pub mod Parts
 pub mod Prefix
 pub mod Shifts
+pub mod WholeWords
 pub mod WordsOf
 pub mod ZeroWords
 pub mod Zeros

@@ -264,6 +264,14 @@ impl Bitmap {
         self.leading_ones() == self.len()
     }
 
+    /// Returns whether all bits are false. Stops at the first word with a true bit.
+    #[tactic(auto, using(crate::proofs::AllTrue::all_false))]
+    pub fn is_all_false(&self) -> bool
+        ensures { IsTrue result ↔ (count_true self.now.bits ≡ 0) }
+    {
+        self.leading_zeros() == self.len()
+    }
+
     /// Returns the number of false bits.
     #[tactic(auto, using(crate::proofs::Packed::counts))]
     pub fn unset_bits(&self) -> usize

@@ -1,15 +1,16 @@
 //! Bitwise operations on bitmaps.
 #![tactic(auto, using(crate::proofs::Combining::combining))]
 
-ghost use Rattle.std.specs.Prelude.{◌≡◌, ℕ, ◌+◌, ◌*◌, ◌/◌, ◌<◌, ◌≤◌, ◌&&◌, ◌||◌, Bool, not, map, length, take, drop, IfOk, IfErr, if◌then◌else◌};
+ghost use Rattle.std.specs.Prelude.{◌≡◌, ℕ, ◌+◌, ◌*◌, ◌/◌, ◌<◌, ◌≤◌, ◌&&◌, ◌||◌, ◌++◌, Bool, not, map, length, take, drop, IfOk, IfErr, if◌then◌else◌};
+ghost use Rattle.std.specs.Vec.{vec_len, vec_capacity};
+ghost use Rattle.std.specs.Int.{bytes_low_first};
 ghost use Rattle.sel_bits.specs.Faults.{IsOutOfMemory};
-ghost use Rattle.sel_bits.specs.Bits.{unsliced, zip_with, zip_three};
+ghost use Rattle.sel_bits.specs.Bits.{bits_from, unsliced, zip_with, zip_three};
 ghost use Rattle.sel_bits.specs.Choose.{choose};
 ghost use Rattle.sel_bits.specs.Words.{is_set, word_of};
 
 use crate::bitmap::Bitmap;
 use crate::faults::PolarsResult;
-use crate::packer::BitPacker;
 use crate::words::{low_bits, whole_word};
 use std::alloc::Global;
 
@@ -202,38 +203,60 @@ fn combine<R: BitRule>(alloc: Global, x: &Bitmap, y: &Bitmap, z: &Bitmap) -> Pol
         unsliced (zip_three R.on_bits x.now.bits y.now.bits z.now.bits)) }
     ensures refusal { IfErr result IsOutOfMemory }
 {
-    let mut packer = whole_words_by::<R>(alloc, x, y, z)?;
+    let mut bytes = whole_words_by::<R>(alloc, x, y, z)?;
     let count = x.len();
     let at = 64 * (count / 64);
-    packer.append(word_by::<R>(x, y, z, at, count - at), (count - at) as u32)?;
-    packer.into_bitmap(count)
+    push_word(word_by::<R>(x, y, z, at, count - at), &mut bytes);
+    Bitmap::from_u8_vec(bytes, count)
 }
 
-/// Returns the result for the whole words, with capacity for the rest, or `OutOfMemory`.
+/// Returns the bytes of the result for the whole words, with spare capacity for a word, or
+/// `OutOfMemory`.
 fn whole_words_by<R: BitRule>(
     alloc: Global,
     x: &Bitmap,
     y: &Bitmap,
     z: &Bitmap,
-) -> PolarsResult<BitPacker>
+) -> PolarsResult<Vec<u8>>
     requires second { length x.now.bits ≡ length y.now.bits }
     requires third { length x.now.bits ≡ length z.now.bits }
-    ensures packed { IfOk result (λ packer. packer ≡ take (64 * (length x.now.bits / 64))
+    ensures packed { IfOk result (λ bytes. bits_from bytes.items 0 (8 * length bytes.items) ≡
+        take (64 * (length x.now.bits / 64))
         (zip_three R.on_bits x.now.bits y.now.bits z.now.bits)) }
+    ensures len { IfOk result (λ bytes. length bytes.items ≡
+        8 * (length x.now.bits / 64)) }
+    ensures room { IfOk result (λ bytes. vec_len bytes + 8 ≤ vec_capacity bytes) }
     ensures refusal { IfErr result IsOutOfMemory }
 {
     let (x_bytes, x_shift, count) = x.as_slice();
     let (y_bytes, y_shift, _) = y.as_slice();
     let (z_bytes, z_shift, _) = z.as_slice();
-    let mut packer = BitPacker::with_capacity(alloc, count)?;
+    // Within the reserved capacity, so that the length of the vector stays in a register.
+    let mut bytes = Vec::with_capacity(alloc, 8 * (count / 64) + 8)?;
     for block in 0..count / 64 {
         let at = 8 * block;
         let x_word = whole_word(x_bytes, at, x_shift);
         let y_word = whole_word(y_bytes, at, y_shift);
         let z_word = whole_word(z_bytes, at, z_shift);
-        packer.append(R::on_words(x_word, y_word, z_word), 64)?;
+        push_word(R::on_words(x_word, y_word, z_word), &mut bytes);
     }
-    Ok(packer)
+    Ok(bytes)
+}
+
+/// Appends the eight bytes of a word, lowest first.
+///
+/// # Requires
+/// `out` has spare capacity for eight bytes.
+#[inline(always)]
+fn push_word(word: u64, out: &mut Vec<u8>)
+    requires room { vec_len out.old + 8 ≤ vec_capacity out.old }
+    ensures items { out.new.items ≡ out.old.items ++ bytes_low_first 0 8 word }
+    ensures capacity { vec_capacity out.new ≡ vec_capacity out.old }
+{
+    let bytes = word.to_le_bytes();
+    for i in 0..8usize {
+        out.push_reserved(bytes[i]);
+    }
 }
 
 /// Returns the word of the result for the `len` bits from bit `at` on.

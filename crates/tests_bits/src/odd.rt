@@ -98,6 +98,7 @@ fn counts_equal(bitmap: &Bitmap, bits: &[bool]) -> bool {
         & (bitmap.set_bits() == count(bits, true))
         & (bitmap.unset_bits() == count(bits, false))
         & (bitmap.is_all_true() == (count(bits, false) == 0))
+        & (bitmap.is_all_false() == (count(bits, true) == 0))
 }
 
 // Returns whether as many leading and trailing bits are removed as a loop counts.

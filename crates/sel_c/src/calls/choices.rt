@@ -133,11 +133,14 @@ fn whole_side<'a>(
     if !trues.same_dtype(falses) || trues.len() != truths.len() || falses.len() != truths.len() {
         return None;
     }
-    let count = truths.values.set_bits();
-    if count == truths.len() {
+    // (both stop at the first word that has true and false bits)
+    if truths.values.is_all_true() {
         return Some(if_true);
     }
-    if count == 0 { Some(if_false) } else { None }
+    if truths.values.is_all_false() {
+        return Some(if_false);
+    }
+    None
 }
 
 // Returns whether no rows of the column's type can exceed a limit, as integers and booleans cannot.
