@@ -1,13 +1,10 @@
 -- The bits of a word that another word selects.
-use Rattle.sel_filter.proofs.Common.{◌≡◌, ℕ, ◌-◌, ◌*◌, ◌/◌, ◌%◌, ◌^◌, ◌<◌, ◌≤◌, ◌∙◌, sym, ap, subst, arith, List, ◌∷◌, length, replicate, Bool}
-use Rattle.sel_filter.proofs.Common.{true, false, append-nil, bit_and, count_ones, pow_pos, shr_and_one}
-use Rattle.sel_filter.proofs.Common.{count_by-le-length, is_set, bits, word_of, compress, select, bits_suc, bits_zero, word_of_lt, length_bits}
-use Rattle.sel_filter.proofs.Common.{bit_at_mod, take_all, [], trailing_zeros, w64, bit_at-trailing_zeros}
-use Rattle.std.proofs.lemmas.Nat.{one_shl, and_mask}
+use Rattle.sel_filter.proofs.Common.{◌≡◌, ℕ, ◌^◌, ◌<◌, ◌≤◌, ◌∙◌, sym, ap, subst, arith, List, length, replicate, Bool}
+use Rattle.sel_filter.proofs.Common.{true, append-nil, count_ones}
+use Rattle.sel_filter.proofs.Common.{count_by-le-length, bits, word_of, compress, select, word_of_lt, length_bits}
+use Rattle.sel_filter.proofs.Common.{take_all}
 use Rattle.std.proofs.lemmas.List.{take-append-le}
-use Rattle.sel_bits.proofs.Packs.{get_bits}
-use Rattle.sel_filter.proofs.Firsts.{first_kept}
-use Rattle.sel_filter.proofs.WordLists.{all_set, bits_of_zero, bits_word_of, count_word, ones_is, none_more}
+use Rattle.sel_filter.proofs.WordLists.{all_set, bits_word_of, count_word, ones_is}
 use Rattle.sel_filter.proofs.Selects.{select_front, length-select}
 
 module _ (v m : ℕ) (m_fits : m < 2 ^ 64) where
@@ -31,20 +28,8 @@ full_count = count_word (replicate 64 true)
 pub select_full : (v m : ℕ) → m ≡ 18446744073709551615 → select (bits 64 v) (bits 64 m) ≡ bits 64 v
 select_full v m full = all_set (bits 64 v) 64 m (length_bits 64 v) (omega (arith, full)) (ap count_ones full ∙ full_count)
 
--- A word with one set bit.
-pub select_one : (word marks : ℕ) → 0 < marks → marks < 2 ^ 64 → marks ≡ 1 * 2 ^ trailing_zeros w64 marks % 18446744073709551616
-    → bits 1 (bit_and (word / 2 ^ trailing_zeros w64 marks) 1) ≡ select (bits 64 word) (bits 64 marks)
-select_one word marks some fits is =
-    let t = trailing_zeros w64 marks in
-    let lt = (bit_at-trailing_zeros w64 marks some fits).0 in
-    let one : marks ≡ 2 ^ t = is ∙ one_shl t 64 lt in
-    let none : bit_and marks (marks - 1) ≡ 0 = ap (λ n. bit_and marks (n - 1)) one ∙ and_mask marks t ∙ ap (λ n. n % 2 ^ t) one ∙ grind (arith, pow_pos t) in
-    let bit : bits 1 (bit_and (word / 2 ^ t) 1) ≡ is_set word t ∷ [] = grind (arith, bits_suc, bits_zero, shr_and_one, bit_at_mod) in
-    let first = rw length_bits at (first_kept (bits 64 word) false 64 marks some (rw length_bits fits) fits) in
-    bit ∙ grind (arith, first, get_bits 64 word t false lt, none_more (bits 64 word) [] 64 _ none)
-
 -- The words of two lists.
 pub words_select : (a b : List Bool) (n : ℕ) → length a ≡ n → length b ≡ n → n ≤ 64 → select (bits 64 (word_of a)) (bits 64 (word_of b)) ≡ select a b
 words_select a b n la lb few = grind (arith, bits_word_of, select_front, take-append-le, take_all)
 
-pub ruleset selected_bits = (few_ones, compress_fits, compress_bits, select_full, none_more)
+pub ruleset selected_bits = (few_ones, compress_fits, compress_bits, select_full)

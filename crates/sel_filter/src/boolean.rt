@@ -7,6 +7,7 @@ ghost use Rattle.sel_bits.specs.Words.{bits};
 ghost use Rattle.sel_filter.specs.Select.{select};
 
 use crate::nibbles::compress_by_fours;
+use crate::pext::pext64_few;
 pub use crate::pext::{pext64_polyfill, pext64_rounds};
 use sel_bits::aligned_words::AlignedWords;
 use sel_bits::bitmap::Bitmap;
@@ -16,6 +17,9 @@ use sel_bits::faults::PolarsResult;
 use sel_bits::packer::BitPacker;
 use sel_bits::words::{first_word, whole_word};
 use std::alloc::Global;
+
+/// The largest number of set mask bits of a word that are read one by one.
+const FEW: u32 = 8;
 
 /// Returns the bits of `values` where `mask` is true, in order.
 ///
@@ -222,15 +226,12 @@ fn append_kept(kept: &mut BitPacker, word: u64, marks: u64) -> PolarsResult<()>
         (bits 64 marks)) }
     ensures refusal { IfErr result IsOutOfMemory }
 {
-    if marks == 0 {
-        return Ok(());
-    }
     if marks == u64::MAX {
         return kept.append(word, 64);
     }
-    let lowest = marks.trailing_zeros();
-    if marks == 1 << lowest {
-        return kept.append((word >> lowest) & 1, 1);
+    let count = marks.count_ones();
+    if count <= FEW {
+        return kept.append(pext64_few(word, marks), count);
     }
-    kept.append(compress_by_fours(word, marks), marks.count_ones())
+    kept.append(compress_by_fours(word, marks), count)
 }

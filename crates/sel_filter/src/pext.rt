@@ -73,7 +73,8 @@ fn above_single(x: u64) -> u64
 
 /// Returns the bits of `v` where `m` has a set bit, packed from bit 0, one set bit at a time.
 #[tactic(auto, using(crate::proofs::Few::few_steps))]
-fn pext64_few(v: u64, m: u64) -> u64
+#[inline]
+pub(crate) fn pext64_few(v: u64, m: u64) -> u64
     ensures { result ≡ compress v m }
 {
     let mut packed = 0u64;

@@ -12,7 +12,8 @@ use Rattle.sel_kernels.proofs.Common.{list_of, pieces, length-pieces, get_or-pie
 use Rattle.sel_arrow.proofs.NestedRows.{has_lists, HasLists, lists_formed}
 use Rattle.sel_gather.proofs.ListParts.{list_null, list_row, OfBlock, block_null, block_row}
 use Rattle.sel_kernels.specs.{Lists.element_of, Lists.unit_lists, Steps.entry_places}
-use Rattle.std.proofs.lemmas.{Bool.false_from_ne_true, List.get_or-replicate, List.drop_more, List.Folds.list_any_none}
+use Rattle.std.proofs.lemmas.{Bool.false_from_ne_true, List.get_or-replicate, List.drop_more, List.take-append-drop, List.Folds.list_any-append, List.Folds.list_any_none}
+use Rattle.std.proofs.Common.{◌||◌}
 use Rattle.sel_kernels.specs.Entries.{is_get_error, entry_of, lacks_entry, IsGetError}
 use Rattle.sel_arrow.specs.{NestedArrays.block_column, Nested.list_rows, declared.fixed_size_list.FixedSizeListArray.FixedSizeListArray}
 
@@ -187,6 +188,12 @@ module _ (offsets : List ℕ) (values : Box Column Global) (validity : Option Bi
 pub place_of_below : (w : ℕ) (v : Value) → PlaceBelow w (place_of w v)
 place_of_below w (Number index) = place_below index w
 place_of_below w v = tt
+
+-- ---- a check of the first entries of a list
+
+pub any_of_part : {A : Type 0} (p : A → Bool) (xs : List A) (k : ℕ) → list_any p (take k xs) ≡ true → list_any p xs ≡ true
+any_of_part p xs k found =
+    ap (list_any p) (sym (take-append-drop k xs)) ∙ list_any-append p (take k xs) (drop k xs) ∙ ap (λ b. b || list_any p (drop k xs)) found
 
 -- ---- a check of each of n positions
 

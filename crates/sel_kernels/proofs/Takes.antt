@@ -8,6 +8,9 @@ use Rattle.sel_kernels.proofs.Common.{all_below, place_pick, ◌≢◌, lt-ltb, 
 use Rattle.sel_kernels.proofs.Common.{map-id, ℤ, list_all-map, max_rows, negsuc, nat_le, narrowed, ◌/◌, leb-true, le-leb, is_block_within, blocks_within}
 use Rattle.sel_kernels.proofs.Common.{take_all}
 use Rattle.sel_arrow.proofs.Rows.{null_mapped, valid_mapped}
+use lib.Pow.{pow_mono}
+use Rattle.std.proofs.Common.{cond}
+use Rattle.std.proofs.lemmas.List.{drop_all, length-drop}
 use Rattle.std.proofs.{lemmas.List.Folds.list_all-append, Math.Bool.and-true, Math.Bool.and-false, Math.Bool.or-false, Math.Bool.or-true}
 use Rattle.sel_bits.{specs.Words.bits, proofs.Packed.bits_word_of, proofs.Packed.block_packed, proofs.Padded.word_of_lt}
 
@@ -140,15 +143,26 @@ at_place bs [] k h = absurd (omega (arith, h))
 at_place bs (place ∷ places) zero h = refl
 at_place bs (place ∷ places) (suc k) h = at_place bs places k (omega (arith, h))
 
--- One more bit of a word.
-pub word_at_next : (bs : List Bool) (places : List ℕ) (k word bit : ℕ) → k < length places → length places ≤ 64 → word ≡ word_of (take k (bits_at bs places)) → bit ≡ from_bool (get_or bs (get_or places k 0) false)
-    → word + bit * 2 ^ k % 2 ^ 64 ≡ word_of (take (k + 1) (bits_at bs places))
-word_at_next bs places k word bit inside short is bit-is =
-    let long = length-bits_at bs places in
-    word_of-next (bits_at bs places) k word bit (omega (arith, long, inside)) (omega (arith, long, short)) is (bit-is ∙ ap from_bool (sym (at_place bs places k inside)))
+from_is : (b : Bool) → from_bool b ≡ cond b 1 0
+from_is true = refl
+from_is false = refl
 
-pub word_at_few : (bs : List Bool) (places : List ℕ) (k : ℕ) → k ≤ length places → length places ≤ 64 → word_of (take k (bits_at bs places)) < 2 ^ 64
-word_at_few bs places k inside short = grind (arith, common_steps, length-bits_at, word_of-few)
+-- The bit below those of a word.
+pub word_before : (bs : List Bool) (places : List ℕ) (k word bit : ℕ) → k < length places → word ≡ word_of (drop (suc k) (bits_at bs places)) → bit ≡ from_bool (get_or bs (get_or places k 0) false)
+    → 2 * word + bit ≡ word_of (drop k (bits_at bs places))
+word_before bs [] k word bit inside is bit_is = absurd (omega (arith, inside))
+word_before bs (place ∷ places) zero word bit inside is bit_is = omega (arith, is, bit_is, from_is (get_or bs place false))
+word_before bs (place ∷ places) (suc k) word bit inside is bit_is = word_before bs places k word bit (omega (arith, inside)) is bit_is
+
+pub word_small : (bs : List Bool) (places : List ℕ) (k : ℕ) → length places ≤ 64 → k ≤ length places → word_of (drop k (bits_at bs places)) < 2 ^ 64
+word_small bs places k short inside =
+    let l = drop k (bits_at bs places) in
+    let few : length l ≤ 64 = omega (arith, length-drop k (bits_at bs places), length-bits_at bs places, short) in
+    let bound : 2 ^ length l ≤ 2 ^ 64 = pow_mono few in
+    omega (arith, word_of_lt l, bound)
+
+pub no_word : (bs : List Bool) (places : List ℕ) → word_of (drop (length places) (bits_at bs places)) ≡ 0
+no_word bs places = ap word_of (drop_all (length places) (bits_at bs places) (omega (arith, length-bits_at bs places)))
 
 pub word_at_lt : (bs : List Bool) (places : List ℕ) (word : ℕ) → word ≡ word_of (bits_at bs places) → word < 2 ^ length places
 word_at_lt bs places word is = rw (is, sym (length-bits_at bs places)) (word_of_lt (bits_at bs places))
@@ -266,7 +280,7 @@ no_bits filler [] (row ∷ rows) none = ap (λ l. filler ∷ l) (no_bits filler 
 
 pub ruleset unchanged = (map-id)
 
-pub ruleset word_ends = (take_all, length-map)
+pub ruleset word_ends = (no_word, length-map)
 
 -- ---- checks of indices
 

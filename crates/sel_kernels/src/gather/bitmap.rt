@@ -74,10 +74,14 @@ fn word_of_places<R: PlaceRule>(bytes: &[u8], shift: usize, len: usize, indices:
     ensures { result ≡ word_of (pick false (bits_from bytes.now shift len ∷ [])
         (map place_pick (map (R.position len) indices.now))) }
 {
+    // From the last bit to the first, each one place up: without a shift by the position, which the
+    // compiler would make a vector of.
     let mut word = 0;
-    for k in 0..indices.len() {
-        let place = R::place_at(indices[k], len);
-        word += u64::from(bit_in(bytes, shift, len, place)) << k;
+    let mut left = indices.len();
+    while left > 0 {
+        left -= 1;
+        let place = R::place_at(indices[left], len);
+        word = 2 * word + u64::from(bit_in(bytes, shift, len, place));
     }
     word
 }

@@ -34,6 +34,10 @@ use sel_gather::one_source::collect_one_plan;
 use sel_gather::row_refs::{Places, Walk};
 use std::alloc::Global;
 
+/// The number of lists that are looked at before it is known whether the index is out of bounds for
+/// one of them.
+const BLOCK: usize = 64;
+
 /// Returns a column with the element of each list at `index`, which may be null.
 ///
 /// A negative index counts from the end. Row k is null if list k is null or the index is out of
@@ -112,10 +116,19 @@ fn is_any_oob(
     requires { IsWellFormed (LargeList offsets.now values.now validity.now) }
     ensures { result ≡ oob (rows (LargeList offsets.now values.now validity.now)) index }
 {
-    for k in 0..offsets.len_proxy() {
-        if is_oob_at(offsets, values, validity, index, k) {
+    let len = offsets.len_proxy();
+    let mut start = 0;
+    while start < len {
+        let end = start + BLOCK.min(len - start);
+        // (no branch for a list, so that the compiler can compare several at once)
+        let mut found = false;
+        for k in start..end {
+            found |= is_oob_at(offsets, values, validity, index, k);
+        }
+        if found {
             return true;
         }
+        start = end;
     }
     false
 }
@@ -239,6 +252,7 @@ fn place_in_child(arr: &ListArray<i64>, index: i64, k: usize) -> Option<u32>
 
 // Returns whether list `k` of the column of these parts is not null and the index is out of bounds
 // for it.
+#[inline(always)]
 fn is_oob_at(
     offsets: &OffsetsBuffer<i64>,
     values: &Box<Column>,

@@ -1,6 +1,9 @@
--- Loop invariant: the word has the bits so far.
-use Rattle.sel_kernels.proofs.{Common.◌≡◌, Common.map, Common.take, Common.bits_from, Common.word_of, Takes.bits_at}
+-- The word has the bits from the last one on.
+use Rattle.sel_kernels.proofs.{Common.◌≡◌, Common.◌≤◌, Common.map, Common.drop, Common.length, Common.bits_from, Common.word_of, Takes.bits_at}
 use Rattle.sel_kernels.proofs.gather.bitmap.word_of_places.Given as goal
 
-abbrev pub invariant-loop-k : goal.invariant-loop-k
-invariant-loop-k g l = l.word ≡ word_of (take l.k (bits_at (bits_from l.bytes l.shift l.len) (map (g.R.PlaceRule.position l.len) l.indices)))
+abbrev pub invariant-loop-left : goal.invariant-loop-left
+invariant-loop-left g l = (l.word ≡ word_of (drop l.left (bits_at (bits_from l.bytes l.shift l.len) (map (g.R.PlaceRule.position l.len) l.indices)))) × (l.left ≤ length l.indices)
+
+abbrev pub decreases-loop-left : goal.decreases-loop-left
+decreases-loop-left g l = l.left
