@@ -116,11 +116,46 @@ fn is_any_oob(
     requires { IsWellFormed (LargeList offsets.now values.now validity.now) }
     ensures { result ≡ oob (rows (LargeList offsets.now values.now validity.now)) index }
 {
+    // (only speed depends on it: the bit of each list costs more than a branch)
+    if validity.is_some() {
+        return is_oob_one_by_one(offsets, values, validity, index);
+    }
+    is_oob_by_blocks(offsets, values, validity, index)
+}
+
+// Returns whether the index is out of bounds for some list; looks at one after the other.
+fn is_oob_one_by_one(
+    offsets: &OffsetsBuffer<i64>,
+    values: &Box<Column>,
+    validity: &Option<Bitmap>,
+    index: i64,
+) -> bool
+    requires { IsWellFormed (LargeList offsets.now values.now validity.now) }
+    ensures { result ≡ oob (rows (LargeList offsets.now values.now validity.now)) index }
+{
+    for k in 0..offsets.len_proxy() {
+        if is_oob_at(offsets, values, validity, index, k) {
+            return true;
+        }
+    }
+    false
+}
+
+// Returns whether the index is out of bounds for some list; looks at a block of lists without a
+// branch, so that the compiler can compare several at once.
+fn is_oob_by_blocks(
+    offsets: &OffsetsBuffer<i64>,
+    values: &Box<Column>,
+    validity: &Option<Bitmap>,
+    index: i64,
+) -> bool
+    requires { IsWellFormed (LargeList offsets.now values.now validity.now) }
+    ensures { result ≡ oob (rows (LargeList offsets.now values.now validity.now)) index }
+{
     let len = offsets.len_proxy();
     let mut start = 0;
     while start < len {
         let end = start + BLOCK.min(len - start);
-        // (no branch for a list, so that the compiler can compare several at once)
         let mut found = false;
         for k in start..end {
             found |= is_oob_at(offsets, values, validity, index, k);

@@ -1,6 +1,6 @@
 use Rattle.sel_kernels.proofs.Common.{◌≤◌, ◌∙◌, ap, sym, arith, length, w64, list_any, take_all, rows, LargeList, length-rows, lacks_place, to_z-of_z}
 use Rattle.sel_kernels.proofs.Elements.{any_of_part}
-use Rattle.sel_kernels.proofs.gather.sublist.list.is_any_oob.Goals as goal
+use Rattle.sel_kernels.proofs.gather.sublist.list.is_oob_by_blocks.Goals as goal
 
 pub returns-then-found : goal.returns-then-found
 returns-then-found c =
