@@ -3,7 +3,7 @@
 a test that calls it.
 
 tools/api.py          writes the page
-tools/api.py --check  fails if the page differs from what the sources give
+tools/api.py --check  fails if the page differs from what the sources give, or if an example is read wrongly
 """
 
 from __future__ import annotations
@@ -11,6 +11,7 @@ from __future__ import annotations
 import pathlib
 import re
 import sys
+import tempfile
 
 ROOT = pathlib.Path(__file__).resolve().parent.parent
 PAGE = ROOT / "docs" / "API.md"
@@ -138,10 +139,10 @@ def enclosing(calls: list[Call], path: pathlib.Path, text: str) -> Call | None:
         return None
     lines = path.read_text().split("\n")
     for at, line in enumerate(lines):
-        if text.strip() and text.strip() in line:
+        if text in line:
             over = [call for call in calls if call.path == path and call.line - 1 <= at]
             last = max(over, key=lambda call: call.line, default=None)
-            later = [i for i in range(last.end, at) if ITEM.match(lines[i])] if last else []
+            later = [i for i in range(last.end + 1, at) if ITEM.match(lines[i])] if last else []
             return None if later else last
     return None
 
@@ -238,9 +239,71 @@ def page() -> str:
     return "\n".join(out + bodies).rstrip("\n") + "\n"
 
 
+# Functions that the page has: with and without an owner, in a trait; and a private one, whose text is not that of the function before it
+EXAMPLE = """\
+/// Returns one.
+#[inline]
+pub fn one(a: u8) -> u8
+    requires small { a < 9 }
+    ensures { result ≡ 1 }
+{
+    unit()
+}
+
+fn unit() -> u8 {
+    1
+}
+
+impl<T: Drop> Pair<T> {
+    /// Returns the first.
+    ///
+    /// Of two.
+    pub fn first(&self) -> &T {
+        &self.first
+    }
+
+    fn second(&self) -> &T {
+        &self.second
+    }
+}
+
+pub trait Size {
+    /// Returns how many.
+    fn size(&self) -> usize
+        ensures { result ≡ length self.now };
+
+    fn without_comment(&self) -> usize;
+}
+"""
+# what the page says of each: the owner, the comment and the text
+READ = [
+    (None, ["Returns one."], ["pub fn one(a: u8) -> u8", "    requires small { a < 9 }", "    ensures { result ≡ 1 }"]),
+    ("Pair", ["Returns the first.", "", "Of two."], ["pub fn first(&self) -> &T"]),
+    ("Size", ["Returns how many."], ["fn size(&self) -> usize", "    ensures { result ≡ length self.now };"]),
+]
+# the function that a mutant with this text changes
+CHANGED = {"unit()": "one", "    1": None, "&self.first": "first", "&self.second": None}
+
+
+def check_example() -> None:
+    """Checks that the functions of an example are found, with their comments and contracts, and the function of each mutant."""
+    with tempfile.TemporaryDirectory() as made:
+        path = pathlib.Path(made) / "lib.rt"
+        path.write_text(EXAMPLE)
+        calls = calls_of("example", path)
+        read = [(call.owner, call.comment, call.text) for call in calls]
+        if read != READ:
+            sys.exit(f"failed: the functions of the example are read as {read}")
+        for text, name in CHANGED.items():
+            call = enclosing(calls, path, text)
+            if (call.name if call else None) != name:
+                sys.exit(f"failed: a change of `{text}` is read as one of {call.name if call else None}")
+
+
 def main() -> None:
     text = page()
     if sys.argv[1:] == ["--check"]:
+        check_example()
         if not PAGE.exists() or PAGE.read_text() != text:
             sys.exit("docs/API.md is out of date: run tools/api.py")
         return

@@ -115,6 +115,19 @@ def keeps_proofs() -> bool:
     return "--anew" in subprocess.run(["rt", "help"], capture_output=True, text=True, check=False).stderr
 
 
+def environment() -> dict[str, str]:
+    """Returns the environment of `rt ci`.
+
+    Two processes that prove one crate take more processor time than one. `rt ci` starts a second where a processor is idle, but not if it is
+    given a number of processes, which it then starts whether or not the memory suffices. On fewer than four processors the first crates,
+    for which all others wait, would take too long.
+    """
+    processors = len(os.sched_getaffinity(0))
+    found = re.search(r"(?m)^MemAvailable:\s+(\d+) kB$", pathlib.Path("/proc/meminfo").read_text())
+    is_enough = found is not None and int(found[1]) * 1024 >= MEMORY * processors
+    return {**({"RT_JOBS": str(processors)} if processors >= 4 and is_enough else {}), **os.environ}
+
+
 class Proofs:
     """A run of `rt ci`: the crates that it has proved so far, and its exit status."""
 
@@ -132,7 +145,7 @@ class Proofs:
             shutil.rmtree(kept)
         status, processor, verdict = 1, 0.0, ""
         try:
-            with subprocess.Popen(self.command, cwd=ROOT, text=True, errors="replace", stdin=subprocess.DEVNULL,
+            with subprocess.Popen(self.command, cwd=ROOT, env=environment(), text=True, errors="replace", stdin=subprocess.DEVNULL,
                                   stdout=subprocess.PIPE, stderr=subprocess.STDOUT) as ran:
                 for line in ran.stdout or ():
                     print(line, end="", flush=True)

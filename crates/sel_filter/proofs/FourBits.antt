@@ -2,8 +2,7 @@
 use Rattle.sel_filter.proofs.Common.{◌≡◌, ℕ, zero, suc, ◌+◌, ◌*◌, ◌/◌, ◌%◌, ◌<◌, ◌∙◌, sym, refl, ap, arith, List, length, get_or, Bool, true}
 use Rattle.sel_filter.proofs.Common.{◌==◌, count_ones, bits, word_of, select, NIBBLES}
 use Rattle.std.proofs.Common.{◌&&◌}
-use Rattle.std.proofs.lemmas.Bool.{eqb-true}
-use Rattle.sel_arrow.proofs.Lists.{and_first, and_second}
+use Rattle.std.proofs.lemmas.Bool.{eqb-true, and_parts}
 
 abbrev holds_below : (ℕ → Bool) → ℕ → Bool
 holds_below p zero = true
@@ -11,7 +10,7 @@ holds_below p (suc n) = p n && holds_below p n
 
 holds_at : (p : ℕ → Bool) (n j : ℕ) → holds_below p n ≡ true → j < n → p j ≡ true
 holds_at p zero j all lt = absurd (omega arith)
-holds_at p (suc n) j all lt = grind (arith, and_first (p n) (holds_below p n) all, holds_at p n j (and_second (p n) (holds_below p n) all))
+holds_at p (suc n) j all lt = let both = and_parts (p n) (holds_below p n) all in grind (arith, both.0, holds_at p n j both.1)
 
 -- The kept bits of a table entry.
 abbrev pub kept_four : ℕ → ℕ → List Bool

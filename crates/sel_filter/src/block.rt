@@ -18,7 +18,7 @@ use std::mem::{replace, size_of_val};
 pub(crate) const SPARE: usize = 65;
 
 /// The largest number of set bits for which the values of a block are appended one by one.
-const FEW: u32 = 16;
+const FEW_VALUES: u32 = 16;
 
 /// The largest number of runs of set bits for which the values of a block are appended by runs.
 const FEW_RUNS: u32 = 4;
@@ -83,7 +83,7 @@ pub(crate) fn count_set(bytes: &[u8]) -> usize {
 /// runs. Only speed depends on the result.
 #[inline(always)]
 fn is_mixed<T: Copy>(mask: u64, values: &[T]) -> bool {
-    mask.count_ones() <= FEW || (mask & !(mask << 1)).count_ones() > few_runs(values)
+    mask.count_ones() <= FEW_VALUES || (mask & !(mask << 1)).count_ones() > few_runs(values)
 }
 
 /// Returns the largest number of runs of set bits for which the values of a block are appended by
@@ -254,7 +254,7 @@ fn push_block<T: Copy>(block: &[T], mask: u64, out: &mut Vec<T>)
     requires room { vec_len out.old + 65 ≤ vec_capacity out.old }
     ensures appended { out.new.items ≡ out.old.items ++ select block.now (bits 64 mask) }
 {
-    if mask.count_ones() <= FEW {
+    if mask.count_ones() <= FEW_VALUES {
         push_few(block, mask, out);
     } else {
         push_dense(block, mask, out);

@@ -19,7 +19,7 @@ use sel_bits::words::{first_word, whole_word};
 use std::alloc::Global;
 
 /// The largest number of set mask bits of a word that are read one by one.
-const FEW: u32 = 8;
+const FEW_MASK_BITS: u32 = 8;
 
 /// Returns the bits of `values` where `mask` is true, in order.
 ///
@@ -230,7 +230,7 @@ fn append_kept(kept: &mut BitPacker, word: u64, marks: u64) -> PolarsResult<()>
         return kept.append(word, 64);
     }
     let count = marks.count_ones();
-    if count <= FEW {
+    if count <= FEW_MASK_BITS {
         return kept.append(pext64_few(word, marks), count);
     }
     kept.append(compress_by_fours(word, marks), count)

@@ -116,7 +116,8 @@ fn is_any_oob(
     requires { IsWellFormed (LargeList offsets.now values.now validity.now) }
     ensures { result ≡ oob (rows (LargeList offsets.now values.now validity.now)) index }
 {
-    // (only speed depends on it: the bit of each list costs more than a branch)
+    // For speed: where nearly all lists are valid, as is usual, a branch on the validity of each costs
+    // less than a block whose lists are all compared.
     if validity.is_some() {
         return is_oob_one_by_one(offsets, values, validity, index);
     }
