@@ -54,6 +54,8 @@ SETUP = {
 AT_ONCE = 2
 # the most mutants of one check, which uses one processor; each check also proves the lemmas and the functions that its functions use
 MUTANTS_OF_CHECK = 60
+# the free memory for each processor with which as many proofs run as there are processors, in bytes; a proof takes 1 to 4 GB
+MEMORY = 4_000_000_000
 # the number of checks of the C library that run at once while the proofs run; afterwards as many as there are processors
 LIBRARY_AT_ONCE = 2
 
