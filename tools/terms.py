@@ -47,9 +47,9 @@ def read_list() -> Tuple[List[str], List[Term]]:
         phrase, arrow, use = line.partition(" => ")
         if not arrow or not phrase.strip() or not use.strip():
             sys.exit(f"tools/terms.txt: neither paths nor `phrase => term to use`: {line}")
-        words = GAP.join(re.escape(word) for word in phrase.split())
-        longest = max(phrase.lower().split(), key=len)
-        terms.append(Term(phrase.strip(), use.strip(), longest, re.compile(rf"(?<!\w){words}(?!\w)", re.IGNORECASE)))
+        words = phrase.lower().split()
+        found = re.compile(GAP.join(map(re.escape, words)) + r"(?!\w)")
+        terms.append(Term(phrase.strip(), use.strip(), max(words, key=len), found))
     return patterns, terms
 
 
@@ -76,12 +76,13 @@ def occurrences(path: str, terms: List[Term]) -> Iterator[Tuple[int, Term]]:
     data = (ROOT / path).read_bytes()
     if b"\0" in data:
         return
-    text = data.decode("utf-8", errors="replace")
-    lowered = text.lower()
+    text = data.decode("utf-8", errors="replace").lower()
     for term in terms:
         # most files do not have the longest word of a phrase, which is faster to see
-        for found in term.found.finditer(text) if term.longest in lowered else ():
-            yield text.count("\n", 0, found.start()) + 1, term
+        for found in term.found.finditer(text) if term.longest in text else ():
+            # (a pattern that began with this condition would be tried at each position of the text)
+            if not re.match(r"\w", text[found.start() - 1 : found.start()]):
+                yield text.count("\n", 0, found.start()) + 1, term
 
 
 def main() -> int:
