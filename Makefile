@@ -18,10 +18,10 @@ PREFIX ?= /usr/local
 .PHONY: run tour build lib install uninstall dist bench test check setup fuzz soak mutants api
 
 run:
-	@tools/run sel_bench $(INPUT)
+	@tools/run $(INPUT)
 
 tour:
-	@tools/run tour
+	@tools/run --tour
 
 build:
 	cd crates/sel_bench && rt run < /dev/null

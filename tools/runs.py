@@ -7,7 +7,8 @@ tools/runs.py NAME ..   only these
 A folder has three files: stdin is the input, stdout the expected output, status the expected exit status. In the first two,
 `<TEXT*N>` means N times TEXT. An optional fourth file, how, has one word: `closed` closes the input; `full` writes to /dev/full;
 `refused` makes the first allocation fail (tools/refuse); `each` runs each line of stdin alone, followed by the line `take 5 0`, and
-expects the same output and status each time. Only a line feed ends a line. A line may be empty; there must be at least one.
+expects the same output and status each time. An optional fifth file, args, has the program's arguments, a line each. Only a line feed
+ends a line. A line may be empty; there must be at least one.
 
 Uses the program that `rt ci` built. If it is missing or older than its sources, proves and builds it first.
 """
@@ -46,17 +47,17 @@ def inputs_of(given: bytes, how: str) -> list[bytes]:
     return [line + b"\n" + BEHIND for line in lines]
 
 
-def ran(program: pathlib.Path, given: bytes, how: str, room: str) -> tuple[int, bytes]:
-    """Runs the program. Returns its exit status and its output."""
+def ran(program: list[str], given: bytes, how: str, room: str) -> tuple[int, bytes]:
+    """Runs the program with its arguments. Returns its exit status and its output."""
     if how == "refused":
-        done, calls = refuse.refused_run(refuse.built_shim(room), [str(program)], 1, False, given, {"REFUSE_ALL": "1"})
+        done, calls = refuse.refused_run(refuse.built_shim(room), program, 1, False, given, {"REFUSE_ALL": "1"})
         return done.returncode, done.stdout if calls and calls[0][2] else b"(no allocation failed)"
-    words = ["sh", "-c", 'exec "$0"' + {"closed": " <&-", "full": " > /dev/full"}.get(how, ""), str(program)]
+    words = ["sh", "-c", 'exec "$0" "$@"' + {"closed": " <&-", "full": " > /dev/full"}.get(how, ""), *program]
     done = subprocess.run(words, input=given, capture_output=True, timeout=SECONDS)
     return done.returncode, done.stdout
 
 
-def fault_of(program: pathlib.Path, given: bytes, how: str, wanted: bytes, status: int, room: str) -> str | None:
+def fault_of(program: list[str], given: bytes, how: str, wanted: bytes, status: int, room: str) -> str | None:
     """Returns what is wrong with a run, or None."""
     try:
         ended, wrote = ran(program, given, how, room)
@@ -78,8 +79,9 @@ def tried(folder: pathlib.Path, program: pathlib.Path, room: str) -> tuple[int, 
     if not inputs:
         return 0, "stdin has no line"
     wanted, status = text_of(folder / "stdout"), int((folder / "status").read_text())
+    args = (folder / "args").read_text().splitlines() if (folder / "args").exists() else []
     for at, given in enumerate(inputs, 1):
-        fault = fault_of(program, given, how, wanted, status, room)
+        fault = fault_of([str(program), *args], given, how, wanted, status, room)
         if fault:
             return at, f"line {at}, {given[:-len(BEHIND) - 1][:200]!r}: {fault}" if how == "each" else fault
     return len(inputs), None

@@ -1,29 +1,22 @@
 //! A short example for Rattle callers: a column of numbers, a filter, a take, an if-then-else,
-//! elements of lists, rows of several columns, and an error. `make tour` prints the results.
+//! elements of lists, rows of several columns, and an error. The program `sel_bench` prints the
+//! results with `make tour`.
 #![tactic(auto)]
 
 mod examples;
-mod page;
+pub mod page;
 mod together;
 
 use crate::examples::{ages, broken_rule, chosen, kept, last_of_each, lists, taken};
 use crate::page::{Stop, show};
 use crate::together::together;
 use std::alloc::Global;
-use std::process::ExitCode;
 
-fn main(rt: HostRuntime) -> ExitCode {
-    let Ok(page) = tour(rt.alloc()) else {
-        return ExitCode::FAILURE;
-    };
-    match print!(rt; "{page}") {
-        Ok(()) => ExitCode::SUCCESS,
-        Err(_) => ExitCode::FAILURE,
-    }
-}
-
-/// Returns the output of all examples.
-fn tour(alloc: Global) -> Result<String, Stop> {
+/// Returns the output of all examples, a line each.
+///
+/// # Errors
+/// `Stop` if a kernel or a constructor returns an error, such as out of memory.
+pub fn tour(alloc: Global) -> Result<String, Stop> {
     let mut page = String::new(alloc);
     kernels(alloc, &mut page)?;
     together(alloc, &mut page)?;
