@@ -24,9 +24,9 @@ fn main(rt: HostRuntime) -> ExitCode {
 
 /// Returns whether the first argument is `tour`.
 fn is_for_tour(rt: &HostRuntime) -> bool {
-    let mut word = [0; 5];
+    let mut word = [0; 4];
     match rt.arg(1, &mut word) {
-        Ok(4) => word == *b"tour\0",
+        Ok(4) => word == *b"tour",
         _ => false,
     }
 }

@@ -1,14 +1,15 @@
 //! A short example for Rattle callers: a column of numbers, a filter, a take, an if-then-else,
-//! elements of lists, rows of several columns, and an error. The program `sel_bench` prints the
-//! results with `make tour`.
+//! elements of lists, rows of several columns, and an error. `make tour` prints the results, by
+//! `sel_bench tour`.
 #![tactic(auto)]
 
 mod examples;
-pub mod page;
+mod page;
 mod together;
 
 use crate::examples::{ages, broken_rule, chosen, kept, last_of_each, lists, taken};
-use crate::page::{Stop, show};
+pub use crate::page::Stop;
+use crate::page::show;
 use crate::together::together;
 use std::alloc::Global;
 
