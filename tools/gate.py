@@ -29,7 +29,7 @@ sys.dont_write_bytecode = True
 sys.path.insert(0, str(ROOT / "tools"))
 
 import verdicts  # noqa: E402
-from prover import crates_below, lines  # noqa: E402
+from prover import crates_below, free_memory, lines  # noqa: E402
 
 BEGUN = time.monotonic()
 
@@ -125,9 +125,8 @@ def environment() -> dict[str, str]:
     for which all others wait, would take too long.
     """
     processors = len(os.sched_getaffinity(0))
-    found = re.search(r"(?m)^MemAvailable:\s+(\d+) kB$", pathlib.Path("/proc/meminfo").read_text())
-    is_enough = found is not None and int(found[1]) * 1024 >= MEMORY * processors
-    return {**({"RT_JOBS": str(processors)} if processors >= 4 and is_enough else {}), **os.environ}
+    is_fixed = processors >= 4 and free_memory() >= MEMORY * processors
+    return {**({"RT_JOBS": str(processors)} if is_fixed else {}), **os.environ}
 
 
 class Proofs:

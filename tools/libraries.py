@@ -22,7 +22,7 @@ import time
 
 sys.dont_write_bytecode = True
 
-from prover import crates_below, lines  # noqa: E402
+from prover import crates_below, free_memory, lines  # noqa: E402
 from verdicts import ROOT, TOP, crates, keep, sum_of, sum_of_built, sum_of_sources  # noqa: E402
 
 # how long each crate takes from a clean build on the machine that docs/TESTING.md names; a build here keeps its own times in build/seconds
@@ -46,8 +46,7 @@ def in_words(seconds: float) -> str:
 
 def jobs() -> list[str]:
     """Returns the option that lets a proof use all processors."""
-    found = re.search(r"(?m)^MemAvailable:\s+(\d+) kB$", pathlib.Path("/proc/meminfo").read_text())
-    return ["--jobs", str(len(os.sched_getaffinity(0)))] if found and int(found[1]) * 1024 > MEMORY else []
+    return ["--jobs", str(len(os.sched_getaffinity(0)))] if free_memory() > MEMORY else []
 
 
 class Crate:

@@ -3,6 +3,7 @@
 from __future__ import annotations
 
 import pathlib
+import re
 import subprocess
 
 ROOT = pathlib.Path(__file__).resolve().parent.parent
@@ -12,6 +13,12 @@ def kit() -> pathlib.Path:
     """Returns the folder of the toolchain."""
     page = subprocess.run(["rt", "doc"], capture_output=True, text=True, check=True).stdout.strip()
     return pathlib.Path(page).parent
+
+
+def free_memory() -> int:
+    """Returns how many bytes of memory are free, or 0 if the system does not say so."""
+    found = re.search(r"(?m)^MemAvailable:\s+(\d+) kB$", pathlib.Path("/proc/meminfo").read_text())
+    return int(found[1]) * 1024 if found else 0
 
 
 def lines() -> dict[str, tuple[list[str], list[str]]]:
