@@ -10,8 +10,9 @@
  * Threads: functions that take a handle by a pointer to const may read the same handle at the same time, from any
  * threads. A function that writes or frees a handle must have it alone; other handles to the same column may be in use.
  *
- * Errors: if several errors apply, the first one listed is returned. On error `out` is unchanged. Each function that
- * returns a status may also return SEL_ERROR_OUT_OF_MEMORY. A column has at most 128 levels of lists and structs.
+ * Errors: if several errors apply, the first one listed is returned. On error `out` is unchanged. A function that
+ * returns a status may also return SEL_ERROR_OUT_OF_MEMORY, unless its comment says that it never does. A column has at
+ * most 128 levels of lists and structs.
  *
  * Arguments: a pointer must be aligned for its type and must not be null, except that an array of length 0 may be a
  * null pointer. An array must be valid for the given length. What a call writes must not be another of its arguments,
@@ -140,7 +141,7 @@ typedef enum sel_status {
     /* The type or the rows exceed a size limit, or the type is nested more than 64 levels deep. */
     SEL_ERROR_TEXT_LIMIT = 35,
 
-    /* Only of sel_import and sel_export, in sel_arrow.h: */
+    /* Only of the functions of sel_arrow.h: */
 
     /* The Arrow array or the schema, or one below it, was released. */
     SEL_ERROR_ARROW_RELEASED = 64,
@@ -683,7 +684,8 @@ sel_status sel_list_get(const sel_column *of, int64_t index, sel_column *out);
 
 /* Returns in `out` whether `index` is out of bounds in some list that is not null. Does not allocate; on error `out`
  * is unchanged.
- * Errors: SEL_ERROR_NO_COLUMN: `of` is empty. SEL_ERROR_UNSUPPORTED_TYPE: the type of `of` is not SEL_TYPE_LIST. */
+ * Errors: SEL_ERROR_NO_COLUMN: `of` is empty. SEL_ERROR_UNSUPPORTED_TYPE: the type of `of` is not SEL_TYPE_LIST.
+ * Never returns SEL_ERROR_OUT_OF_MEMORY. */
 sel_status sel_list_index_is_oob(const sel_column *of, int64_t index, bool *out);
 
 /* Returns in `out` the column whose row k is a list of one element, row k of `of`.
@@ -765,7 +767,7 @@ sel_status sel_propagate_dictionary(
 
 /* Returns in `equal` whether two columns have the same rows. It compares values, not types: 1 is equal to 1 in
  * columns of any integer types. Values in null slots are ignored. Does not allocate.
- * Errors: SEL_ERROR_NO_COLUMN: `of` or `other` is empty. */
+ * Errors: SEL_ERROR_NO_COLUMN: `of` or `other` is empty. Never returns SEL_ERROR_OUT_OF_MEMORY. */
 sel_status sel_equal_rows(const sel_column *of, const sel_column *other, bool *equal);
 
 /* Writes the rows as text, such as `[1,null,-3]`, without a terminating zero: as many bytes as fit into `out`.
@@ -808,11 +810,13 @@ sel_status sel_parse(
 sel_status sel_child(const sel_column *of, sel_column *out);
 
 /* Returns in `width` the list size of a column of fixed-size lists.
- * Errors: SEL_ERROR_NO_COLUMN: `of` is empty. SEL_ERROR_UNSUPPORTED_TYPE: its type is not SEL_TYPE_FIXED_SIZE_LIST. */
+ * Errors: SEL_ERROR_NO_COLUMN: `of` is empty. SEL_ERROR_UNSUPPORTED_TYPE: its type is not SEL_TYPE_FIXED_SIZE_LIST.
+ * Never returns SEL_ERROR_OUT_OF_MEMORY. */
 sel_status sel_fixed_size_list_size(const sel_column *of, size_t *width);
 
 /* Returns in `count` the number of fields of a struct column.
- * Errors: SEL_ERROR_NO_COLUMN: `of` is empty. SEL_ERROR_UNSUPPORTED_TYPE: its type is not SEL_TYPE_STRUCT. */
+ * Errors: SEL_ERROR_NO_COLUMN: `of` is empty. SEL_ERROR_UNSUPPORTED_TYPE: its type is not SEL_TYPE_STRUCT. Never
+ * returns SEL_ERROR_OUT_OF_MEMORY. */
 sel_status sel_field_count(const sel_column *of, size_t *count);
 
 /* Returns in `out` field `i` of a struct column, counted from 0. The result shares the buffers of `of`. A field's

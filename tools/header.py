@@ -49,8 +49,9 @@ BEFORE = """\
  * Threads: functions that take a handle by a pointer to const may read the same handle at the same time, from any
  * threads. A function that writes or frees a handle must have it alone; other handles to the same column may be in use.
  *
- * Errors: if several errors apply, the first one listed is returned. On error `out` is unchanged. Each function that
- * returns a status may also return SEL_ERROR_OUT_OF_MEMORY. A column has at most 128 levels of lists and structs.
+ * Errors: if several errors apply, the first one listed is returned. On error `out` is unchanged. A function that
+ * returns a status may also return SEL_ERROR_OUT_OF_MEMORY, unless its comment says that it never does. A column has at
+ * most 128 levels of lists and structs.
  *
  * Arguments: a pointer must be aligned for its type and must not be null, except that an array of length 0 may be a
  * null pointer. An array must be valid for the given length. What a call writes must not be another of its arguments,
@@ -284,7 +285,7 @@ def enumeration(name: str, title: str, items: list[tuple[str, str, int]], notes:
 def enumerations() -> str:
     found = statuses()
     arrow = next(status.c_name() for status in found if status.is_arrow())
-    notes = {arrow: "\n    /* Only of sel_import and sel_export, in sel_arrow.h: */\n\n"}
+    notes = {arrow: "\n    /* Only of the functions of sel_arrow.h: */\n\n"}
     text = enumeration("sel_status", "The statuses that functions return.", [(one.c_name(), one.comment, one.number) for one in found], notes)
     return text + enumeration("sel_type_id", "The types of columns.", [(one.c_name(), one.comment, one.number) for one in type_ids()], {})
 

@@ -26,7 +26,7 @@ pub extern "C" fn sel_child(alloc: Global, of: &ColumnRef, out: &mut Handle) -> 
 /// Returns in `width` the list size of a column of fixed-size lists.
 ///
 /// Errors: SEL_ERROR_NO_COLUMN: `of` is empty. SEL_ERROR_UNSUPPORTED_TYPE: its type is not
-/// SEL_TYPE_FIXED_SIZE_LIST.
+/// SEL_TYPE_FIXED_SIZE_LIST. Never returns SEL_ERROR_OUT_OF_MEMORY.
 #[unsafe(no_mangle)]
 pub extern "C" fn sel_fixed_size_list_size(of: &ColumnRef, width: &mut usize) -> u32
     ensures { ReturnsListSize result of.now.tree width.old width.new }
@@ -40,7 +40,7 @@ pub extern "C" fn sel_fixed_size_list_size(of: &ColumnRef, width: &mut usize) ->
 /// Returns in `count` the number of fields of a struct column.
 ///
 /// Errors: SEL_ERROR_NO_COLUMN: `of` is empty. SEL_ERROR_UNSUPPORTED_TYPE: its type is not
-/// SEL_TYPE_STRUCT.
+/// SEL_TYPE_STRUCT. Never returns SEL_ERROR_OUT_OF_MEMORY.
 #[unsafe(no_mangle)]
 pub extern "C" fn sel_field_count(of: &ColumnRef, count: &mut usize) -> u32
     ensures { ReturnsFieldCount result of.now.tree count.old count.new }

@@ -36,7 +36,7 @@ pub extern "C" fn sel_list_get(alloc: Global, of: &ColumnRef, index: i64, out: &
 /// allocate; on error `out` is unchanged.
 ///
 /// Errors: SEL_ERROR_NO_COLUMN: `of` is empty. SEL_ERROR_UNSUPPORTED_TYPE: the type of `of` is not
-/// SEL_TYPE_LIST.
+/// SEL_TYPE_LIST. Never returns SEL_ERROR_OUT_OF_MEMORY.
 #[unsafe(no_mangle)]
 pub extern "C" fn sel_list_index_is_oob(of: &ColumnRef, index: i64, out: &mut bool) -> u32
     ensures { FindsOutOfBounds result of.now.tree index out.old out.new }

@@ -16,7 +16,7 @@ use std::alloc::Global;
 /// equal to 1 in columns of any integer types. Values in null slots are ignored. Does not
 /// allocate.
 ///
-/// Errors: SEL_ERROR_NO_COLUMN: `of` or `other` is empty.
+/// Errors: SEL_ERROR_NO_COLUMN: `of` or `other` is empty. Never returns SEL_ERROR_OUT_OF_MEMORY.
 #[unsafe(no_mangle)]
 pub extern "C" fn sel_equal_rows(of: &ColumnRef, other: &ColumnRef, equal: &mut bool) -> u32
     ensures told { result ≡ ok →

@@ -304,6 +304,22 @@ few_below n (place ∷ places) past fit =
 pub below_rows : (n : ℕ) (places : List ℕ) → all_below n places ≡ all_within n (map (λ x. Number (pos x)) places)
 below_rows n places = sym (list_all-map (is_within n) (λ x. Number (pos x)) places)
 
+-- No position is less than 0.
+pub none_below : (places : List ℕ) → all_below 0 places ≡ (length places == 0)
+none_below [] = refl
+none_below (place ∷ places) = grind (arith, common_steps, nat_lt)
+
+below_hidden : (n : ℕ) (bits : List Bool) (places : List ℕ) → all_below n places ≡ true → all_within n (hidden bits (map (λ x. Number (pos x)) places)) ≡ true
+below_hidden n [] places below = sym (below_rows n places) ∙ below
+below_hidden n (bit ∷ bits) [] below = refl
+below_hidden n (true ∷ bits) (place ∷ places) below = both _ _ (and_first _ _ below) (below_hidden n bits places (and_second _ _ below))
+below_hidden n (false ∷ bits) (place ∷ places) below = below_hidden n bits places (and_second (nat_lt place n) _ below)
+
+-- Positions in bounds are so as rows, under any validity.
+pub below_masked : (n : ℕ) (places : List ℕ) (validity : Option Bits) → all_below n places ≡ true → all_within n (number_rows pos places validity) ≡ true
+below_masked n places None below = sym (below_rows n places) ∙ below
+below_masked n places (Some validity) below = below_hidden n validity.bits places below
+
 -- ---- indices of any integer type as 32-bit integers
 
 -- An index of one of at most 2^32 - 1 rows.

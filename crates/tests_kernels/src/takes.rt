@@ -3,7 +3,7 @@
 
 use crate::masks::made;
 use polars_compute::gather::binary::take_unchecked;
-use polars_compute::gather::{idx_slice_in_bounds, indices_in_bounds_of};
+use polars_compute::gather::{idx_slice_in_bounds, indices_in_bounds, indices_in_bounds_of};
 use sel_arrow::array::Array;
 use sel_arrow::binary::BinaryArray;
 use sel_arrow::primitive::{IdxArr, PrimitiveArray};
@@ -78,6 +78,21 @@ fn null_rows_need_no_bytes(rt: HostRuntime) -> Result<(), Fail> {
 #[test]
 fn plain_indices_in_bounds(rt: HostRuntime) {
     assert!(rt; idx_slice_in_bounds(&[2, 0], 3) && !idx_slice_in_bounds(&[0, 3], 3));
+    assert!(rt; idx_slice_in_bounds(&[], 0) && !idx_slice_in_bounds(&[0], 0));
+    let places = [0, 1, 2, 3, 4, 5, 6, 7, 8];
+    assert!(rt; idx_slice_in_bounds(&places, 9) && !idx_slice_in_bounds(&places, 8));
+}
+
+#[test]
+fn stored_value_of_null_index_may_be_out_of_bounds(rt: HostRuntime) -> Result<(), Fail> {
+    let indices = numbers(rt.alloc(), &[5u32, 9], &[true, false])?;
+    let (inside, outside) = (
+        indices_in_bounds(&indices, 6),
+        indices_in_bounds(&indices, 5),
+    );
+    drop(indices);
+    assert!(rt; inside && !outside);
+    Ok(())
 }
 
 // Returns whether all indices are less than `len`.

@@ -194,14 +194,13 @@ fn take_nulls(values: &NullArray, indices: &IdxArr) -> NullArray
 }
 
 /// Returns whether every non-null index is less than `len`.
-#[tactic(auto, using(crate::proofs::Takes::below_rows))]
+///
+/// The validity is read only if a stored value is out of bounds.
+#[tactic(auto, using(crate::proofs::Takes::below_masked))]
 pub fn indices_in_bounds(indices: &IdxArr, len: usize) -> bool
     ensures { result ≡ all_within len (primitive_rows indices.now) }
 {
-    match &indices.validity {
-        None => idx_slice_in_bounds(indices.values.as_slice(), len),
-        Some(_) => indices_in_bounds_of(indices, len),
-    }
+    idx_slice_in_bounds(indices.values.as_slice(), len) || indices_in_bounds_of(indices, len)
 }
 
 /// Returns whether every non-null index is less than `len`, for indices of any integer type.
@@ -224,15 +223,20 @@ pub fn idx_slice_in_bounds(indices: &[u32], len: usize) -> bool
     len > u32::MAX as usize || are_below(indices, len as u32)
 }
 
-/// Returns whether every index is less than `len`; has no branch per index, to permit SIMD.
+/// Returns whether every index is less than `len`, by the greatest: with SIMD, one operation finds
+/// the greater indices of several pairs.
+#[tactic(auto, using(crate::proofs::Takes::none_below))]
 fn are_below(places: &[u32], len: u32) -> bool
     ensures { result ≡ all_below len places.now }
 {
-    let mut are = true;
-    for place in places {
-        are &= *place < len;
+    if len == 0 {
+        return places.is_empty();
     }
-    are
+    let mut greatest = 0;
+    for place in places {
+        greatest = greatest.max(*place);
+    }
+    greatest < len
 }
 
 /// Returns whether every non-null index refers to a whole block of `size` items among `len` items.
