@@ -1,4 +1,4 @@
-/* A column from an Arrow array, filtered, and out again in the same type.  cc arrow_roundtrip.c -I../include -L../build -lsel */
+/* A column from an Arrow array, filtered, and out again in the same type.  cc arrow_roundtrip.c -I../include ../build/libsel.a */
 #include "sel_arrow.h"
 
 #include <stdio.h>

@@ -85,6 +85,8 @@ def contents() -> Dict[str, File]:
     found = files(RELOCATABLE)
     for path in (ROOT / "LICENSE", ROOT / "README.md", BUILD / "VERDICTS"):
         found[path.name] = File(path.read_bytes())
+    for name in examples():
+        found[f"examples/{name}.c"] = File((EXAMPLES / f"{name}.c").read_bytes())
     sums = "".join(f"{hashlib.sha256(data_of(found, path)).hexdigest()}  {path}\n" for path in sorted(found))
     found["SHA256SUMS"] = File(sums.encode())
     return dict(sorted(found.items()))
@@ -246,7 +248,8 @@ def check_unpacked(archive: pathlib.Path, folder: pathlib.Path) -> pathlib.Path:
     run("sha256sum", "--check", "--strict", "--quiet", "SHA256SUMS", cwd=top)
     listed = [line.split("  ", 1)[1] for line in (top / "SHA256SUMS").read_text().splitlines()]
     expect(sorted([*listed, "SHA256SUMS"]) == sorted(tree(top)), "SHA256SUMS does not list every file")
-    expect(set(paths(built_for())) | {"LICENSE", "README.md", "VERDICTS"} == set(listed), "the archive does not have the stated files")
+    stated = {"LICENSE", "README.md", "VERDICTS", *(f"examples/{name}.c" for name in examples())}
+    expect(set(paths(built_for())) | stated == set(listed), "the archive does not have the stated files")
     shared = [path for path in listed if path.endswith(f"/{SONAME}")]
     expect(len(shared) == len(built_for()), "the archive does not have a shared library for each processor")
     expect(all(dynamic(top / path, "SONAME") == [SONAME] for path in shared), f"a soname is not {SONAME}")

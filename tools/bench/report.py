@@ -22,14 +22,14 @@ Row = Tuple[float, str, float, str, int, str, Times]
 # why a row is slower than a peer, by a prefix of its kernel's name; the first match counts
 CAUSES = (
     ("filter, bits", "the library is built for any processor of x86-64-v2, the loops for this one; the library counts the set bits of the mask first"),
-    ("filter, lists", "the kept rows are listed as runs, from which one pass makes the offsets and the runs of child rows; a run of up to eight child rows is copied as eight, a longer one by a call"),
+    ("filter, lists", "the mask is read bit by bit, or by runs if most runs are long; bit by bit, each kept list is read twice, for its end and for its items"),
     ("filter, two fields", "the mask is read once for each field, as for a column of the field's type"),
     ("filter, views", "the library counts the set bits of the mask first, and shares each data buffer by a reference count"),
     ("filter", "the library is built for any processor of x86-64-v2, the loops and numpy use this one's instructions; the library counts the set bits of the mask first"),
     ("take, views", "each index is bounds-checked first, and each data buffer is shared by a reference count"),
     ("take, bits", "each index is bounds-checked first, and each read computes the byte and the bit in it"),
     ("take, lists", "each index is bounds-checked first; the start of each list is kept, so that its items are copied in a second pass: up to eight as eight, more by a call"),
-    ("take, bytes", "each index is bounds-checked first; start and length of each row are kept, so that its bytes are copied in a second pass: up to sixteen as sixteen, more by a call"),
+    ("take, bytes", "each index is bounds-checked first; the start of each row is kept, so that its bytes are copied in a second pass: up to sixteen as sixteen, more by a call"),
     ("take", "each index is bounds-checked first; the loop checks none"),
     ("choose, views", "the library is built for any processor of x86-64-v2; where the buffer index of a view of the second column may change, the library tests whether the view is inline"),
     ("choose, 8 bytes", "a vector operation for any processor of x86-64-v2 works on two values, one of the loops, which are compiled for this processor, on more"),

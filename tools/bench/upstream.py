@@ -133,7 +133,8 @@ def section(folder: pathlib.Path, newer: Optional[pathlib.Path] = None) -> List[
     by_name = {kernel.name: kernel for kernel in kernels(others)}
     slow = sum(times["port"] > MOST_RATIO * times["upstream"] for times in others.values())
     both = [f"Built for x86-64-v3, {slow} and {behind_loop(others)} of {len(others)} cases do; the last column of the table above has the ratios to upstream's kernels.", ""] if newer else []
-    return [HEADING, "", "The time of this library by that of upstream's kernel, of the best loop in safe Rust (plain or tuned by hand) and of a copy of the same bytes: the least and the greatest ratio of a "
+    return [HEADING, "", "The program that calls upstream's kernels is not part of this repository: `make bench UPSTREAM=folder` runs it from there (`tools/bench/upstream.py` says what it has to print).", "",
+            "The time of this library by that of upstream's kernel, of the best loop in safe Rust (plain or tuned by hand) and of a copy of the same bytes: the least and the greatest ratio of a "
             "kernel's cases, and the median in parentheses. All are built for the same processors (x86-64-v2) and run in one process, in turn in each round, each after three "
             f"untimed calls, since this library's values are not in the memory that the other contenders share; the best of {ROUNDS} rounds counts. A case above {MOST_RATIO} of upstream's time is run again for {MORE_ROUNDS} rounds, since other work on the machine may have slowed it: the best of all rounds counts, for each contender. Filters take a mask that is prepared "
             "(`sel_filter_selection`), since a mask of upstream keeps the number of its true bits after the first call. `d` is the share of rows that a mask keeps, `o` the offsets of the slices, `n` the rows.", "",
