@@ -75,7 +75,7 @@ static sel_status read_indices(const sel_column *keys, size_t count, sel_column 
 
 sel_status sel_arrow_indices(const sel_column *keys, size_t count, sel_column *out) { return read_indices(keys, count, out); }
 
-sel_status sel_arrow_check_keys(const sel_column *keys, size_t count) { return read_indices(keys, count, NULL); }
+sel_status sel_arrow_check_indices(const sel_column *keys, size_t count) { return read_indices(keys, count, NULL); }
 
 /* ---- columns without dictionaries */
 
@@ -134,20 +134,17 @@ static sel_status decode_column(const sel_column *of, const node *type, sel_colu
     return status;
 }
 
-/* Returns a type with the children of another one decoded; or NULL if out of memory. */
+/* Returns a type without dictionaries, at every depth; or NULL if out of memory. */
 static node *decoded_type(const node *of) {
-    const node *from = of->value_type ? of->value_type : of;
-    int64_t flags = of->value_type ? from->flags | (of->flags & ARROW_FLAG_NULLABLE) : from->flags;
-    const char *metadata = of->metadata ? of->metadata : from->metadata;
-    size_t metadata_len = of->metadata ? of->metadata_len : from->metadata_len;
-    if (from->value_type) { /* a dictionary of keys of another one */
-        node *below = decoded_type(from), *it = below ? sel_arrow_node_renamed(below, of->name, flags | below->flags) : NULL;
-        sel_arrow_node_free(below);
+    if (of->value_type) {
+        node *values = decoded_type(of->value_type);
+        node *it = values ? sel_arrow_node_under(values, of->name, of->metadata, of->metadata_len, of->flags) : NULL;
+        sel_arrow_node_free(values);
         return it;
     }
-    node *it = sel_arrow_node(from->text, of->name, metadata, metadata_len, flags, from->child_count);
-    for (size_t i = 0; it && i < from->child_count; i++) {
-        it->children[i] = decoded_type(from->children[i]);
+    node *it = sel_arrow_node(of->text, of->name, of->metadata, of->metadata_len, of->flags, of->child_count);
+    for (size_t i = 0; it && i < of->child_count; i++) {
+        it->children[i] = decoded_type(of->children[i]);
         if (it->children[i]) continue;
         sel_arrow_node_free(it);
         return NULL;
@@ -155,24 +152,21 @@ static node *decoded_type(const node *of) {
     return it;
 }
 
-static sel_status decode(const sel_column *of, const node *type, sel_column *out, node **out_type) {
-    sel_column made = {0};
-    sel_status status = sel_arrow_check_fits(of, type);
-    if (status == SEL_OK) status = decode_column(of, type, &made);
-    if (status == SEL_OK && !(*out_type = decoded_type(type))) status = SEL_ERROR_OUT_OF_MEMORY;
-    if (status == SEL_OK) {
-        sel_free(out);
-        *out = made;
-    } else sel_free(&made);
-    return status;
-}
-
 sel_status sel_decode(const sel_column *of, const sel_type *type, sel_column *out, sel_type *out_type) {
+    sel_column made = {0};
     node *it = NULL;
     if (sel_type_of(of) == SEL_TYPE_NONE || !node_of(type)) return SEL_ERROR_NO_COLUMN;
-    sel_status status = decode(of, type->at, out, &it);
-    if (status == SEL_OK) sel_arrow_put(out_type, it);
-    return status;
+    sel_status status = sel_arrow_check_fits(of, type->at);
+    if (status == SEL_OK) status = decode_column(of, type->at, &made);
+    if (status == SEL_OK && !(it = decoded_type(type->at))) status = SEL_ERROR_OUT_OF_MEMORY;
+    if (status != SEL_OK) {
+        sel_free(&made);
+        return status;
+    }
+    sel_free(out);
+    *out = made;
+    sel_arrow_put(out_type, it);
+    return SEL_OK;
 }
 
 /* ---- the common type of columns */
@@ -208,9 +202,11 @@ static bool is_compatible(const node *a, const node *b, bool by_name) {
     return has_same_dictionary(a, b);
 }
 
-/* Returns the first type, nullable wherever the other one is, too; or NULL if out of memory. */
+/* Returns the first type, nullable wherever the other one is, too, and with sorted keys or an ordered dictionary where both are; or NULL if out
+ * of memory. */
 static node *merged(node *a, const node *b) {
-    int64_t flags = a->flags | (b->flags & ARROW_FLAG_NULLABLE);
+    const int64_t of_both = ARROW_FLAG_DICTIONARY_ORDERED | ARROW_FLAG_MAP_KEYS_SORTED;
+    int64_t flags = (a->flags & (b->flags | ~of_both)) | (b->flags & ARROW_FLAG_NULLABLE);
     node *it = sel_arrow_node_renamed(a, a->name, flags);
     for (size_t i = 0; it && i < a->child_count; i++) {
         node *child = merged(a->children[i], b->children[i]);
@@ -231,11 +227,15 @@ typedef struct set {
     size_t len;
 } set;
 
+static void free_types(node **types, size_t len) {
+    for (size_t i = 0; types && i < len; i++) sel_arrow_node_free(types[i]);
+    free(types);
+}
+
 static void free_set(set *it) {
     for (size_t i = 0; it->columns && i < it->len; i++) sel_free(&it->columns[i]);
-    for (size_t i = 0; it->types && i < it->len; i++) sel_arrow_node_free(it->types[i]);
     free(it->columns);
-    free(it->types);
+    free_types(it->types, it->len);
 }
 
 static sel_status make_set(const sel_column *columns, const sel_type *types, size_t len, set *out) {
@@ -245,27 +245,62 @@ static sel_status make_set(const sel_column *columns, const sel_type *types, siz
         status = sel_share(&columns[i], &out->columns[i]);
         out->types[i] = sel_arrow_node_share(types[i].at);
         if (status == SEL_OK && !types[i].at) status = sel_arrow_node_of_column(&columns[i], "", &out->types[i]);
-        if (status == SEL_OK) status = sel_arrow_check_fits(&columns[i], out->types[i]);
+        if (status == SEL_OK) status = sel_arrow_check_storage(&columns[i], out->types[i]);
     }
     return status;
 }
 
-static bool all_compatible(const set *it) {
-    for (size_t i = 1; i < it->len; i++)
-        if (!is_compatible(it->types[0], it->types[i], true)) return false;
+static bool all_compatible(node *const *types, size_t len) {
+    for (size_t i = 1; i < len; i++)
+        if (!is_compatible(types[0], types[i], true)) return false;
     return true;
 }
 
-static sel_status decode_set(set *it) {
+/* Returns the types without dictionaries. SEL_ERROR_TYPE_MISMATCH if they differ all the same. */
+static sel_status decoded_types(const set *it, node ***out) {
+    node **types = calloc(it->len + 1, sizeof *types);
+    sel_status status = types ? SEL_OK : SEL_ERROR_OUT_OF_MEMORY;
+    for (size_t i = 0; status == SEL_OK && i < it->len; i++) {
+        types[i] = sel_arrow_has_dictionary(it->types[i]) ? decoded_type(it->types[i]) : sel_arrow_node_share(it->types[i]);
+        if (!types[i]) status = SEL_ERROR_OUT_OF_MEMORY;
+    }
+    if (status == SEL_OK && !all_compatible(types, it->len)) status = SEL_ERROR_TYPE_MISMATCH;
+    if (status == SEL_OK) *out = types;
+    else free_types(types, it->len);
+    return status;
+}
+
+static sel_status check_dictionaries(const set *it) {
+    sel_status status = SEL_OK;
+    for (size_t i = 0; status == SEL_OK && i < it->len; i++) status = sel_arrow_check_dictionaries(it->types[i]);
+    for (size_t i = 0; status == SEL_OK && i < it->len; i++) status = sel_arrow_check_keys(&it->columns[i], it->types[i]);
+    return status;
+}
+
+static sel_status decode_columns(set *it) {
     sel_status status = SEL_OK;
     for (size_t i = 0; status == SEL_OK && i < it->len; i++) {
-        node *type = NULL;
-        if (!sel_arrow_has_dictionary(it->types[i])) continue;
-        status = decode(&it->columns[i], it->types[i], &it->columns[i], &type);
+        sel_column made = {0};
+        status = decode_column(&it->columns[i], it->types[i], &made);
         if (status != SEL_OK) break;
-        sel_arrow_node_free(it->types[i]);
-        it->types[i] = type;
+        sel_free(&it->columns[i]);
+        it->columns[i] = made;
     }
+    return status;
+}
+
+/* Leaves the columns as they are if their types agree, else decodes them. All errors of types come before those of dictionaries. */
+static sel_status make_compatible(set *it) {
+    node **types = NULL;
+    sel_status status = all_compatible(it->types, it->len) ? SEL_OK : decoded_types(it, &types);
+    if (status == SEL_OK) status = check_dictionaries(it);
+    if (status != SEL_OK || !types) {
+        free_types(types, it->len);
+        return status;
+    }
+    status = decode_columns(it);
+    free_types(it->types, it->len);
+    it->types = types;
     return status;
 }
 
@@ -286,10 +321,7 @@ sel_status sel_common_type(const sel_column *columns, const sel_type *types, siz
         if (sel_type_of(&columns[i]) == SEL_TYPE_NONE) return SEL_ERROR_NO_COLUMN;
     if (len == 0) return SEL_ERROR_LENGTH_MISMATCH;
     sel_status status = make_set(columns, types, len, &it);
-    if (status == SEL_OK && !all_compatible(&it)) {
-        status = decode_set(&it);
-        if (status == SEL_OK && !all_compatible(&it)) status = SEL_ERROR_TYPE_MISMATCH;
-    }
+    if (status == SEL_OK) status = make_compatible(&it);
     if (status == SEL_OK) status = merge_types(&it);
     if (status == SEL_OK) {
         for (size_t i = 0; i < len; i++) {

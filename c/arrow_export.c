@@ -6,11 +6,17 @@
 
 /* ---- does a column have the storage of a type */
 
-static sel_status check_child(const sel_column *of, size_t i, const node *type) {
-    sel_column child = {0};
-    sel_status status = sel_type_of(of) == SEL_TYPE_STRUCT ? sel_field(of, i, &child) : sel_child(of, &child);
-    if (status == SEL_OK) status = sel_arrow_check_fits(&child, type);
-    sel_free(&child);
+typedef sel_status column_check(const sel_column *of, const node *type);
+
+/* Makes a check of each child of a column. */
+static sel_status check_children(const sel_column *of, const node *type, column_check *check) {
+    sel_status status = SEL_OK;
+    for (size_t i = 0; status == SEL_OK && i < type->child_count; i++) {
+        sel_column child = {0};
+        status = sel_type_of(of) == SEL_TYPE_STRUCT ? sel_field(of, i, &child) : sel_child(of, &child);
+        if (status == SEL_OK) status = check(&child, type->children[i]);
+        sel_free(&child);
+    }
     return status;
 }
 
@@ -34,38 +40,54 @@ static sel_status check_field_count(const sel_column *of, const node *type) {
     return status == SEL_OK && count != type->child_count ? SEL_ERROR_TYPE_MISMATCH : status;
 }
 
-sel_status sel_arrow_check_fits(const sel_column *of, const node *type) {
+sel_status sel_arrow_check_storage(const sel_column *of, const node *type) {
     sel_status status = SEL_OK;
     if (sel_type_of(of) != type->format.storage) return SEL_ERROR_TYPE_MISMATCH;
     if (type->format.storage == SEL_TYPE_FIXED_SIZE_LIST) status = check_size(of, type);
     if (status == SEL_OK && type->format.layout == FIXED_BYTES) status = check_bytes(of);
     if (status == SEL_OK && type->format.layout == STRUCTS) status = check_field_count(of, type);
-    for (size_t i = 0; status == SEL_OK && i < type->child_count; i++) status = check_child(of, i, type->children[i]);
-    if (status != SEL_OK || !type->value_type) return status;
-    if (sel_type_of(&type->values) == SEL_TYPE_NONE) return SEL_ERROR_ARROW_DICTIONARY;
-    return sel_arrow_check_keys(of, sel_len(&type->values));
+    return status == SEL_OK ? check_children(of, type, sel_arrow_check_storage) : status;
+}
+
+sel_status sel_arrow_check_dictionaries(const node *type) {
+    sel_status status = type->value_type && sel_type_of(&type->values) == SEL_TYPE_NONE ? SEL_ERROR_ARROW_DICTIONARY : SEL_OK;
+    for (size_t i = 0; status == SEL_OK && i < type->child_count; i++) status = sel_arrow_check_dictionaries(type->children[i]);
+    return status;
+}
+
+sel_status sel_arrow_check_keys(const sel_column *of, const node *type) {
+    if (!sel_arrow_has_dictionary(type)) return SEL_OK;
+    return type->value_type ? sel_arrow_check_indices(of, sel_len(&type->values)) : check_children(of, type, sel_arrow_check_keys);
+}
+
+sel_status sel_arrow_check_fits(const sel_column *of, const node *type) {
+    sel_status status = sel_arrow_check_storage(of, type);
+    if (status == SEL_OK) status = sel_arrow_check_dictionaries(type);
+    return status == SEL_OK ? sel_arrow_check_keys(of, type) : status;
 }
 
 /* ---- export */
 
-static void release_array(Array *array) {
-    for (int64_t i = 0; i < array->n_children; i++) {
-        Array *child = array->children[i];
-        if (child && child->release) child->release(child);
-        free(child);
+static void release_array(Array *array);
+
+/* Frees an array that is exported, with its children and its dictionary, unless the consumer has moved these. */
+static void free_array(Array *array) {
+    for (int64_t i = 0; i <= array->n_children; i++) {
+        Array *below = i < array->n_children ? array->children[i] : array->dictionary;
+        if (below && below->release == release_array) free_array(below);
+        else if (below && below->release) below->release(below);
+        free(below);
     }
     if (array->buffers && array->private_data) sel_arrow_free_buffers(array);
     else free(array->private_data);
-    if (array->dictionary && array->dictionary->release) array->dictionary->release(array->dictionary);
-    free(array->dictionary);
     free(array->children);
     free(array->buffers);
     array->release = NULL;
 }
 
-/* Releases an array as a whole, and then the imported ones of which it had the last buffers. */
-static void release_root(Array *array) {
-    release_array(array);
+/* Releases an array, which may be a child that its consumer has moved, and then the imported ones of which it had the last buffers. */
+static void release_array(Array *array) {
+    free_array(array);
     sel_sweep();
 }
 
@@ -210,7 +232,6 @@ sel_status sel_export(const sel_column *of, const sel_type *type, struct ArrowAr
     if (status == SEL_OK) status = export_node(of, it, NULL, array);
     if (status == SEL_OK) status = sel_type_export(&(sel_type){it}, schema);
     sel_arrow_node_free(it);
-    if (status == SEL_OK) array->release = release_root;
-    else if (array->release) array->release(array);
+    if (status != SEL_OK && array->release) array->release(array);
     return status;
 }

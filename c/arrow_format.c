@@ -43,6 +43,11 @@ const char *sel_arrow_metadata_value(const char *metadata, const char *key, size
     return NULL;
 }
 
+bool sel_arrow_has_extension(const char *metadata) {
+    size_t len = 0;
+    return sel_arrow_metadata_value(metadata, extension_name, &len) != NULL;
+}
+
 static bool is_uint128(const char *metadata) {
     size_t len = 0;
     const char *name = sel_arrow_metadata_value(metadata, extension_name, &len);
@@ -154,9 +159,18 @@ bool sel_arrow_is_nested(enum layout layout) {
     return layout == FIXED_BYTES || layout == LISTS || layout == LIST_VIEWS || layout == FIXED_LISTS || layout == STRUCTS || layout == RUNS;
 }
 
+/* Returns the length of a format without the bits of a decimal of 128 bits, which d:P,S has too. */
+static size_t len_without_bits(const char *text) {
+    size_t len = strlen(text);
+    const char *scale = strncmp(text, "d:", 2) ? NULL : strchr(text, ',');
+    const char *bits = scale ? strchr(scale + 1, ',') : NULL;
+    return bits && !strcmp(bits, ",128") ? len - strlen(bits) : len;
+}
+
 bool sel_arrow_is_same_format(const char *a, const char *b) {
     static const char *const groups[][4] = {{"u", "U", "vu", NULL}, {"z", "Z", NULL, NULL}, {"+l", "+L", NULL, NULL}};
-    if (!strcmp(a, b)) return true;
+    size_t len = len_without_bits(a);
+    if (len == len_without_bits(b) && !memcmp(a, b, len)) return true;
     for (size_t i = 0; i < sizeof groups / sizeof *groups; i++) {
         int found = 0;
         for (size_t k = 0; groups[i][k]; k++) found += !strcmp(groups[i][k], a) + !strcmp(groups[i][k], b);

@@ -118,7 +118,7 @@ static sel_status import_layout(level *l, sel_column *out) {
 static sel_status import_dictionary(const level *l, const sel_column *keys) {
     node *type = l->type;
     sel_status status = sel_arrow_import_node(l->array->dictionary, l->schema->dictionary, type->value_type, l->loan, &type->values);
-    return status == SEL_OK ? sel_arrow_check_keys(keys, sel_len(&type->values)) : status;
+    return status == SEL_OK ? sel_arrow_check_indices(keys, sel_len(&type->values)) : status;
 }
 
 static bool has_validity(enum layout layout) { return layout != NULLS && layout != RUNS; }

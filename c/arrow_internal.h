@@ -57,7 +57,8 @@ sel_status sel_arrow_read_format(const char *text, const char *metadata, format 
 /* Tests whether a column of this layout has more levels than one. */
 bool sel_arrow_is_nested(enum layout layout);
 
-/* Tests whether two formats have one logical type in other layouts: strings, binary or lists with offsets of other widths. */
+/* Tests whether two formats have one logical type: equal ones, decimals with and without their 128 bits, and strings, binary or lists with
+ * offsets of several widths. */
 bool sel_arrow_is_same_format(const char *a, const char *b);
 
 /* Returns in `len` the number of bytes of metadata. SEL_ERROR_ARROW_LENGTH if a count in it is negative. */
@@ -65,6 +66,9 @@ sel_status sel_arrow_metadata_len(const char *metadata, size_t *len);
 
 /* Returns the value of a key of metadata and its length, or NULL if it has none. */
 const char *sel_arrow_metadata_value(const char *metadata, const char *key, size_t *len);
+
+/* Tests whether metadata names an extension type. */
+bool sel_arrow_has_extension(const char *metadata);
 
 /* The metadata of unsigned 128-bit integers: the extension name sel.uint128. */
 const char *sel_arrow_uint128_metadata(void);
@@ -91,6 +95,10 @@ node *sel_arrow_node(const char *text, const char *name, const char *metadata, s
 
 /* Returns a level that shares the children and the dictionary of another, with this name and these flags; or NULL if out of memory. */
 node *sel_arrow_node_renamed(const node *of, const char *name, int64_t flags);
+
+/* Returns the type of the values of runs or of a dictionary as a field with the name of the runs or the keys, nullable if either is; or NULL
+ * if out of memory. It has the metadata of the runs or the keys if there is some, unless the values would get another type by it. */
+node *sel_arrow_node_under(const node *values, const char *name, const char *metadata, size_t metadata_len, int64_t flags);
 
 node *sel_arrow_node_share(node *of);
 void sel_arrow_node_free(node *of);
@@ -228,8 +236,16 @@ sel_status sel_arrow_share_data(target *t, size_t i, size_t *len);
 
 /* ---- arrow_export.c */
 
-/* Checks that a column has the storage of a type, and its keys a row of their dictionary: SEL_ERROR_TYPE_MISMATCH,
- * SEL_ERROR_INDEX_OUT_OF_BOUNDS. */
+/* Checks that a column has the storage of a type, at every depth: SEL_ERROR_TYPE_MISMATCH. */
+sel_status sel_arrow_check_storage(const sel_column *of, const node *type);
+
+/* Checks that the dictionaries of a type have values: SEL_ERROR_ARROW_DICTIONARY. */
+sel_status sel_arrow_check_dictionaries(const node *type);
+
+/* Checks that the keys of a column have a row of their dictionary: SEL_ERROR_INDEX_OUT_OF_BOUNDS. */
+sel_status sel_arrow_check_keys(const sel_column *of, const node *type);
+
+/* Makes these checks, in this order. */
 sel_status sel_arrow_check_fits(const sel_column *of, const node *type);
 
 /* ---- arrow_dictionary.c */
@@ -238,6 +254,6 @@ sel_status sel_arrow_check_fits(const sel_column *of, const node *type);
 sel_status sel_arrow_indices(const sel_column *keys, size_t count, sel_column *out);
 
 /* Checks that no key that is not null is out of bounds of `count` rows. */
-sel_status sel_arrow_check_keys(const sel_column *keys, size_t count);
+sel_status sel_arrow_check_indices(const sel_column *keys, size_t count);
 
 #endif

@@ -197,12 +197,11 @@ static origin *end_leases(void) {
     return ended;
 }
 
-void sel_sweep(void) {
-    if (atomic_load(&lease_count) == 0) return;
+/* Ends what leases can end, and releases the arrays of which none is left. */
+static void sweep_once(void) {
     pthread_mutex_lock(&lock);
     origin *ended = end_leases();
     pthread_mutex_unlock(&lock);
-    /* a release may call this library */
     while (ended) {
         origin *next = ended->next;
         struct ArrowArray array = ended->array;
@@ -212,11 +211,28 @@ void sel_sweep(void) {
     }
 }
 
+/* Whether this thread sweeps, and whether a release that the sweep called asked for another one. */
+static _Thread_local bool is_sweeping, sweeps_again;
+
+/* A release may call this library, and may free the last owner of another array. That one is released when the release has
+ * returned: a chain of arrays, each of which holds the one before, does not nest on the stack. */
+void sel_sweep(void) {
+    if (atomic_load(&lease_count) == 0) return;
+    sweeps_again = true;
+    if (is_sweeping) return;
+    is_sweeping = true;
+    while (sweeps_again) {
+        sweeps_again = false;
+        sweep_once();
+    }
+    is_sweeping = false;
+}
+
 /* Sweeps after an owner was freed. A sweep asks for each lease: with many of them, not at each call. */
 static void sweep_in_turn(void) {
     size_t count = atomic_load(&lease_count);
     if (count == 0) return;
-    if (atomic_fetch_add(&frees, 1) < count / LEASES_AT_ONCE) return;
+    if (atomic_fetch_add(&frees, 1) < (count - 1) / LEASES_AT_ONCE) return;
     atomic_store(&frees, 0);
     sel_sweep();
 }

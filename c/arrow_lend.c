@@ -44,7 +44,7 @@ static sel_status lend_fixed_bytes(level *l, sel_column *out) {
     size_t width = l->format.width;
     const lent_buffer *values;
     sel_column bytes = {0};
-    if (width > 0 && l->from + l->len > MAX_ROWS / width) return SEL_ERROR_TOO_MANY_ROWS;
+    if (width > 0 && (l->len > MAX_ROWS / width || l->from + l->len > PTRDIFF_MAX / width)) return SEL_ERROR_TOO_MANY_ROWS;
     const void *at = width > 0 ? items(l, 1, width) : NULL;
     sel_status status = sel_loan_values(l->loan, SEL_TYPE_UINT8, at, l->len * width, &values);
     if (status == SEL_OK) status = sel_integers_over(values, &none, 0, &bytes);

@@ -36,18 +36,6 @@ static sel_status check_ends(const Schema *ends) {
     return is_signed ? SEL_OK : SEL_ERROR_ARROW_FORMAT;
 }
 
-/* The type of runs is that of their values, under the name and the metadata of the runs. */
-static node *without_runs(const Schema *schema, size_t metadata_len, node *values) {
-    const char *metadata = schema->metadata ? schema->metadata : values->metadata;
-    size_t len = schema->metadata ? metadata_len : values->metadata_len;
-    int64_t flags = (schema->flags & ARROW_FLAG_NULLABLE) | values->flags;
-    node *it = sel_arrow_node(values->text, schema->name, metadata, len, flags, values->child_count);
-    if (!it) return NULL;
-    for (size_t i = 0; i < values->child_count; i++) it->children[i] = sel_arrow_node_share(values->children[i]);
-    it->value_type = sel_arrow_node_share(values->value_type);
-    return it;
-}
-
 static sel_status read_children(const Schema *schema, unsigned depth, node *it) {
     sel_status status = SEL_OK;
     for (size_t i = 0; status == SEL_OK && i < it->child_count; i++) status = sel_arrow_read_schema(schema->children[i], depth + 1, &it->children[i]);
@@ -56,10 +44,12 @@ static sel_status read_children(const Schema *schema, unsigned depth, node *it) 
 
 /* Reads a schema with run ends and values, which becomes one of values. */
 static sel_status read_runs(const Schema *schema, size_t metadata_len, unsigned depth, node **out) {
-    node *values = NULL;
+    node *ends = NULL, *values = NULL;
     sel_status status = check_ends(schema->children[0]);
+    if (status == SEL_OK) status = sel_arrow_read_schema(schema->children[0], depth + 1, &ends);
     if (status == SEL_OK) status = sel_arrow_read_schema(schema->children[1], depth + 1, &values);
-    if (status == SEL_OK && !(*out = without_runs(schema, metadata_len, values))) status = SEL_ERROR_OUT_OF_MEMORY;
+    if (status == SEL_OK && !(*out = sel_arrow_node_under(values, schema->name, schema->metadata, metadata_len, schema->flags))) status = SEL_ERROR_OUT_OF_MEMORY;
+    sel_arrow_node_free(ends);
     sel_arrow_node_free(values);
     return status;
 }
@@ -93,20 +83,25 @@ sel_status sel_type_import(const struct ArrowSchema *schema, sel_type *out) {
     return status;
 }
 
-static const char *find_unsupported(const Schema *schema, unsigned depth) {
+/* Stops the whole search below 128 levels, as an import does: a schema that is below itself has no end. */
+static const char *find_unsupported(const Schema *schema, unsigned depth, bool *stops) {
     size_t metadata_len = 0;
     format format;
-    if (!schema || !schema->release || depth > MAX_LEVELS || sel_arrow_metadata_len(schema->metadata, &metadata_len) != SEL_OK) return NULL;
+    *stops |= depth > MAX_LEVELS;
+    if (*stops || !schema || !schema->release || sel_arrow_metadata_len(schema->metadata, &metadata_len) != SEL_OK) return NULL;
     if (!schema->format) return "";
     if (sel_arrow_read_format(schema->format, schema->metadata, &format) == SEL_ERROR_ARROW_FORMAT) return schema->format;
     bool has_ends = format.layout == RUNS && schema->n_children == 2 && schema->children && schema->children[0];
     if (has_ends && check_ends(schema->children[0]) == SEL_ERROR_ARROW_FORMAT) return schema->children[0]->format ? schema->children[0]->format : "";
     const char *found = NULL;
-    for (int64_t i = 0; !found && schema->children && i < schema->n_children && i < MAX_COUNT; i++) found = find_unsupported(schema->children[i], depth + 1);
-    return found ? found : find_unsupported(schema->dictionary, depth + 1);
+    for (int64_t i = 0; !found && !*stops && schema->children && i < schema->n_children && i < MAX_COUNT; i++) found = find_unsupported(schema->children[i], depth + 1, stops);
+    return found ? found : find_unsupported(schema->dictionary, depth + 1, stops);
 }
 
-const char *sel_unsupported_format(const struct ArrowSchema *schema) { return find_unsupported(schema, 0); }
+const char *sel_unsupported_format(const struct ArrowSchema *schema) {
+    bool stops = false;
+    return find_unsupported(schema, 0, &stops);
+}
 
 /* ---- to schemas */
 

@@ -15,6 +15,7 @@ typedef struct reader {
     Schema schema;
     Array pending;
     node *type;
+    bool has_failed; /* the last call of the producer: only then it may be asked for a message */
 } reader;
 
 static void free_reader(reader *it) {
@@ -54,7 +55,8 @@ sel_status sel_stream_type(const sel_stream *of, sel_type *type) {
 sel_status sel_stream_next(sel_stream *of, sel_column *out, sel_type *type) {
     reader *it = of->at;
     if (!it) return SEL_ERROR_NO_COLUMN;
-    if (!it->pending.release && it->source.get_next(&it->source, &it->pending) != 0) {
+    if (!it->pending.release) it->has_failed = it->source.get_next(&it->source, &it->pending) != 0;
+    if (it->has_failed) {
         it->pending.release = NULL;
         return SEL_ERROR_ARROW_STREAM;
     }
@@ -66,7 +68,7 @@ sel_status sel_stream_next(sel_stream *of, sel_column *out, sel_type *type) {
 
 const char *sel_stream_message(sel_stream *of) {
     reader *it = of->at;
-    return it && it->source.get_last_error ? it->source.get_last_error(&it->source) : NULL;
+    return it && it->has_failed && it->source.get_last_error ? it->source.get_last_error(&it->source) : NULL;
 }
 
 void sel_stream_free(sel_stream *of) {

@@ -58,6 +58,7 @@ void test_exports(void);
 void test_formats(void);
 void test_types(void);
 void test_dictionaries(void);
+void test_rules(void);
 void test_streams(void);
 
 #endif

@@ -78,6 +78,7 @@ int main(void) {
     test_formats();
     test_types();
     test_dictionaries();
+    test_rules();
     test_streams();
     CHECK(held == 0 && refusals > 1000);
     printf("arrow: %ld refused allocations, %d failures\n", refusals, failures);

@@ -49,14 +49,32 @@ void sel_arrow_node_free(node *of) {
     free(of);
 }
 
-node *sel_arrow_node_renamed(const node *of, const char *name, int64_t flags) {
-    node *it = sel_arrow_node(of->text, name, of->metadata, of->metadata_len, flags, of->child_count);
+/* Returns a level with other metadata, name and flags. */
+static node *changed(const node *of, const char *name, const char *metadata, size_t metadata_len, int64_t flags) {
+    node *it = sel_arrow_node(of->text, name, metadata, metadata_len, flags, of->child_count);
     if (!it) return NULL;
     for (size_t i = 0; i < of->child_count; i++) it->children[i] = sel_arrow_node_share(of->children[i]);
     it->value_type = sel_arrow_node_share(of->value_type);
     if (sel_type_of(&of->values) == SEL_TYPE_NONE || sel_share(&of->values, &it->values) == SEL_OK) return it;
     sel_arrow_node_free(it);
     return NULL;
+}
+
+node *sel_arrow_node_renamed(const node *of, const char *name, int64_t flags) {
+    return changed(of, name, of->metadata, of->metadata_len, flags);
+}
+
+/* Tests whether values have the same type under other metadata: they have no extension type, and it does not change their storage. */
+static bool keeps_type(const node *values, const char *metadata) {
+    format format;
+    if (sel_arrow_has_extension(values->metadata)) return false;
+    return sel_arrow_read_format(values->text, metadata, &format) == SEL_OK && format.storage == values->format.storage;
+}
+
+node *sel_arrow_node_under(const node *values, const char *name, const char *metadata, size_t metadata_len, int64_t flags) {
+    int64_t all = values->flags | (flags & ARROW_FLAG_NULLABLE);
+    if (metadata && keeps_type(values, metadata)) return changed(values, name, metadata, metadata_len, all);
+    return sel_arrow_node_renamed(values, name, all);
 }
 
 void sel_arrow_put(sel_type *out, node *type) {
@@ -148,12 +166,12 @@ sel_status sel_type_new(const char *format, const sel_type *children, size_t chi
         if (!children[i].at) return SEL_ERROR_NO_COLUMN;
     sel_status status = check_new(format, children_len);
     if (status != SEL_OK) return status;
-    for (size_t i = 0; i < children_len; i++)
-        if (levels_of(children[i].at) >= MAX_LEVELS) return SEL_ERROR_TOO_DEEP;
     if (!strcmp(format, "+m")) {
         const node *entries = children[0].at;
         if (entries->format.layout != STRUCTS || entries->child_count != 2) return SEL_ERROR_ARROW_CHILDREN;
     }
+    for (size_t i = 0; i < children_len; i++)
+        if (levels_of(children[i].at) >= MAX_LEVELS) return SEL_ERROR_TOO_DEEP;
     node *it = sel_arrow_node(format, "", NULL, 0, ARROW_FLAG_NULLABLE, children_len);
     if (!it) return SEL_ERROR_OUT_OF_MEMORY;
     for (size_t i = 0; i < children_len; i++) it->children[i] = sel_arrow_node_share(children[i].at);

@@ -500,12 +500,38 @@ static void round_trips_end(void) {
     IS(p.releases == 1);
 }
 
+/* A child that is moved out of an exported array has the last owner of its buffers: its release releases the producer's array. */
+static void moved_children_release(void) {
+    static const int64_t numbers[4] = {1, 2, 3, 4};
+    producer p;
+    sel_column column = {0};
+    struct ArrowArray array;
+    struct ArrowSchema schema;
+    begin(&p);
+    add(&p, "l", 4, 0, 0, 2, NULL, put(&p, numbers, sizeof numbers), NULL);
+    add(&p, "+s", 4, 0, 0, 1, NULL, NULL, NULL);
+    adopt(&p, 0);
+    if (!import(&p, &column)) return;
+    if (!works(sel_export(&column, NULL, &array, &schema))) {
+        ends(&p, &column);
+        return;
+    }
+    schema.release(&schema);
+    struct ArrowArray moved = *array.children[0];
+    array.children[0]->release = NULL;
+    array.release(&array);
+    sel_free(&column);
+    IS(p.releases == 0 && ((const int64_t *)moved.buffers[1])[3] == 4);
+    moved.release(&moved);
+    IS(p.releases == 1);
+}
+
 int main(void) {
     static void (*const tests[])(void) = {integers_keep_their_addresses, booleans_keep_their_addresses, bytes_keep_their_addresses,
                                           views_keep_their_addresses, empty_arrays_are_released, failed_imports_lend_nothing,
                                           arrays_are_released_apart, round_trips_end, strings_share_their_bytes,
                                           nested_arrays_keep_their_addresses, values_are_borrowed, other_types_are_not_borrowed,
-                                          selections_keep_their_mask};
+                                          selections_keep_their_mask, moved_children_release};
     static void (*const orders[])(void) = {owners_are_freed_in_each_order};
     run_tests(tests, sizeof tests / sizeof *tests, 1);
     run_tests(orders, 1, 97);

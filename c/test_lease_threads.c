@@ -110,6 +110,39 @@ static void *work(void *with) {
     return NULL;
 }
 
+/* Makes a chain of exported arrays, each of which is imported and holds the one before, and frees the last owner. The first array is released
+ * by it, and the stack that this takes does not depend on the length of the chain. */
+static void *free_chain(void *with) {
+    producer *p = with;
+    sel_column last = {0};
+    CHECK(import(p, 0, &last));
+    for (long i = 0; i < rounds; i++) {
+        sel_column next = {0};
+        struct ArrowArray array;
+        struct ArrowSchema schema;
+        CHECK(sel_export(&last, NULL, &array, &schema) == SEL_OK);
+        CHECK(sel_import(&array, &schema, &next, NULL) == SEL_OK);
+        schema.release(&schema);
+        sel_free(&last);
+        last = next;
+    }
+    sel_free(&last);
+    for (long i = 0; i <= rounds / 64; i++) sel_free(&last);
+    CHECK(atomic_load(&p->releases) == 1);
+    return NULL;
+}
+
+enum { SMALL_STACK = 128 * 1024 };
+
+static void chains_need_no_stack(void) {
+    static producer first;
+    pthread_attr_t attributes;
+    pthread_t thread;
+    CHECK(pthread_attr_init(&attributes) == 0 && pthread_attr_setstacksize(&attributes, SMALL_STACK) == 0);
+    CHECK(pthread_create(&thread, &attributes, free_chain, &first) == 0 && pthread_join(thread, NULL) == 0);
+    pthread_attr_destroy(&attributes);
+}
+
 int main(int argc, char **argv) {
     pthread_t threads[THREADS];
     worker workers[THREADS];
@@ -130,6 +163,7 @@ int main(int argc, char **argv) {
         for (long k = 0; k < rounds; k++) CHECK(atomic_load(&workers[i].producers[k].releases) == 1);
         free(workers[i].producers);
     }
+    chains_need_no_stack();
     printf("%d threads, %ld rounds, %d failures\n", THREADS, rounds, failures);
     return failures ? 1 : 0;
 }

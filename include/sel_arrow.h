@@ -87,25 +87,27 @@ typedef struct sel_type {
  * Moves the array: its `release` is null afterwards. The schema is only read. On error the array is not moved and `out`
  * and `type` are unchanged, so that the call can be tried again.
  *
- * The array is released once, after the last column, slice, result or exported array that uses one of its buffers is
- * gone: by the next call of sel_free, also of an empty handle, or by the next release of an exported array, on whatever
- * thread that is. While more than 64 buffers are lent, it may be a later call of sel_free: at most one for each 64 of
- * them. Until then nobody may write to the array's buffers. A release may call this library.
+ * The array is released once, after the last column, slice, result, selection, dictionary of a type or exported array
+ * that uses one of its buffers is gone: by the next call of sel_free, also of an empty handle, or by the next release
+ * of an exported array or of a moved child of one, on whatever thread that is. While imports have more than 64 buffers
+ * in use, those among them that the library made itself, it may be a later call of sel_free: at most one for each 64
+ * of them. Until then nobody may write to the array's buffers. A release may call this library; an array that is
+ * unused by what it frees is released after it has returned.
  *
  * Formats, with their storage: n; b; c C s S i I l L; e f g, as u16, u32, u64; tdD tdm tts ttm ttu ttn ts_:.. tD_ tiM
  * tiD, as i32 or i64; tin, as u128; d:P,S and d:P,S,B, as i32, i64, i128 or 32 bytes; w:N, as fixed-size lists of u8,
  * and as u128 with the extension name sel.uint128; z Z, as binary; u U vu, as string views; vz; +l +L; +w:N; +s; +m,
  * as lists of structs. List views (+vl, +vL) become +l and +L, and run-end encoded arrays (+r) become columns of
- * their values, in the type as well. Keys of a dictionary, integers of any width, stay keys; the dictionary is a part
- * of the type. Any other format is SEL_ERROR_ARROW_FORMAT: sel_unsupported_format returns it.
+ * their values, in the type as well, with the name of the runs, and with their metadata unless the values have an
+ * extension type. Keys of a dictionary, integers of any width, stay keys; the dictionary is a part of the type. Any
+ * other format is SEL_ERROR_ARROW_FORMAT: sel_unsupported_format returns it.
  *
  * The schema is checked first, at every depth. Before a buffer of an array is read, the counts of its level are
- * checked: the length and the offset are not negative and are at most 4,294,967,295 together
- * (SEL_ERROR_TOO_MANY_ROWS), the null count is -1 or at most the length, the array has as many buffers and children
- * as its format, and no more than 2,147,483,647. Then the rules of columns are checked; a null count above 0 is the
- * number of nulls in the validity, a view or a key in a null slot may be any bytes, and run ends increase. The
- * producer ensures that the buffers are as long as the length, the offset and the offsets buffer say: no call can
- * check that.
+ * checked: the length and the offset are not negative and are at most 4,294,967,295 together (SEL_ERROR_TOO_MANY_ROWS),
+ * the null count is -1 or at most the length, the array has as many buffers and children as its format (n and +r may
+ * have any buffers), and no more than 2,147,483,647. Then the rules of columns are checked; a null count above 0 is the
+ * number of nulls in the validity, a view or a key in a null slot may be any bytes, and run ends increase. The producer
+ * ensures that the buffers are as long as the length, the offset and the offsets buffer say: no call can check that.
  *
  * Errors: SEL_ERROR_OUT_OF_MEMORY, SEL_ERROR_TOO_DEEP (a list, struct or dictionary below 128 others, whose children
  * are not read), SEL_ERROR_ARROW_DICTIONARY (an array with a dictionary, and `type` is null),
@@ -128,14 +130,14 @@ sel_status sel_import(struct ArrowArray *array, const struct ArrowSchema *schema
  *
  * Errors: SEL_ERROR_NO_COLUMN; SEL_ERROR_TYPE_MISMATCH: the column does not have the storage of the type;
  * SEL_ERROR_ARROW_DICTIONARY: the type has a dictionary without values; SEL_ERROR_INDEX_OUT_OF_BOUNDS: a key has no
- * row in its dictionary; SEL_ERROR_OUT_OF_MEMORY; then SEL_ERROR_ARROW_RANGE: a row shows a decimal of more than 38
- * digits, a view beyond byte 2,147,483,647 of a data buffer, or the values or elements of all rows do not fit the
- * type's 32-bit offsets; SEL_ERROR_ARROW_NULL: a null is visible in a field that is not nullable. On error there is
- * nothing to release. */
+ * row in its dictionary; SEL_ERROR_OUT_OF_MEMORY; then of each level, before those below it, SEL_ERROR_ARROW_NULL: a
+ * null is visible in a field that is not nullable and has another format than n; SEL_ERROR_ARROW_RANGE: a row shows a
+ * decimal of more than 38 digits, a view beyond byte 2,147,483,647 of a data buffer, or the values or elements of all
+ * rows do not fit the type's 32-bit offsets. On error there is nothing to release. */
 sel_status sel_export(const sel_column *of, const sel_type *type, struct ArrowArray *array, struct ArrowSchema *schema);
 
 /* Returns the first format of a schema, at any depth, that sel_import does not support, which lives as long as the
- * schema; or a null pointer if there is none, or none in the first 128 levels. */
+ * schema; or a null pointer if there is none, or none before a level that is below 128 others. */
 const char *sel_unsupported_format(const struct ArrowSchema *schema);
 
 /* Returns in `values` the address of the values of a column of integers of 8 to 64 bits, and in `len` their number,
@@ -168,7 +170,9 @@ sel_status sel_type_new(const char *format, const sel_type *children, size_t chi
 /* Returns in `out` the type of keys of a dictionary: `format` is c, C, s, S, i, I, l or L. The values may have an
  * empty type.
  * Errors: SEL_ERROR_NO_COLUMN: `values` is empty. SEL_ERROR_ARROW_FORMAT: `format` is no format of keys.
- * SEL_ERROR_TYPE_MISMATCH: the values do not have the storage of their type. SEL_ERROR_TOO_DEEP. */
+ * SEL_ERROR_TYPE_MISMATCH: the values do not have the storage of their type. SEL_ERROR_ARROW_DICTIONARY: their type has
+ * a dictionary without values. SEL_ERROR_INDEX_OUT_OF_BOUNDS: a value is a key that has no row in its dictionary.
+ * SEL_ERROR_TOO_DEEP. */
 sel_status sel_type_dictionary_new(
     const char *format,
     const sel_column *values,
@@ -216,7 +220,9 @@ sel_status sel_type_format(const sel_type *of, uint8_t *out, size_t out_len, siz
 sel_status sel_type_dictionary(const sel_type *of, sel_column *values, sel_type *type);
 
 /* Returns in `out` and `out_type` the column without dictionaries, at every depth: each key is replaced by the row of
- * the dictionary that it names, and is null if that is null. A column without a dictionary is shared.
+ * the dictionary that it names, and is null if that is null. The type of the keys is that of the values, with the
+ * name of the keys, and with their metadata unless the values have an extension type. A column without a dictionary is
+ * shared.
  * Errors: SEL_ERROR_NO_COLUMN: `of` or `type` is empty. SEL_ERROR_TYPE_MISMATCH: the column does not have the storage
  * of the type. SEL_ERROR_ARROW_DICTIONARY: a dictionary has no values. SEL_ERROR_INDEX_OUT_OF_BOUNDS: a key has no
  * row in its dictionary. SEL_ERROR_ROW_LIMIT, SEL_ERROR_OFFSET_LIMIT: the result exceeds a size limit. */
@@ -226,8 +232,9 @@ sel_status sel_decode(const sel_column *of, const sel_type *type, sel_column *ou
  * common type. The columns are shared if all have the same dictionaries, or dictionaries with equal rows; else those
  * with dictionaries are decoded. An empty type is that of the storage. Strings, binary and lists may have offsets of
  * several widths; the fields of structs have the same names, unless they are the entries of maps. The common type has
- * the formats, names and metadata of the first one; it is nullable where one of them is. `out` has `len` handles,
- * which are freed and filled if the call succeeds.
+ * the formats, names and metadata of the first one; it is nullable where one of them is, and says that keys of maps are
+ * sorted or dictionaries are ordered where all do. `out` has `len` handles, which are freed and filled if the call
+ * succeeds.
  * Errors: SEL_ERROR_NO_COLUMN: a column is empty. SEL_ERROR_LENGTH_MISMATCH: `len` is 0. SEL_ERROR_TYPE_MISMATCH: the
  * types differ, or a column does not have the storage of its type. SEL_ERROR_ARROW_DICTIONARY: a dictionary has no
  * values. SEL_ERROR_INDEX_OUT_OF_BOUNDS: a key has no row in its dictionary. SEL_ERROR_ROW_LIMIT,
@@ -262,7 +269,8 @@ sel_status sel_stream_type(const sel_stream *of, sel_type *type);
  * sel_import. */
 sel_status sel_stream_next(sel_stream *of, sel_column *out, sel_type *type);
 
-/* Returns the producer's message of its last error, which lives up to the next call, or a null pointer. */
+/* Returns the producer's message, which lives up to the next call, if its last call was an error; else a null
+ * pointer. */
 const char *sel_stream_message(sel_stream *of);
 
 /* Releases a stream, if there is one. `of` is empty afterwards. */

@@ -1,0 +1,228 @@
+/* What a type keeps where two of them meet (runs and keys over their values, columns that are joined), the order of errors, and schemas and
+ * slices at the limits. */
+#define _DEFAULT_SOURCE
+#include "arrow_test.h"
+
+#include <stdio.h>
+#include <string.h>
+#include <sys/mman.h>
+
+static const char uint128[] = "\1\0\0\0\x14\0\0\0" "ARROW:extension:name" "\x0b\0\0\0" "sel.uint128";
+static const char pair[] = "\1\0\0\0\3\0\0\0" "key" "\5\0\0\0" "value";
+static const int64_t numbers[4] = {1, 2, 3, 4};
+
+static sel_status import_piece(piece it, sel_column *out, sel_type *type) {
+    struct ArrowArray array = *it.array;
+    return sel_import(&array, it.schema, out, type);
+}
+
+static bool prints(const sel_type *type, const char *wanted) {
+    char out[200];
+    size_t len = 0;
+    if (sel_type_format(type, (uint8_t *)out, sizeof out, &len) != SEL_OK) return false;
+    bool is_equal = len == strlen(wanted) && !memcmp(out, wanted, len);
+    if (!is_equal) printf("%.*s instead of %s\n", (int)len, out, wanted);
+    return is_equal;
+}
+
+/* Checks that a column can be exported with its type, whose schema has these metadata. */
+static void exports_with(const sel_column *column, const sel_type *type, const char *metadata, size_t len) {
+    struct ArrowArray array;
+    struct ArrowSchema schema;
+    bool is_done = sel_export(column, type, &array, &schema) == SEL_OK;
+    CHECK(is_done);
+    if (!is_done) return;
+    CHECK(schema.metadata && !memcmp(schema.metadata, metadata, len));
+    array.release(&array);
+    schema.release(&schema);
+}
+
+/* Two unsigned 128-bit integers: their metadata say so. */
+static piece large_numbers(void) {
+    piece it = piece_of("w:16", 2, 0, 2, NULL, numbers, NULL);
+    it.schema->metadata = uint128;
+    return it;
+}
+
+static piece runs_of(piece values) {
+    static const int32_t ends[2] = {1, 3};
+    static const char *const names[] = {"run_ends", "values"};
+    const piece parts[2] = {piece_of("i", 2, 0, 2, NULL, ends, NULL), values};
+    return piece_over(piece_of("+r", 3, 0, 0, NULL, NULL, NULL), 2, parts, names);
+}
+
+/* Metadata of runs and of keys do not replace those that name the extension type of their values. */
+static void extension_types_stay(void) {
+    static const int32_t keys[3] = {1, 0, 1};
+    sel_column column = {0}, decoded = {0};
+    sel_type type = {0}, decoded_type = {0};
+    forget_pieces();
+    piece runs = runs_of(large_numbers());
+    runs.schema->metadata = pair;
+    CHECK(import_piece(runs, &column, &type) == SEL_OK && sel_type_of(&column) == SEL_TYPE_UINT128 && prints(&type, "u128"));
+    exports_with(&column, &type, uint128, sizeof uint128 - 1);
+    piece coded = piece_with(piece_of("i", 3, 0, 2, NULL, keys, NULL), large_numbers());
+    coded.schema->metadata = pair;
+    CHECK(import_piece(coded, &column, &type) == SEL_OK && sel_decode(&column, &type, &decoded, &decoded_type) == SEL_OK);
+    CHECK(sel_type_of(&decoded) == SEL_TYPE_UINT128 && prints(&decoded_type, "u128"));
+    exports_with(&decoded, &decoded_type, uint128, sizeof uint128 - 1);
+    /* without an extension type the values get them, unless these would make another type */
+    runs = runs_of(piece_of("l", 2, 0, 2, NULL, numbers, NULL));
+    runs.schema->metadata = pair;
+    CHECK(import_piece(runs, &column, &type) == SEL_OK && prints(&type, "i64"));
+    exports_with(&column, &type, pair, sizeof pair - 1);
+    runs = runs_of(piece_of("w:16", 2, 0, 2, NULL, numbers, NULL));
+    runs.schema->metadata = uint128;
+    CHECK(import_piece(runs, &column, &type) == SEL_OK && sel_type_of(&column) == SEL_TYPE_FIXED_SIZE_LIST && prints(&type, "fixed_size_binary[16]"));
+    sel_free(&column);
+    sel_free(&decoded);
+    sel_type_free(&type);
+    sel_type_free(&decoded_type);
+}
+
+/* A dictionary of keys of an ordered dictionary is decoded to values without dictionary, order or loss of metadata. */
+static void keys_of_keys_are_decoded(void) {
+    static const int32_t inner_keys[2] = {1, 0};
+    static const uint8_t keys[3] = {0, 1, 1};
+    sel_column column = {0}, decoded = {0};
+    sel_type type = {0}, decoded_type = {0}, plain = {0};
+    forget_pieces();
+    piece inner = piece_with(piece_of("i", 2, 0, 2, NULL, inner_keys, NULL), piece_of("l", 2, 0, 2, NULL, numbers, NULL));
+    inner.schema->flags |= ARROW_FLAG_DICTIONARY_ORDERED;
+    piece outer = piece_with(piece_of("C", 3, 0, 2, NULL, keys, NULL), inner);
+    outer.schema->metadata = pair;
+    CHECK(import_piece(outer, &column, &type) == SEL_OK && sel_decode(&column, &type, &decoded, &decoded_type) == SEL_OK);
+    exports_with(&decoded, &decoded_type, pair, sizeof pair - 1);
+    struct ArrowSchema schema = *outer.schema;
+    schema.format = "l";
+    schema.dictionary = NULL;
+    CHECK(sel_type_import(&schema, &plain) == SEL_OK && sel_type_equal(&plain, &decoded_type));
+    sel_free(&column);
+    sel_free(&decoded);
+    sel_type_free(&type);
+    sel_type_free(&decoded_type);
+    sel_type_free(&plain);
+}
+
+/* A map of one row with two entries. */
+static piece map_with(int64_t flags) {
+    static const int32_t offsets[2] = {0, 2};
+    static const char *const names[] = {"key", "value"}, *const entry_names[] = {"entries"};
+    const piece fields[2] = {piece_of("l", 2, 0, 2, NULL, numbers, NULL), piece_of("l", 2, 0, 2, NULL, numbers, NULL)};
+    const piece entries = piece_over(piece_of("+s", 2, 0, 1, NULL, NULL, NULL), 2, fields, names);
+    piece it = piece_over(piece_of("+m", 1, 0, 2, NULL, offsets, NULL), 1, &entries, entry_names);
+    it.schema->flags = ARROW_FLAG_NULLABLE | flags;
+    return it;
+}
+
+/* The keys of joined maps are sorted only if those of both are. */
+static void joined_maps_are_sorted_if_all_are(void) {
+    for (int i = 0; i < 4; i++) {
+        sel_column columns[2] = {{0}, {0}}, out[2] = {{0}, {0}};
+        sel_type types[2] = {{0}, {0}}, common = {0};
+        forget_pieces();
+        for (int k = 0; k < 2; k++) CHECK(import_piece(map_with(i >> k & 1 ? ARROW_FLAG_MAP_KEYS_SORTED : 0), &columns[k], &types[k]) == SEL_OK);
+        CHECK(sel_common_type(columns, types, 2, out, &common) == SEL_OK);
+        CHECK(prints(&common, i == 3 ? "map<i64, i64, keys_sorted>" : "map<i64, i64>"));
+        for (int k = 0; k < 2; k++) {
+            sel_free(&columns[k]);
+            sel_free(&out[k]);
+            sel_type_free(&types[k]);
+        }
+        sel_type_free(&common);
+    }
+}
+
+/* A decimal has 128 bits if its format does not say how many. */
+static void decimals_have_128_bits(void) {
+    static const struct { const char *one, *other; sel_status status; } given[] = {
+        {"d:38,0", "d:38,0,128", SEL_OK}, {"d:38,0,128", "d:38,0", SEL_OK}, {"d:38,0", "d:38,1", SEL_ERROR_TYPE_MISMATCH},
+        {"d:38,128", "d:38", SEL_ERROR_ARROW_FORMAT}, {"d:38,128", "d:38,128,128", SEL_OK}, {"d:38,128", "d:38,12", SEL_ERROR_TYPE_MISMATCH},
+    };
+    const sel_int128 one = {1, 0};
+    sel_column columns[2] = {{0}, {0}}, out[2] = {{0}, {0}};
+    sel_type types[2] = {{0}, {0}}, common = {0};
+    for (int k = 0; k < 2; k++) CHECK(sel_int128_new(&one, 1, SEL_ALL_VALID, &columns[k]) == SEL_OK);
+    for (size_t i = 0; i < sizeof given / sizeof *given; i++) {
+        sel_status status = sel_type_new(given[i].one, NULL, 0, &types[0]);
+        if (status == SEL_OK) status = sel_type_new(given[i].other, NULL, 0, &types[1]);
+        if (status == SEL_OK) status = sel_common_type(columns, types, 2, out, &common);
+        CHECK(status == given[i].status);
+    }
+    for (int k = 0; k < 2; k++) {
+        sel_free(&columns[k]);
+        sel_free(&out[k]);
+        sel_type_free(&types[k]);
+    }
+    sel_type_free(&common);
+}
+
+/* Of several errors the first one that the header lists is returned, at whatever depth they are. */
+static void errors_come_in_order(void) {
+    sel_column fields = {0}, columns[2] = {{0}, {0}}, out[2] = {{0}, {0}};
+    sel_type type = {0}, types[2] = {{0}, {0}}, common = {0}, deep = {0};
+    struct ArrowArray array;
+    struct ArrowSchema schema, words = type_of_format("u"), keys = type_of_format("l"), other = type_of_format("u"), both = type_of_format("+s");
+    struct ArrowSchema *below[2] = {&keys, &other};
+    keys.dictionary = &words; /* without values */
+    both.n_children = 2;
+    both.children = below;
+    CHECK(sel_type_import(&both, &type) == SEL_OK);
+    for (int k = 0; k < 2; k++) CHECK(sel_int64_new(numbers, 4, SEL_ALL_VALID, &columns[k]) == SEL_OK && sel_type_child(&type, (size_t)k, &types[k]) == SEL_OK);
+    CHECK(sel_common_type(columns, types, 2, out, &common) == SEL_ERROR_TYPE_MISMATCH);
+    CHECK(sel_type_of_storage(&columns[1], &types[1]) == SEL_OK && sel_common_type(columns, types, 2, out, &common) == SEL_ERROR_TYPE_MISMATCH);
+    CHECK(sel_struct_new(4, SEL_ALL_VALID, columns, 2, &fields) == SEL_OK);
+    CHECK(sel_export(&fields, &type, &array, &schema) == SEL_ERROR_TYPE_MISMATCH && sel_decode(&fields, &type, out, &common) == SEL_ERROR_TYPE_MISMATCH);
+    CHECK(sel_type_new("i", NULL, 0, &deep) == SEL_OK);
+    for (int i = 0; i < 128; i++) CHECK(sel_type_new("+l", &deep, 1, &deep) == SEL_OK);
+    CHECK(sel_type_new("+m", &deep, 1, &common) == SEL_ERROR_ARROW_CHILDREN);
+    sel_free(&fields);
+    for (int k = 0; k < 2; k++) sel_type_free(&types[k]);
+    sel_type_free(&type);
+    sel_type_free(&deep);
+}
+
+/* The ends of runs are checked with the schema. A search for an unsupported format ends, though a schema is below itself. */
+static void schemas_are_read_whole(void) {
+    sel_type type = {0};
+    struct ArrowSchema ends = type_of_format("i"), values = type_of_format("l"), child = type_of_format("l"), runs = type_of_format("+r");
+    struct ArrowSchema *parts[2] = {&ends, &values}, *below[1] = {&child};
+    runs.n_children = 2;
+    runs.children = parts;
+    CHECK(sel_type_import(&runs, &type) == SEL_OK);
+    ends.n_children = 1;
+    ends.children = below;
+    CHECK(sel_type_import(&runs, &type) == SEL_ERROR_ARROW_CHILDREN);
+    struct ArrowSchema self = type_of_format("+s");
+    struct ArrowSchema *itself[2] = {&self, &self};
+    self.n_children = 2;
+    self.children = itself;
+    CHECK(sel_type_import(&self, &type) == SEL_ERROR_TOO_DEEP && sel_unsupported_format(&self) == NULL);
+    sel_type_free(&type);
+}
+
+/* The rows of a slice may be few, though the bytes before them are many. */
+static void slices_of_fixed_bytes_may_begin_late(void) {
+    enum { OFFSET = 300000000, LEN = 10, WIDTH = 16 };
+    const size_t bytes = (size_t)(OFFSET + LEN) * WIDTH;
+    const void *values = mmap(NULL, bytes, PROT_READ, MAP_PRIVATE | MAP_ANONYMOUS | MAP_NORESERVE, -1, 0);
+    sel_column column = {0};
+    if (values == MAP_FAILED) return;
+    forget_pieces();
+    CHECK(import_piece(piece_of("w:16", LEN, OFFSET, 2, NULL, values, NULL), &column, NULL) == SEL_OK && sel_len(&column) == LEN);
+    sel_free(&column);
+    munmap((void *)values, bytes);
+    /* more rows than a column has, of bytes of the list's child */
+    CHECK(import_piece(piece_of("w:1000", 4294968, 0, 2, NULL, numbers, NULL), &column, NULL) == SEL_ERROR_TOO_MANY_ROWS);
+}
+
+void test_rules(void) {
+    extension_types_stay();
+    keys_of_keys_are_decoded();
+    joined_maps_are_sorted_if_all_are();
+    decimals_have_128_bits();
+    errors_come_in_order();
+    schemas_are_read_whole();
+    slices_of_fixed_bytes_may_begin_late();
+    forget_pieces();
+}
