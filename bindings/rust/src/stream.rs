@@ -8,7 +8,7 @@ use crate::handle::OwnedHandle;
 use crate::raw::{self, Handle, StreamHandle, TypeHandle};
 use std::ffi::{c_void, CStr};
 use std::panic::{catch_unwind, AssertUnwindSafe};
-use std::ptr;
+use std::{mem, ptr};
 
 /// A stream that is read: an iterator over its batches, columns with their types.
 ///
@@ -109,11 +109,24 @@ pub type Batch = Result<(Column, Option<ArrowType>), Error>;
 
 type Batches = Box<dyn Iterator<Item = Batch>>;
 
+/// Runs code of the iterator; returns `None` if it panics, since a panic must not pass through the consumer.
+fn caught<T>(call: impl FnOnce() -> T) -> Option<T> {
+    match catch_unwind(AssertUnwindSafe(call)) {
+        Ok(found) => Some(found),
+        Err(payload) => {
+            // the drop of the payload may panic too; the payload of that panic is never dropped
+            if let Err(second) = catch_unwind(AssertUnwindSafe(|| drop(payload))) {
+                mem::forget(second);
+            }
+            None
+        }
+    }
+}
+
 unsafe extern "C" fn next_of(context: *mut c_void, out: *mut Handle, out_type: *mut TypeHandle) -> u32 {
     // SAFETY: the context is that of `export_stream`, and the consumer makes one call at a time.
     let batches = unsafe { &mut *context.cast::<Batches>() };
-    // a panic must not pass through the consumer: the stream reports an error
-    let Ok(next) = catch_unwind(AssertUnwindSafe(|| batches.next())) else { return status::ARROW_STREAM };
+    let Some(next) = caught(|| batches.next()) else { return status::ARROW_STREAM };
     match next {
         None => status::OK,
         Some(Err(error)) => error.status(),
@@ -131,10 +144,14 @@ unsafe extern "C" fn next_of(context: *mut c_void, out: *mut Handle, out_type: *
 
 unsafe extern "C" fn free_of(context: *mut c_void) {
     // SAFETY: the context is that of `export_stream`, and this is called once.
-    drop(unsafe { Box::from_raw(context.cast::<Batches>()) });
+    let batches = unsafe { Box::from_raw(context.cast::<Batches>()) };
+    caught(|| drop(batches));
 }
 
 /// Returns a stream that exports the batches of an iterator as the consumer asks for them. Each has the schema of the type.
+///
+/// If the iterator panics in [`next`](Iterator::next), the stream reports an error. If it panics when it is dropped, the
+/// panic is caught and not reported.
 ///
 /// # Errors
 /// [`Error::OutOfMemory`].
