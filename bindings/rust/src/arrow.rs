@@ -90,6 +90,15 @@ impl ArrowArrayStream {
             private_data: ptr::null_mut(),
         }
     }
+
+    /// Returns the producer's message of its last error, as after an error of
+    /// [`StreamReader::open_from`](crate::StreamReader::open_from); `None` if there is none, or if the stream is released.
+    pub fn message(&mut self) -> Option<String> {
+        self.release?;
+        let get_last_error = self.get_last_error?;
+        // SAFETY: the stream is not released, and the text lives up to the next call.
+        unsafe { owned_text(get_last_error(self)) }
+    }
 }
 
 impl ArrowArray {
@@ -172,15 +181,22 @@ macro_rules! structures {
 
 structures! { ArrowArray ArrowSchema ArrowArrayStream }
 
+/// Returns a copy of a text of C; `None` for a null pointer.
+///
+/// # Safety
+/// The pointer is null, or that of a string which ends with a zero.
+pub(crate) unsafe fn owned_text(text: *const c_char) -> Option<String> {
+    // SAFETY: the caller ensures that the pointer is that of a string if it is not null.
+    (!text.is_null()).then(|| unsafe { CStr::from_ptr(text) }.to_string_lossy().into_owned())
+}
+
 /// Returns the first format of a schema, at any depth, that [`Column::from_arrow`] does not support.
 ///
 /// # Safety
 /// The schema is released, or one that the Arrow C data interface allows.
 pub unsafe fn unsupported_format(schema: &ArrowSchema) -> Option<String> {
-    // SAFETY: the caller ensures that the schema is valid.
-    let text = unsafe { raw::sel_unsupported_format(schema) };
-    // SAFETY: the text ends with a zero, and lives as long as the schema.
-    (!text.is_null()).then(|| unsafe { CStr::from_ptr(text) }.to_string_lossy().into_owned())
+    // SAFETY: the caller ensures that the schema is valid, and the text lives as long as the schema.
+    unsafe { owned_text(raw::sel_unsupported_format(schema)) }
 }
 
 impl Column {
