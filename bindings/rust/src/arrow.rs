@@ -16,7 +16,7 @@ use std::{fmt, ptr};
 /// # use sel::{ArrowArray, Column, Error};
 /// # fn main() -> Result<(), Error> {
 /// let (mut array, schema) = Column::from_values(&[1i64, 2])?.to_arrow()?;
-/// // SAFETY: the pointer is that of a valid array.
+/// // SAFETY: the array is one of the library.
 /// let moved = unsafe { ArrowArray::from_raw(&mut array) };
 /// assert!(array.is_released() && !moved.is_released());
 /// assert!(ArrowArray::empty().is_released());
@@ -46,7 +46,7 @@ pub struct ArrowArray {
 /// # use sel::{ArrowSchema, Column, Error};
 /// # fn main() -> Result<(), Error> {
 /// let (array, mut schema) = Column::from_values(&[1i64, 2])?.to_arrow()?;
-/// // SAFETY: the pointer is that of a valid schema.
+/// // SAFETY: the schema is one of the library.
 /// let moved = unsafe { ArrowSchema::from_raw(&mut schema) };
 /// assert!(schema.is_released() && !moved.is_released());
 /// assert!(ArrowSchema::empty().is_released());
@@ -142,8 +142,11 @@ macro_rules! structures {
             /// Moves a structure out of the memory of its producer, which is left released.
             ///
             /// # Safety
-            /// The pointer is valid and aligned for reads and writes, and the structure at it is one that the Arrow C data
-            /// interface allows: released, or valid until its release is called.
+            /// The pointer is valid and aligned for reads and writes, and the structure at it is one that the Arrow C data or
+            /// stream interface allows: released, or valid until its release is called. Nobody writes to the buffers of an
+            /// array until it is released, which may be done on any thread. This holds for the arrays of a stream too: they
+            /// have the type that its schema describes, and buffers as long as this type and their lengths require. The
+            /// `get_last_error` of a stream may be called at any time before its release, also if no call has failed.
             pub unsafe fn from_raw(at: *mut $name) -> $name {
                 // SAFETY: the caller ensures that the pointer is valid.
                 unsafe { ptr::replace(at, $name::empty()) }

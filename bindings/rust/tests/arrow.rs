@@ -68,7 +68,8 @@ fn array_of(length: i64, offset: i64, values: Vec<Vec<u8>>, releases: &Arc<Atomi
         private_data: Box::into_raw(owned).cast(),
     };
     assert_eq!(size_of::<ArrowArray>(), size_of::<ForeignArray>());
-    // SAFETY: both types have the layout of the C structure, and the array is valid until it is released.
+    // SAFETY: both types have the layout of the C structure. The array is valid until it is released, on whatever thread, and
+    // its buffers are never written.
     let moved = unsafe { ArrowArray::from_raw(addr_of_mut!(array).cast()) };
     assert!(array.release.is_none() && array.private_data.is_null());
     moved
