@@ -72,9 +72,13 @@ fn types_have_parts() -> Result<(), Error> {
         assert_eq!(unsupported_format(&schema), None);
     }
     assert_ne!(record, ArrowType::new("+s", &[&name, &id])?);
-    for (format, error) in
-        [("x", Error::Arrow(65)), ("+us:0", Error::Arrow(65)), ("+l", Error::Arrow(67)), ("a\0b", Error::Arrow(65))]
-    {
+    for (format, error) in [
+        ("x", Error::Arrow(65)),
+        ("+us:0", Error::Arrow(65)),
+        ("+l", Error::Arrow(67)),
+        ("g\0", Error::Arrow(65)),
+        ("g\0g", Error::Arrow(65)),
+    ] {
         assert_eq!(ArrowType::new(format, &[]).err(), Some(error), "{format}");
     }
     let storage = ArrowType::of_storage(&Column::parse("list<u128>", "[[1]]")?)?;
