@@ -172,6 +172,12 @@ impl ArrowType {
         ArrowType::made(|out| unsafe { raw::sel_type_as_field(self.at(), name.as_ptr(), is_nullable, out) })
     }
 
+    /// Returns the type as a nullable field. The name is kept, also if there is none, or one that is not UTF-8.
+    pub(crate) fn as_nullable(&self) -> Result<ArrowType, Error> {
+        // SAFETY: the type is valid, and its name, which may be a null pointer, lives as long as the type.
+        ArrowType::made(|out| unsafe { raw::sel_type_as_field(self.at(), raw::sel_type_name(self.at()), true, out) })
+    }
+
     /// Returns the Arrow format.
     pub fn format(&self) -> &str {
         // SAFETY: the text lives as long as the type.

@@ -99,7 +99,7 @@ impl TypedColumn {
         if indices.null_count() == 0 {
             return self.like(column);
         }
-        Ok(TypedColumn { column, arrow_type: self.arrow_type.as_field(self.arrow_type.name(), true)? })
+        Ok(TypedColumn { column, arrow_type: self.arrow_type.as_nullable()? })
     }
 
     /// Returns `len` rows from row `offset` on.
@@ -153,6 +153,6 @@ impl TypedColumn {
         if picks.iter().all(Option::is_some) {
             return Ok(TypedColumn { column, arrow_type });
         }
-        Ok(TypedColumn { column, arrow_type: arrow_type.as_field(arrow_type.name(), true)? })
+        Ok(TypedColumn { column, arrow_type: arrow_type.as_nullable()? })
     }
 }
