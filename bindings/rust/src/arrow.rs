@@ -16,7 +16,7 @@ use std::{fmt, ptr};
 /// # use sel::{ArrowArray, Column, Error};
 /// # fn main() -> Result<(), Error> {
 /// let (mut array, schema) = Column::from_values(&[1i64, 2])?.to_arrow()?;
-/// // SAFETY: the pointer is that of a valid array.
+/// // SAFETY: the array is one of the library.
 /// let moved = unsafe { ArrowArray::from_raw(&mut array) };
 /// assert!(array.is_released() && !moved.is_released());
 /// assert!(ArrowArray::empty().is_released());
@@ -46,7 +46,7 @@ pub struct ArrowArray {
 /// # use sel::{ArrowSchema, Column, Error};
 /// # fn main() -> Result<(), Error> {
 /// let (array, mut schema) = Column::from_values(&[1i64, 2])?.to_arrow()?;
-/// // SAFETY: the pointer is that of a valid schema.
+/// // SAFETY: the schema is one of the library.
 /// let moved = unsafe { ArrowSchema::from_raw(&mut schema) };
 /// assert!(schema.is_released() && !moved.is_released());
 /// assert!(ArrowSchema::empty().is_released());
@@ -89,6 +89,15 @@ impl ArrowArrayStream {
             release: None,
             private_data: ptr::null_mut(),
         }
+    }
+
+    /// Returns the producer's message of its last error, as after an error of
+    /// [`StreamReader::open_from`](crate::StreamReader::open_from); `None` if there is none, or if the stream is released.
+    pub fn message(&mut self) -> Option<String> {
+        self.release?;
+        let get_last_error = self.get_last_error?;
+        // SAFETY: the stream is not released, and the text lives up to the next call.
+        unsafe { owned_text(get_last_error(self)) }
     }
 }
 
@@ -133,8 +142,11 @@ macro_rules! structures {
             /// Moves a structure out of the memory of its producer, which is left released.
             ///
             /// # Safety
-            /// The pointer is valid and aligned for reads and writes, and the structure at it is one that the Arrow C data
-            /// interface allows: released, or valid until its release is called.
+            /// The pointer is valid and aligned for reads and writes, and the structure at it is one that the Arrow C data or
+            /// stream interface allows: released, or valid until its release is called. Nobody writes to the buffers of an
+            /// array until it is released, which may be done on any thread. This holds for the arrays of a stream too: they
+            /// have the type that its schema describes, and buffers as long as this type and their lengths require. The
+            /// `get_last_error` of a stream may be called at any time before its release, also if no call has failed.
             pub unsafe fn from_raw(at: *mut $name) -> $name {
                 // SAFETY: the caller ensures that the pointer is valid.
                 unsafe { ptr::replace(at, $name::empty()) }
@@ -172,15 +184,22 @@ macro_rules! structures {
 
 structures! { ArrowArray ArrowSchema ArrowArrayStream }
 
+/// Returns a copy of a text of C; `None` for a null pointer.
+///
+/// # Safety
+/// The pointer is null, or that of a string which ends with a zero.
+pub(crate) unsafe fn owned_text(text: *const c_char) -> Option<String> {
+    // SAFETY: the caller ensures that the pointer is that of a string if it is not null.
+    (!text.is_null()).then(|| unsafe { CStr::from_ptr(text) }.to_string_lossy().into_owned())
+}
+
 /// Returns the first format of a schema, at any depth, that [`Column::from_arrow`] does not support.
 ///
 /// # Safety
 /// The schema is released, or one that the Arrow C data interface allows.
 pub unsafe fn unsupported_format(schema: &ArrowSchema) -> Option<String> {
-    // SAFETY: the caller ensures that the schema is valid.
-    let text = unsafe { raw::sel_unsupported_format(schema) };
-    // SAFETY: the text ends with a zero, and lives as long as the schema.
-    (!text.is_null()).then(|| unsafe { CStr::from_ptr(text) }.to_string_lossy().into_owned())
+    // SAFETY: the caller ensures that the schema is valid, and the text lives as long as the schema.
+    unsafe { owned_text(raw::sel_unsupported_format(schema)) }
 }
 
 impl Column {

@@ -4,7 +4,7 @@ use crate::arrow::ArrowSchema;
 use crate::column::Column;
 use crate::error::{checked, status, Error};
 use crate::handle::{HandleArray, OwnedHandle};
-use crate::memory::zeroed;
+use crate::memory::{collect, try_collect, zeroed};
 use crate::raw::{self, Handle, TypeHandle};
 use std::alloc::{handle_alloc_error, Layout};
 use std::ffi::{c_char, CStr, CString};
@@ -44,7 +44,9 @@ unsafe impl Sync for ArrowType {}
 
 /// Returns a text for C. A text with a zero byte is no format and no name of a field.
 fn c_text(text: &str) -> Result<CString, Error> {
-    CString::new(text).map_err(|_| Error::of(status::ARROW_FORMAT))
+    // the capacity is the length, so that the string takes the vector's memory and does not allocate
+    let bytes = collect(text.bytes().chain([0]))?;
+    CString::from_vec_with_nul(bytes).map_err(|_| Error::of(status::ARROW_FORMAT))
 }
 
 /// Returns a text of the library, which lives as long as what it belongs to; empty if there is none.
@@ -79,6 +81,11 @@ impl ArrowType {
         &mut self.handle
     }
 
+    /// Returns a handle for functions that only read it: the borrowed type owns what is in it.
+    fn borrowed(&self) -> TypeHandle {
+        TypeHandle { at: self.handle.at }
+    }
+
     /// Returns the nullable type of an Arrow format, such as `g`, `tdD` or `+l`, with these children, whose names are kept.
     ///
     /// # Errors
@@ -86,8 +93,7 @@ impl ArrowType {
     /// size of more than 4,294,967,295; [`Error::Limit`] for more than 128 levels; [`Error::OutOfMemory`].
     pub fn new(format: &str, children: &[&ArrowType]) -> Result<ArrowType, Error> {
         let format = c_text(format)?;
-        // handles are read only: the borrowed types own them
-        let handles: Vec<TypeHandle> = children.iter().map(|child| TypeHandle { at: child.handle.at }).collect();
+        let handles = collect(children.iter().map(|child| child.borrowed()))?;
         // SAFETY: the text and the handles are valid, and the length is that of the handles.
         ArrowType::made(|out| unsafe { raw::sel_type_new(format.as_ptr(), handles.as_ptr(), handles.len(), out) })
     }
@@ -164,6 +170,12 @@ impl ArrowType {
         let name = c_text(name)?;
         // SAFETY: the type and the text are valid.
         ArrowType::made(|out| unsafe { raw::sel_type_as_field(self.at(), name.as_ptr(), is_nullable, out) })
+    }
+
+    /// Returns the type as a nullable field. The name is kept, also if there is none, or one that is not UTF-8.
+    pub(crate) fn as_nullable(&self) -> Result<ArrowType, Error> {
+        // SAFETY: the type is valid, and its name, which may be a null pointer, lives as long as the type.
+        ArrowType::made(|out| unsafe { raw::sel_type_as_field(self.at(), raw::sel_type_name(self.at()), true, out) })
     }
 
     /// Returns the Arrow format.
@@ -297,15 +309,11 @@ impl Column {
 /// # }
 /// ```
 pub fn common_type(columns: &[(&Column, Option<&ArrowType>)]) -> Result<(Vec<Column>, ArrowType), Error> {
-    let given: Vec<&Column> = columns.iter().map(|(column, _)| *column).collect();
+    let given = collect(columns.iter().map(|(column, _)| *column))?;
     let handles = HandleArray::shares(&given)?;
-    // handles are read only: the borrowed types own them
-    let types: Vec<TypeHandle> = columns
-        .iter()
-        .map(|(_, of_type)| of_type.map_or(TypeHandle::EMPTY, |it| TypeHandle { at: it.handle.at }))
-        .collect();
-    let mut made: Vec<OwnedHandle> = given.iter().map(|_| OwnedHandle::empty()).collect();
-    let mut out: Vec<Handle> = given.iter().map(|_| Handle::EMPTY).collect();
+    let types = collect(columns.iter().map(|(_, of_type)| of_type.map_or(TypeHandle::EMPTY, ArrowType::borrowed)))?;
+    let mut made = collect(given.iter().map(|_| OwnedHandle::empty()))?;
+    let mut out = collect(given.iter().map(|_| Handle::EMPTY))?;
     let mut common = ArrowType::empty();
     // SAFETY: the arrays have as many handles as there are columns, and the results are empty.
     let found =
@@ -315,6 +323,5 @@ pub fn common_type(columns: &[(&Column, Option<&ArrowType>)]) -> Result<(Vec<Col
         unsafe { ptr::write(owned.at_mut(), handle) };
     }
     checked(found)?;
-    let columns = made.into_iter().map(Column::of).collect::<Result<Vec<Column>, Error>>()?;
-    Ok((columns, common))
+    Ok((try_collect(made.into_iter().map(Column::of))?, common))
 }

@@ -72,7 +72,7 @@ pub enum Error {
     WrongArgument(u32),
     /// An index, a key or a row reference is out of bounds (status 6 or 7).
     OutOfBounds(u32),
-    /// The result would exceed a size limit (status 8 to 11, or 35 for a text).
+    /// The result would exceed a size limit (status 8 to 12, or 35 for a text).
     Limit(u32),
     /// The parts of a new column break a rule (status 16 to 28).
     Malformed(u32),

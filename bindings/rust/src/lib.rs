@@ -118,7 +118,7 @@
 //! | `sel_type_format` | the [`Display`](std::fmt::Display) of [`ArrowType`] |
 //! | `sel_decode` | [`Column::decode`] |
 //! | `sel_common_type` | [`common_type`] |
-//! | `sel_stream_open`, `sel_stream_free` | [`StreamReader::open`], its [`Drop`] |
+//! | `sel_stream_open`, `sel_stream_free` | [`StreamReader::open`], [`StreamReader::open_from`], its [`Drop`] |
 //! | `sel_stream_next` | the [`Iterator`] of [`StreamReader`] |
 //! | `sel_stream_type`, `sel_stream_message` | [`StreamReader::arrow_type`], [`StreamReader::message`] |
 //! | `sel_stream_export` | [`export_stream`] |

@@ -1,14 +1,14 @@
 //! Streams of record batches by the Arrow C stream interface: data larger than memory passes batch by batch.
 
-use crate::arrow::ArrowArrayStream;
+use crate::arrow::{owned_text, ArrowArrayStream};
 use crate::arrow_type::ArrowType;
 use crate::column::Column;
 use crate::error::{checked, status, Error};
 use crate::handle::OwnedHandle;
 use crate::raw::{self, Handle, StreamHandle, TypeHandle};
-use std::ffi::{c_void, CStr};
+use std::ffi::c_void;
 use std::panic::{catch_unwind, AssertUnwindSafe};
-use std::ptr;
+use std::{mem, ptr};
 
 /// A stream that is read: an iterator over its batches, columns with their types.
 ///
@@ -53,15 +53,37 @@ impl Drop for OwnedStream {
 }
 
 impl StreamReader {
-    /// Takes a stream of a producer and gets its schema. The stream is dropped on an error.
+    /// Takes a stream of a producer and gets its schema. On an error the stream is dropped, and the producer's message with
+    /// it: [`open_from`](StreamReader::open_from) keeps both.
     ///
     /// # Errors
     /// [`Error::Arrow`] if the stream is released, the producer reports an error, or the schema is unsupported;
     /// [`Error::Limit`] for more than 128 levels; [`Error::OutOfMemory`].
     pub fn open(mut stream: ArrowArrayStream) -> Result<StreamReader, Error> {
+        StreamReader::open_from(&mut stream)
+    }
+
+    /// Moves a stream of a producer out of its structure, which is left released, and gets its schema. On an error the
+    /// stream stays in the structure, and [`ArrowArrayStream::message`] returns the producer's message.
+    ///
+    /// ```
+    /// # use sel::{export_stream, ArrowType, Error, StreamReader};
+    /// # fn main() -> Result<(), Error> {
+    /// let mut stream = export_stream(&ArrowType::new("tdD", &[])?, std::iter::empty())?;
+    /// match StreamReader::open_from(&mut stream) {
+    ///     Ok(reader) => assert_eq!((stream.is_released(), reader.count()), (true, 0)),
+    ///     Err(error) => eprintln!("{error}: {}", stream.message().unwrap_or_default()),
+    /// }
+    /// # Ok(())
+    /// # }
+    /// ```
+    ///
+    /// # Errors
+    /// As [`open`](StreamReader::open).
+    pub fn open_from(stream: &mut ArrowArrayStream) -> Result<StreamReader, Error> {
         let mut handle = OwnedStream { at: ptr::null_mut() };
         // SAFETY: the stream is valid or released, and the handle is empty.
-        checked(handle.with(|out| unsafe { raw::sel_stream_open(&mut stream, out) }))?;
+        checked(handle.with(|out| unsafe { raw::sel_stream_open(stream, out) }))?;
         Ok(StreamReader { handle })
     }
 
@@ -77,11 +99,8 @@ impl StreamReader {
 
     /// Returns the producer's message of its last error.
     pub fn message(&mut self) -> Option<String> {
-        // SAFETY: the handle is valid; the text lives up to the next call, and is copied.
-        self.handle.with(|handle| unsafe {
-            let text = raw::sel_stream_message(handle);
-            (!text.is_null()).then(|| CStr::from_ptr(text).to_string_lossy().into_owned())
-        })
+        // SAFETY: the handle is valid, and the text lives up to the next call.
+        self.handle.with(|handle| unsafe { owned_text(raw::sel_stream_message(handle)) })
     }
 
     fn next_batch(&mut self) -> Result<Option<(Column, ArrowType)>, Error> {
@@ -109,11 +128,24 @@ pub type Batch = Result<(Column, Option<ArrowType>), Error>;
 
 type Batches = Box<dyn Iterator<Item = Batch>>;
 
+/// Runs code of the iterator; returns `None` if it panics, since a panic must not pass through the consumer.
+fn caught<T>(call: impl FnOnce() -> T) -> Option<T> {
+    match catch_unwind(AssertUnwindSafe(call)) {
+        Ok(found) => Some(found),
+        Err(payload) => {
+            // the drop of the payload may panic too; the payload of that panic is never dropped
+            if let Err(second) = catch_unwind(AssertUnwindSafe(|| drop(payload))) {
+                mem::forget(second);
+            }
+            None
+        }
+    }
+}
+
 unsafe extern "C" fn next_of(context: *mut c_void, out: *mut Handle, out_type: *mut TypeHandle) -> u32 {
     // SAFETY: the context is that of `export_stream`, and the consumer makes one call at a time.
     let batches = unsafe { &mut *context.cast::<Batches>() };
-    // a panic must not pass through the consumer: the stream reports an error
-    let Ok(next) = catch_unwind(AssertUnwindSafe(|| batches.next())) else { return status::ARROW_STREAM };
+    let Some(next) = caught(|| batches.next()) else { return status::ARROW_STREAM };
     match next {
         None => status::OK,
         Some(Err(error)) => error.status(),
@@ -131,10 +163,14 @@ unsafe extern "C" fn next_of(context: *mut c_void, out: *mut Handle, out_type: *
 
 unsafe extern "C" fn free_of(context: *mut c_void) {
     // SAFETY: the context is that of `export_stream`, and this is called once.
-    drop(unsafe { Box::from_raw(context.cast::<Batches>()) });
+    let batches = unsafe { Box::from_raw(context.cast::<Batches>()) };
+    caught(|| drop(batches));
 }
 
 /// Returns a stream that exports the batches of an iterator as the consumer asks for them. Each has the schema of the type.
+///
+/// If the iterator panics in [`next`](Iterator::next), the stream reports an error. If it panics when it is dropped, the
+/// panic is caught and not reported.
 ///
 /// # Errors
 /// [`Error::OutOfMemory`].

@@ -5,6 +5,7 @@ use crate::arrow_type::{common_type, ArrowType};
 use crate::column::Column;
 use crate::error::Error;
 use crate::kernels;
+use crate::memory::collect;
 
 /// A column with its logical type: kernels return columns of the type that the result has in Arrow.
 ///
@@ -32,8 +33,7 @@ pub struct TypedColumn {
 
 /// Returns the columns of several typed columns in one type.
 fn joined(columns: &[&TypedColumn]) -> Result<(Vec<Column>, ArrowType), Error> {
-    let given: Vec<_> = columns.iter().map(|it| (&it.column, Some(&it.arrow_type))).collect();
-    common_type(&given)
+    common_type(&collect(columns.iter().map(|it| (&it.column, Some(&it.arrow_type))))?)
 }
 
 impl TypedColumn {
@@ -99,7 +99,7 @@ impl TypedColumn {
         if indices.null_count() == 0 {
             return self.like(column);
         }
-        Ok(TypedColumn { column, arrow_type: self.arrow_type.as_field(self.arrow_type.name(), true)? })
+        Ok(TypedColumn { column, arrow_type: self.arrow_type.as_nullable()? })
     }
 
     /// Returns `len` rows from row `offset` on.
@@ -143,18 +143,16 @@ impl TypedColumn {
     /// Concatenates columns row by row, as [`flatten`](crate::flatten) does.
     pub fn flatten(columns: &[&TypedColumn], widths: &[usize], height: usize) -> Result<TypedColumn, Error> {
         let (columns, arrow_type) = joined(columns)?;
-        let columns: Vec<&Column> = columns.iter().collect();
-        Ok(TypedColumn { column: kernels::flatten(&columns, widths, height)?, arrow_type })
+        Ok(TypedColumn { column: kernels::flatten(&collect(&columns)?, widths, height)?, arrow_type })
     }
 
     /// Returns the rows that the picks name, as [`collect_rows`](crate::collect_rows) does. The result is nullable if a pick is null.
     pub fn collect_rows(columns: &[&TypedColumn], picks: &[Option<(u32, u32)>]) -> Result<TypedColumn, Error> {
         let (columns, arrow_type) = joined(columns)?;
-        let columns: Vec<&Column> = columns.iter().collect();
-        let column = kernels::collect_rows(&columns, picks)?;
+        let column = kernels::collect_rows(&collect(&columns)?, picks)?;
         if picks.iter().all(Option::is_some) {
             return Ok(TypedColumn { column, arrow_type });
         }
-        Ok(TypedColumn { column, arrow_type: arrow_type.as_field(arrow_type.name(), true)? })
+        Ok(TypedColumn { column, arrow_type: arrow_type.as_nullable()? })
     }
 }

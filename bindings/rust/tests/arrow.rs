@@ -3,7 +3,7 @@
 mod foreign;
 
 use foreign::ForeignArray;
-use sel::{ArrowArray, ArrowSchema, Column, Error};
+use sel::{ArrowArray, ArrowSchema, ArrowType, Column, Error, TypedColumn};
 use std::cell::Cell;
 use std::ffi::{c_char, c_void, CStr};
 use std::mem::size_of;
@@ -68,17 +68,18 @@ fn array_of(length: i64, offset: i64, values: Vec<Vec<u8>>, releases: &Arc<Atomi
         private_data: Box::into_raw(owned).cast(),
     };
     assert_eq!(size_of::<ArrowArray>(), size_of::<ForeignArray>());
-    // SAFETY: both types have the layout of the C structure, and the array is valid until it is released.
+    // SAFETY: both types have the layout of the C structure. The array is valid until it is released, on whatever thread, and
+    // its buffers are never written.
     let moved = unsafe { ArrowArray::from_raw(addr_of_mut!(array).cast()) };
     assert!(array.release.is_none() && array.private_data.is_null());
     moved
 }
 
-/// Returns the schema of a format without children. Its release is counted.
-fn schema_of(format: &'static CStr, releases: &Rc<Cell<usize>>) -> ArrowSchema {
+/// Returns the schema of a format without children, as a nullable field with a name or without one. Its release is counted.
+fn schema_of(format: &'static CStr, name: Option<&'static CStr>, releases: &Rc<Cell<usize>>) -> ArrowSchema {
     let mut schema = ForeignSchema {
         format: format.as_ptr(),
-        name: null(),
+        name: name.map_or(null(), CStr::as_ptr),
         metadata: null(),
         flags: 2,
         n_children: 0,
@@ -115,7 +116,7 @@ fn assert_released(releases: &AtomicUsize) {
 /// after the column is dropped.
 fn imported(format: &'static [u8], length: i64, offset: i64, values: Vec<Vec<u8>>) -> Result<String, Error> {
     let (arrays, schemas) = (Arc::default(), Rc::default());
-    let (array, schema) = (array_of(length, offset, values, &arrays), schema_of(c_text(format), &schemas));
+    let (array, schema) = (array_of(length, offset, values, &arrays), schema_of(c_text(format), None, &schemas));
     // SAFETY: the tests give the buffers that the format and the length require.
     let result = unsafe { Column::from_arrow(array, &schema) };
     assert_eq!(schemas.get(), 0);
@@ -263,6 +264,21 @@ fn a_consumer_reads_and_releases_what_is_exported() -> Result<(), Error> {
         foreign_schema.release.expect("a release")(&mut foreign_schema);
     }
     assert!(foreign.release.is_none() && foreign_schema.release.is_none());
+    Ok(())
+}
+
+#[test]
+fn a_null_index_changes_no_name_of_a_nullable_type() -> Result<(), Error> {
+    for name in [None, Some(c_text(b"\xff\0")), Some(c_text(b"a\0"))] {
+        let schema = schema_of(c_text(b"i\0"), name, &Rc::default());
+        // SAFETY: the schema is valid.
+        let nullable = unsafe { ArrowType::from_schema(&schema)? };
+        let column = TypedColumn::new(Column::from_values(&[1i32, 2])?, nullable.try_clone()?)?;
+        let taken = column.take(&Column::from_options(&[Some(1u32), None])?)?;
+        assert_eq!(taken.arrow_type(), &nullable, "{name:?}");
+        let collected = TypedColumn::collect_rows(&[&column], &[Some((0, 1)), None])?;
+        assert_eq!(collected, taken, "{name:?}");
+    }
     Ok(())
 }
 

@@ -64,6 +64,14 @@ fn declared_type(declarator: &str) -> String {
     }
 }
 
+/// Returns the signature of a C function with this result and the parameters before the last parenthesis.
+fn signature_of_header(result: &str, parameters: &str) -> Signature {
+    let parameters = parameters.trim_end().strip_suffix(')').expect("a function's declaration ends with a parenthesis");
+    let parameters = parameters.split(',').filter(|parameter| *parameter != "void");
+    let result = result.trim();
+    (parameters.map(declared_type).collect(), (result != "void").then(|| declared_type(result)))
+}
+
 /// Returns the functions that the headers declare.
 fn functions_of_headers() -> BTreeMap<String, Signature> {
     let mut functions = BTreeMap::new();
@@ -73,14 +81,18 @@ fn functions_of_headers() -> BTreeMap<String, Signature> {
             continue;
         }
         let Some(start) = before.rfind("sel_") else { continue };
-        let result = before[..start].trim();
-        let result = (result != "void").then(|| declared_type(result));
-        let parameters =
-            parameters.trim_end().strip_suffix(')').expect("a function's declaration ends with a parenthesis");
-        let parameters = parameters.split(',').filter(|parameter| *parameter != "void");
-        functions.insert(before[start..].to_string(), (parameters.map(declared_type).collect(), result));
+        functions.insert(before[start..].to_string(), signature_of_header(&before[..start], parameters));
     }
     functions
+}
+
+/// Returns the signature of a type of functions that the headers declare.
+fn function_type_of_header(name: &str) -> Signature {
+    let source = HEADERS.map(without_comments).join("\n");
+    let parts = source.split(';').find_map(|statement| statement.split_once(&format!("(*{name})(")));
+    let (before, parameters) = parts.expect("a header has the type");
+    let result = before.trim().strip_prefix("typedef ").expect("a type is declared by typedef");
+    signature_of_header(result, parameters)
 }
 
 /// Returns the functions that `raw.rs` declares.
@@ -96,6 +108,24 @@ fn functions_of_raw() -> BTreeMap<String, Signature> {
         functions.insert(name.to_string(), (types.map(|(_, one)| one.trim().to_string()).collect(), result));
     }
     functions
+}
+
+/// Returns the signature of a type of functions that `raw.rs` declares.
+fn function_type_of_raw(name: &str) -> Signature {
+    let head = format!("pub type {name} = unsafe extern \"C\" fn(");
+    let (_, rest) = RAW.split_once(&head).expect("raw.rs has the type");
+    let (declaration, _) = rest.split_once(';').expect("a declaration ends with a semicolon");
+    let (parameters, result) = declaration.rsplit_once(')').expect("parameters end with a parenthesis");
+    let types = parameters.split(',').map(|one| one.trim().to_string()).collect();
+    (types, result.trim().strip_prefix("-> ").map(str::to_string))
+}
+
+#[test]
+fn the_types_of_functions_have_the_signatures_of_the_header() {
+    let next = function_type_of_header("sel_next_batch");
+    assert_eq!(next.0, ["*mut c_void", "*mut Handle", "*mut TypeHandle"]);
+    assert_eq!(function_type_of_raw("NextBatch"), next);
+    assert_eq!(function_type_of_raw("FreeContext"), function_type_of_header("sel_free_context"));
 }
 
 #[test]
@@ -161,7 +191,12 @@ fn the_structures_have_the_fields_of_the_header() {
         assert!(fields.len() >= 2, "{c} {fields:?}");
         assert_eq!(fields_of_rust(rust), fields, "{c}");
     }
-    for (c, rust) in [("sel_column", "Handle"), ("sel_type", "TypeHandle"), ("sel_stream", "StreamHandle")] {
+    for (c, rust) in [
+        ("sel_column", "Handle"),
+        ("sel_selection", "SelectionHandle"),
+        ("sel_type", "TypeHandle"),
+        ("sel_stream", "StreamHandle"),
+    ] {
         assert_eq!(fields_of_header(c), ["at: *mut c_void"], "{c}");
         assert_eq!(fields_of_rust(rust), ["at: *mut c_void"], "{rust}");
     }

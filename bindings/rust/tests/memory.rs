@@ -1,6 +1,6 @@
 //! Each allocation of the crate fails in turn: a call returns `OutOfMemory` if one failed, and else its result.
 
-use sel::{collect_rows, flatten, Column, Error};
+use sel::{collect_rows, common_type, flatten, ArrowType, Column, Error, TypedColumn};
 use std::alloc::{GlobalAlloc, Layout, System};
 use std::cell::Cell;
 
@@ -114,4 +114,22 @@ fn kernels_return_columns_or_are_out_of_memory() {
     assert!(fail_each(|| flatten(&[&numbers, &numbers], &[1, 1], 2)) >= 1);
     assert!(fail_each(|| Column::new_struct(2, Vec::new(), Some(&[true, false]))) >= 1);
     assert_eq!(fail_each(|| numbers.slice(0, 1)), 0);
+}
+
+#[test]
+fn types_are_made_or_out_of_memory() {
+    let numbers = Column::from_values(&[1i64]).expect("a column");
+    let of_type = ArrowType::new("l", &[]).expect("a type");
+    assert!(fail_each(|| ArrowType::new("+s", &[&of_type, &of_type])) >= 2);
+    assert!(fail_each(|| of_type.as_field("a name", false)) >= 1);
+    assert!(fail_each(|| ArrowType::dictionary("C", &numbers, Some(&of_type), false)) >= 1);
+    assert!(fail_each(|| common_type(&[(&numbers, Some(&of_type)), (&numbers, None)])) >= 6);
+}
+
+#[test]
+fn typed_columns_are_joined_or_out_of_memory() {
+    let typed = TypedColumn::of_storage(Column::from_values(&[1i64]).expect("a column")).expect("a typed column");
+    assert!(fail_each(|| TypedColumn::flatten(&[&typed, &typed], &[1, 1], 1)) >= 9);
+    assert!(fail_each(|| TypedColumn::collect_rows(&[&typed, &typed], &[Some((1, 0)), None])) >= 11);
+    assert_eq!(fail_each(|| typed.slice(0, 1)), 0);
 }

@@ -83,6 +83,7 @@ fn wrong_lines_fail() {
         ("equal | i8 | [1] | i64 | [1] | false", "another result"),
         ("parse | i8 | [300] | error row_type_mismatch 2", "expected the error 34"),
         ("parse_type | i8 | i16", "expected i16"),
+        ("parse_type | fixed<2,i8> | fixed<02,i8>", "the type is printed as fixed<2,i8>"),
         ("index_is_oob | list<i8> | [[1]] | 0 | true", "another result"),
         ("index_is_oob | list<i8> | [[1]] | 0 | yes", "neither true nor false"),
         ("collect_rows | i64 [1] | 0.0 | [1]", "no pick"),

@@ -51,7 +51,8 @@ fn array_of<T>(
         release: Some(release::<T>),
         private_data: Box::into_raw(owned).cast(),
     };
-    // SAFETY: both types have the layout of the C structure, and the array is valid until it is released.
+    // SAFETY: both types have the layout of the C structure. The array is valid until it is released, on whatever thread, and
+    // its buffers are never written.
     (unsafe { ArrowArray::from_raw(addr_of_mut!(array).cast()) }, at)
 }
 

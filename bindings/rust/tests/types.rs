@@ -5,6 +5,7 @@ use sel::{
     TypedColumn,
 };
 use std::cell::Cell;
+use std::panic::panic_any;
 use std::rc::Rc;
 
 const FORMATS: [(&str, &str, &str); 16] = [
@@ -71,9 +72,13 @@ fn types_have_parts() -> Result<(), Error> {
         assert_eq!(unsupported_format(&schema), None);
     }
     assert_ne!(record, ArrowType::new("+s", &[&name, &id])?);
-    for (format, error) in
-        [("x", Error::Arrow(65)), ("+us:0", Error::Arrow(65)), ("+l", Error::Arrow(67)), ("a\0b", Error::Arrow(65))]
-    {
+    for (format, error) in [
+        ("x", Error::Arrow(65)),
+        ("+us:0", Error::Arrow(65)),
+        ("+l", Error::Arrow(67)),
+        ("g\0", Error::Arrow(65)),
+        ("g\0g", Error::Arrow(65)),
+    ] {
         assert_eq!(ArrowType::new(format, &[]).err(), Some(error), "{format}");
     }
     let storage = ArrowType::of_storage(&Column::parse("list<u128>", "[[1]]")?)?;
@@ -169,6 +174,33 @@ fn errors_of_streams() -> Result<(), Error> {
     let panics = std::iter::once_with(|| -> Batch { panic!("a producer that panics") });
     let mut reader = StreamReader::open(export_stream(&date, panics)?)?;
     assert_eq!(reader.next().expect("an error").err(), Some(Error::Arrow(73)));
+    Ok(())
+}
+
+/// A producer that panics in each call and in its drop, and is the payload of the panic itself.
+struct Panics;
+
+impl Iterator for Panics {
+    type Item = Batch;
+
+    fn next(&mut self) -> Option<Batch> {
+        panic_any(Panics)
+    }
+}
+
+impl Drop for Panics {
+    fn drop(&mut self) {
+        panic_any(Panics)
+    }
+}
+
+#[test]
+fn a_drop_that_panics_does_not_pass_through_a_stream() -> Result<(), Error> {
+    let date = ArrowType::new("tdD", &[])?;
+    drop(export_stream(&date, Panics)?);
+    let mut reader = StreamReader::open(export_stream(&date, Panics)?)?;
+    assert_eq!(reader.next().expect("an error").err(), Some(Error::Arrow(73)));
+    drop(reader);
     Ok(())
 }
 

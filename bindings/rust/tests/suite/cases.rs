@@ -13,7 +13,8 @@ enum Expected {
     Error(u32, Option<usize>),
     Rows(Vec<Rows>),
     Flag(bool),
-    Type(DataType),
+    /// A type, and the text that it is printed as.
+    Type(DataType, String),
 }
 
 impl Expected {
@@ -32,7 +33,7 @@ impl Expected {
         }
         match call.comparison {
             Comparison::Flag => flag(fields[0]).map(Expected::Flag),
-            Comparison::Type => read_type(fields[0]).map(Expected::Type),
+            Comparison::Type => Ok(Expected::Type(read_type(fields[0])?, fields[0].to_string())),
             _ => {
                 let types = types.ok_or("these arguments have no rows for a result")?;
                 types
@@ -69,15 +70,14 @@ impl Expected {
             (Expected::Rows(rows), Outcome::Text(text)) if text == rows[0].text => Ok(()),
             (Expected::Rows(rows), Outcome::Text(text)) => Err(format!("expected {}, got {text}", rows[0].text)),
             (Expected::Flag(expected), Outcome::Flag(flag)) if flag == *expected => Ok(()),
-            (Expected::Type(expected), Outcome::Type(dtype)) if dtype == *expected => {
-                let text = expected.to_string();
-                if dtype.to_string() == text {
+            (Expected::Type(expected, text), Outcome::Type(dtype)) if dtype == *expected => {
+                if dtype.to_string() == *text {
                     Ok(())
                 } else {
                     Err(format!("the type is printed as {dtype}"))
                 }
             }
-            (Expected::Type(expected), Outcome::Type(dtype)) => Err(format!("expected {expected}, got {dtype}")),
+            (Expected::Type(_, text), Outcome::Type(dtype)) => Err(format!("expected {text}, got {dtype}")),
             (Expected::Error(status, _), Outcome::Columns(columns)) => {
                 Err(format!("expected the error {status}, got {columns:?}"))
             }
