@@ -97,7 +97,7 @@ impl StreamReader {
         ArrowType::made(|out| unsafe { raw::sel_stream_type(&handle, out) })
     }
 
-    /// Returns the producer's message of its last error.
+    /// Returns the producer's message if its last call was an error.
     pub fn message(&mut self) -> Option<String> {
         // SAFETY: the handle is valid, and the text lives up to the next call.
         self.handle.with(|handle| unsafe { owned_text(raw::sel_stream_message(handle)) })
