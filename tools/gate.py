@@ -137,6 +137,8 @@ class Proofs:
         self.command = ["rt", "ci", *(["--anew"] if anew and keeps_proofs() else [])]
         self.proved: set[str] = set()
         self.status: int | None = None
+        # what the verdicts are about, if nothing changes meanwhile
+        self.sources = verdicts.sum_of_all()
 
     def run(self) -> None:
         """Runs `rt ci`, prints its output, and notes the crates that it reports as proved."""
@@ -281,7 +283,7 @@ def try_mutants(board: Board, proofs: Proofs, room: threading.Semaphore, name: s
 def try_library(board: Board, proofs: Proofs, room: threading.Semaphore) -> bool:
     """Builds the C library, and tests it and what uses it, as soon as the crates that it depends on are proved."""
     # not at a lower priority, since the others wait for it
-    if not proofs.wait_for(below("sel_c")) or not run_check(board, "C library", ["tools/clib.py", "--gate"]):
+    if not proofs.wait_for(below("sel_c")) or not run_check(board, "C library", ["tools/clib.py", "--gate", proofs.sources]):
         return False
     with ThreadPoolExecutor(len(AFTER_LIBRARY)) as pool:
         passed = all(list(pool.map(lambda check: run_in(room, board, *check), AFTER_LIBRARY)))
