@@ -231,8 +231,11 @@ def check(cpu: str) -> None:
     header, folder = ROOT / "include" / "sel.h", folder_of(cpu)
     if not (folder / "libsel.a").exists():
         sys.exit(f"{folder.relative_to(ROOT)}/libsel.a is not there: make lib builds it")
-    for compiler, standard, language in ((CC, "c11", "c"), (CXX, "c++17", "c++")):
-        run(compiler, f"-std={standard}", *WARN, "-fsyntax-only", "-x", language, header)
+    run(CC, "-std=c11", *WARN, "-fsyntax-only", "-x", "c", header)
+    if has("c++"):
+        run(CXX, "-std=c++17", *WARN, "-fsyntax-only", "-x", "c++", header)
+    else:
+        left_out("include/sel.h as C++")
     if foreign_symbols(folder):
         sys.exit(f"the shared library exports {', '.join(foreign_symbols(folder))}")
     test = compiled(folder, "test", ["test", "test_several", "test_empty", "test_memory"], *WRAPPED)
