@@ -81,7 +81,7 @@ def must_run(command: List[str]) -> None:
 def compiled(source: str, flags: List[str], folder: pathlib.Path) -> str:
     """Returns the object file of a source, which is compiled unless that was done before, by the same command and of the same files."""
     made, key = folder / f"{pathlib.Path(source).stem}.o", folder / f"{pathlib.Path(source).stem}.key"
-    files = [pathlib.Path(source), *sorted(TESTS.glob("*.h")), *sorted((ROOT / "include").glob("*.h"))]
+    files = [pathlib.Path(source), *sorted(TESTS.glob("*.h")), ROOT / "c" / "wrapped.h", *sorted((ROOT / "include").glob("*.h"))]
     said = repr([VERSION, source, flags, [hashlib.sha256(path.read_bytes()).hexdigest() for path in files]])
     if not (made.exists() and key.exists() and key.read_text() == said):
         key.unlink(missing_ok=True)
@@ -150,6 +150,8 @@ def run_under_valgrind(plain: pathlib.Path) -> Tuple[bool, str]:
 def read_faults() -> List[Fault]:
     """Reads faults.txt: a heading `== FAULT [OPTION ..]: TEXT`, and the line behind it."""
     lines = [line for line in (TESTS / "faults.txt").read_text(encoding="utf-8").split("\n") if line and not line.startswith("#")]
+    if not lines or [line.startswith("== ") for line in lines] != [True, False] * (len(lines) // 2):
+        sys.exit("tests/faults.txt does not have a heading and a line by turns")
     faults: List[Fault] = []
     for heading, line in zip(lines[::2], lines[1::2]):
         words, _, says = heading[len("== "):].partition(": ")
