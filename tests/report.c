@@ -4,6 +4,7 @@
 
 #include <signal.h>
 #include <stdarg.h>
+#include <stdatomic.h>
 #include <stdio.h>
 #include <string.h>
 
@@ -13,7 +14,7 @@ static struct {
     const struct line *line;
     char what[160];             /* the layout and the call of what is run */
     bool is_quiet;
-    size_t failures;
+    atomic_size_t failures;     /* threads may fail at once */
     char first[600];
 } report;
 
@@ -58,10 +59,9 @@ bool fail(const char *format, ...) {
     va_start(arguments, format);
     vsnprintf(text, sizeof text, format, arguments);
     va_end(arguments);
-    if (report.failures == 0) {
+    if (atomic_fetch_add(&report.failures, 1) == 0) {
         memcpy(report.first, text, sizeof report.first - 1);
     }
-    report.failures += 1;
     if (!report.is_quiet) {
         printf("%s:%zu: %s: %s%s%s\n", report.line->file, report.line->number, report.line->fields[0], report.what,
             report.what[0] == 0 ? "" : ": ", text);

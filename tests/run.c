@@ -45,7 +45,7 @@ static void run_text(struct suite *suite, struct line line, const char *text) {
     for (size_t i = 0; i < lines_of(&suite->kinds, text); i += 1) {
         struct arena arena = {NULL};
         fill_line(&arena, &suite->kinds, text, i, &line);
-        bool is_right = run_line(&suite->choice, &line, &suite->counts);
+        bool is_right = run_line(&suite->choice, &line, &suite->counts) && failures_of_line() == 0;
         if (suite->must_fail) {
             is_right = check_failed(&line, !is_right);
         }

@@ -92,11 +92,15 @@ def try_c(folder: pathlib.Path) -> None:
     run(CC, *CFLAGS, "-fsyntax-only", "-x", "c", header)
     if has("c++"):
         run(os.environ.get("CXX", "c++"), "-std=c++17", "-Wall", "-Wextra", "-pedantic", "-Werror", "-fsyntax-only", "-x", "c++", header)
+    else:
+        left_out("include/sel_arrow.h as C++")
     print(run(built_arrow_test(folder)), end="")
     if has("sanitizers"):
         sources = [*ARROW_TESTS, *ARROW_SOURCES]
         run(CC, *CFLAGS, *SANITIZED, *sources, BUILD / "libsel.a", *WRAPPED, "-o", folder / "arrow_test_sanitized")
         run(folder / "arrow_test_sanitized")
+    else:
+        left_out("arrow_test.c under AddressSanitizer and UndefinedBehaviorSanitizer")
     try_malformed(folder)
     for name in EXAMPLES_IN_C:
         prints(name, run(built(EXAMPLES / name, folder)))

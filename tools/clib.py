@@ -3,7 +3,8 @@
 
 tools/clib.py                  proves, with a report of how far it is, then writes build/libsel.a, build/libsel.so, build/sel.pc and build/VERDICTS
 tools/clib.py --fast           the same, with code by the toolchain's own compiler, which takes less time than LLVM: for `make check`
-tools/clib.py --gate           builds over the libraries that `rt ci` has proved, also while it still runs
+tools/clib.py --gate [SUM]     builds over the libraries that `rt ci` has proved, also while it still runs; SUM is that of the sources before it
+                               began, which tools/gate.py takes: without it they must not have changed since
 tools/clib.py --test           checks the headers, and runs the tests of c/ over the built library
 tools/clib.py --check          builds and tests
 
@@ -89,9 +90,11 @@ def for_cpu(cpu: str) -> list[str]:
     return [] if cpu == LEAST_CPU else ["--cpu", cpu]
 
 
-def build(over_gate: bool = False, cpu: str = LEAST_CPU, is_fast: bool = False) -> None:
+def build(over_gate: bool, cpu: str, is_fast: bool, before: str) -> None:
+    """Proves the crates and builds the library. `before` is the sum of their sources before the first of them was proved."""
     proved_sources, folder = hash_of_sources(), folder_of(cpu)
     made = proved(over_gate, cpu, OWN_COMPILER if is_fast else [])
+    said = verdicts.table(before)
     folder.mkdir(parents=True, exist_ok=True)
     (folder / "cpu").write_text(f"{cpu}\n")
     archive, shared = folder / "libsel.a", folder / SONAME
@@ -114,7 +117,7 @@ def build(over_gate: bool = False, cpu: str = LEAST_CPU, is_fast: bool = False) 
     link.unlink(missing_ok=True)
     os.link(shared, link)
     (folder / "sources").write_text(f"{proved_sources}\n")
-    (folder / "VERDICTS").write_text(verdicts.table())
+    (folder / "VERDICTS").write_text(said)
     (folder / "sel.pc").write_bytes(filled("sel.pc.in", "/usr/local"))
 
 
@@ -228,8 +231,11 @@ def check(cpu: str) -> None:
     header, folder = ROOT / "include" / "sel.h", folder_of(cpu)
     if not (folder / "libsel.a").exists():
         sys.exit(f"{folder.relative_to(ROOT)}/libsel.a is not there: make lib builds it")
-    for compiler, standard, language in ((CC, "c11", "c"), (CXX, "c++17", "c++")):
-        run(compiler, f"-std={standard}", *WARN, "-fsyntax-only", "-x", language, header)
+    run(CC, "-std=c11", *WARN, "-fsyntax-only", "-x", "c", header)
+    if has("c++"):
+        run(CXX, "-std=c++17", *WARN, "-fsyntax-only", "-x", "c++", header)
+    else:
+        left_out("include/sel.h as C++")
     if foreign_symbols(folder):
         sys.exit(f"the shared library exports {', '.join(foreign_symbols(folder))}")
     test = compiled(folder, "test", ["test", "test_several", "test_empty", "test_memory"], *WRAPPED)
@@ -247,10 +253,11 @@ def main() -> None:
     asked, cpu = sys.argv[1:], LEAST_CPU
     if asked[-2:-1] == ["--cpu"]:
         asked, cpu = asked[:-2], asked[-1]
+    before = asked.pop() if asked[:1] == ["--gate"] and len(asked) == 2 else verdicts.sum_of_all()
     if asked not in ([], ["--fast"], ["--gate"], ["--test"], ["--check"]):
         sys.exit(__doc__)
     if asked != ["--test"]:
-        build(asked == ["--gate"], cpu, asked == ["--fast"])
+        build(asked == ["--gate"], cpu, asked == ["--fast"], before)
     if asked in (["--test"], ["--check"]):
         check(cpu)
 

@@ -8,21 +8,26 @@ tools/gate.py setup   installs the optional programs and libraries that the chec
 
 Checks that need only some of the proved libraries run while `rt ci` runs, as soon as those are proved, at a lower priority. (The C
 library is built at the same priority as the proofs, since its checks and those of the bindings wait for it.) The others run after `rt ci`. The table
-lists what a check leaves out because an optional dependency is missing.
+lists what a check leaves out because an optional dependency is missing. A check that takes more than two hours is ended, and has failed; proofs may
+take as long as they need.
 """
 
 from __future__ import annotations
 
+import contextlib
 import dataclasses
 import os
 import pathlib
 import re
 import shutil
+import signal
 import subprocess
 import sys
 import threading
 import time
+from collections.abc import Iterator
 from concurrent.futures import Future, ThreadPoolExecutor
+from types import FrameType
 
 ROOT = pathlib.Path(__file__).resolve().parent.parent
 sys.dont_write_bytecode = True
@@ -58,17 +63,21 @@ MUTANTS_OF_CHECK = 60
 MEMORY = 4_000_000_000
 # the number of checks of the C library that run at once while the proofs run; afterwards as many as there are processors
 LIBRARY_AT_ONCE = 2
+# the seconds after which a check is ended: a test with threads may wait for ever
+LIMIT = 2 * 3600.0
+# the seconds that the commands have to end after an interrupt
+GRACE = 5.0
 
 
 @dataclasses.dataclass
 class Result:
-    """The result of a check: whether it passed, the time and the processor time that it took, in seconds, and what it left out."""
+    """The result of a check: whether it passed, the time and the processor time that it took, in seconds, and what it left out, or that it was ended."""
 
     name: str
     passed: bool
     seconds: float
     processor: float
-    left_out: list[str]
+    remarks: list[str]
 
 
 class Board:
@@ -92,10 +101,10 @@ class Board:
     def table(self) -> bool:
         """Prints the table; returns whether every check passed."""
         width = max(len(result.name) for result in self.results)
-        print(f"\n{'check':{width}}  result  seconds  processor  left out")
+        print(f"\n{'check':{width}}  result  seconds  processor  remarks")
         for result in self.results:
             times = f"{result.seconds:7.0f}  {result.processor:9.0f}"
-            print(f"{result.name:{width}}  {'passed' if result.passed else 'FAILED'}  {times}  {'; '.join(result.left_out)}")
+            print(f"{result.name:{width}}  {'passed' if result.passed else 'FAILED'}  {times}  {'; '.join(result.remarks)}")
         failed = sum(not result.passed for result in self.results)
         elapsed = int(time.monotonic() - BEGUN)
         spent = os.times()
@@ -103,6 +112,67 @@ class Board:
         print(f"elapsed {elapsed // 60} min {elapsed % 60} s, processor time {processor // 60} min {processor % 60} s")
         print(f"{len(self.results) - failed} passed, {failed} failed")
         return failed == 0 and len(self.results) == self.total
+
+
+class Children:
+    """The commands that run. Each has a session of its own, so that it can be ended with all that it has started."""
+
+    def __init__(self) -> None:
+        self.running: set[subprocess.Popen[str]] = set()
+        self.is_interrupted = False
+        # reentrant, since the main thread may hold it when a signal comes
+        self.lock = threading.RLock()
+
+    @contextlib.contextmanager
+    def started(self, command: list[str], limit: float | None, env: dict[str, str] | None = None) -> Iterator[subprocess.Popen[str]]:
+        """Starts a command, and waits for it at the end; kills it if that takes longer than the limit. Starts none after an interrupt."""
+        with self.lock:
+            if self.is_interrupted:
+                sys.exit(1)
+            ran = subprocess.Popen(command, cwd=ROOT, env=env, text=True, errors="replace", stdin=subprocess.DEVNULL,
+                                   stdout=subprocess.PIPE, stderr=subprocess.STDOUT, start_new_session=True)
+            self.running.add(ran)
+        timer = threading.Timer(limit or 0.0, send, (ran, signal.SIGKILL))
+        try:
+            if limit is not None:
+                timer.start()
+            with ran:
+                yield ran
+        finally:
+            timer.cancel()
+            self.running.discard(ran)
+            if self.is_interrupted:
+                # what the command has left behind
+                send(ran, signal.SIGKILL)
+
+    def send_all(self, number: int) -> None:
+        for ran in list(self.running):
+            send(ran, number)
+
+    def interrupt(self, number: int, _frame: FrameType | None) -> None:
+        """Passes a signal on to all commands, which a terminal does not send it to, and ends the program. Kills those that do not end soon."""
+        with self.lock:
+            self.is_interrupted = True
+        self.send_all(number)
+        kill = threading.Timer(GRACE, self.send_all, (signal.SIGKILL,))
+        kill.daemon = True
+        kill.start()
+        sys.exit(128 + number)
+
+    def catch_signals(self) -> None:
+        for number in (signal.SIGINT, signal.SIGTERM, signal.SIGHUP):
+            # (`nohup` has one ignored)
+            if signal.getsignal(number) != signal.SIG_IGN:
+                signal.signal(number, self.interrupt)
+
+
+CHILDREN = Children()
+
+
+def send(ran: subprocess.Popen[str], number: int) -> None:
+    """Sends a signal to a command and to all that it has started."""
+    with contextlib.suppress(ProcessLookupError):
+        os.killpg(ran.pid, number)
 
 
 def ended(ran: subprocess.Popen[str]) -> tuple[int, float]:
@@ -137,17 +207,18 @@ class Proofs:
         self.command = ["rt", "ci", *(["--anew"] if anew and keeps_proofs() else [])]
         self.proved: set[str] = set()
         self.status: int | None = None
+        # what the verdicts are about, if nothing changes meanwhile
+        self.sources = verdicts.sum_of_all()
 
     def run(self) -> None:
         """Runs `rt ci`, prints its output, and notes the crates that it reports as proved."""
         begun, total = time.monotonic(), len(lines())
-        # otherwise libraries that other commands built would replace those that `rt ci` builds
-        for kept in (ROOT / "crates").glob("*/out/rlib"):
-            shutil.rmtree(kept)
         status, processor, verdict = 1, 0.0, ""
         try:
-            with subprocess.Popen(self.command, cwd=ROOT, env=environment(), text=True, errors="replace", stdin=subprocess.DEVNULL,
-                                  stdout=subprocess.PIPE, stderr=subprocess.STDOUT) as ran:
+            # otherwise libraries that other commands built would replace those that `rt ci` builds
+            for kept in (ROOT / "crates").glob("*/out/rlib"):
+                shutil.rmtree(kept)
+            with CHILDREN.started(self.command, None, environment()) as ran:
                 for line in ran.stdout or ():
                     print(line, end="", flush=True)
                     verdict = line.strip() if line.startswith("logic=proved ") else verdict
@@ -182,19 +253,21 @@ class Proofs:
             return self.status == 0
 
 
-def run_check(board: Board, name: str, command: list[str], beside: bool = False) -> bool:
+def run_check(board: Board, name: str, command: list[str], beside: bool = False, limit: float | None = LIMIT) -> bool:
     """Runs one check, prints its output when it has ended, and returns whether it passed."""
     begun = time.monotonic()
-    board.say(f"{name}: begins")
     prefix = ["nice", "-n", "19"] if beside else []
-    with subprocess.Popen([*prefix, *command], cwd=ROOT, stdout=subprocess.PIPE, stderr=subprocess.STDOUT, stdin=subprocess.DEVNULL,
-                          text=True, errors="replace") as ran:
+    with CHILDREN.started([*prefix, *command], limit) as ran:
+        board.say(f"{name}: begins")
         output = ran.stdout.read() if ran.stdout else ""
         status, processor = ended(ran)
     print(output, end="", flush=True)
-    left_out = re.findall(r"(?m)^not run: (.*)$", output)
-    board.add(Result(name, status == 0, time.monotonic() - begun, processor, left_out))
-    return status == 0
+    remarks, seconds = re.findall(r"(?m)^not run: (.*)$", output), time.monotonic() - begun
+    is_late = limit is not None and seconds >= limit
+    if is_late:
+        remarks.append(f"ended after {seconds / 60:.0f} minutes, which is the limit")
+    board.add(Result(name, status == 0 and not is_late, seconds, processor, remarks))
+    return status == 0 and not is_late
 
 
 DOCUMENTS = [
@@ -281,7 +354,7 @@ def try_mutants(board: Board, proofs: Proofs, room: threading.Semaphore, name: s
 def try_library(board: Board, proofs: Proofs, room: threading.Semaphore) -> bool:
     """Builds the C library, and tests it and what uses it, as soon as the crates that it depends on are proved."""
     # not at a lower priority, since the others wait for it
-    if not proofs.wait_for(below("sel_c")) or not run_check(board, "C library", ["tools/clib.py", "--gate"]):
+    if not proofs.wait_for(below("sel_c")) or not run_check(board, "C library", ["tools/clib.py", "--gate", proofs.sources], limit=None):
         return False
     with ThreadPoolExecutor(len(AFTER_LIBRARY)) as pool:
         passed = all(list(pool.map(lambda check: run_in(room, board, *check), AFTER_LIBRARY)))
@@ -324,7 +397,7 @@ def run_fast() -> int:
     fast = [(name, [*command, *FAST_OPTIONS.get(name, [])]) for name, command in AFTER_LIBRARY if name not in NOT_FAST and (name, command) not in LINTS]
     board = Board(1 + len(sources) + len(fast))
     with ThreadPoolExecutor(len(fast)) as pool:
-        built = pool.submit(run_check, board, "C library", ["tools/clib.py", "--fast"])
+        built = pool.submit(run_check, board, "C library", ["tools/clib.py", "--fast"], limit=None)
         for name, command in sources:
             run_check(board, name, command, beside=True)
         for name, command in fast if built.result() else []:
@@ -344,6 +417,7 @@ def setup() -> int:
 
 
 def main() -> int:
+    CHILDREN.catch_signals()
     if sys.argv[1:] == ["setup"]:
         return setup()
     if sys.argv[1:] == ["check"]:

@@ -112,7 +112,7 @@ class Build:
             self.say(f"{crate.name}: {in_words(crate.seconds())} of about {in_words(self.expected[crate.name])}", crate.seconds())
 
     def prove(self, crate: Crate) -> bool:
-        """Runs the toolchain on a crate and keeps its verdict; returns whether it succeeded."""
+        """Runs the toolchain on a crate and keeps its verdict; returns whether it succeeded, and the sources are those of before."""
         folder = self.root / "crates" / crate.name
         # a crate that was proved before has little to prove, which one process does sooner; but `sel_c` calls all that changed
         is_new = crate.name == TOP or not (folder / "out" / "incremental").exists()
@@ -128,11 +128,20 @@ class Build:
         finally:
             ended.set()
             reporter.join()
-        if ran.returncode == 0 and crate.verdict:
-            keep(crate.name, crate.verdict, self.root)
-        if ran.returncode == 0:
-            (folder / "out" / "built_from").write_text(f"{self.sum_of_all(crate.name)} {sum_of_built(crate.name, self.root)}\n")
-        return ran.returncode == 0
+        return ran.returncode == 0 and self.note_proved(crate)
+
+    def note_proved(self, crate: Crate) -> bool:
+        """Keeps the verdict of a crate, and what it was built from; returns whether all sources are those of when this build began. If not, the
+        toolchain may have read either."""
+        changed = [name for name in self.names if sum_of_sources(name, self.root) != self.sums[name]]
+        if not {crate.name, *crates_below(crate.name, self.uses)}.intersection(changed):
+            if crate.verdict:
+                keep(crate.name, crate.verdict, self.root)
+            out = self.root / "crates" / crate.name / "out"
+            (out / "built_from").write_text(f"{self.sum_of_all(crate.name)} {sum_of_built(crate.name, self.root)}\n")
+        if changed:
+            crate.output = [f"the sources of {', '.join(changed)} changed since this build began: build again\n"]
+        return not changed
 
     def run(self) -> bool:
         """Builds all; returns whether that succeeded, and prints what the toolchain says of a crate that failed."""
@@ -156,11 +165,13 @@ class Build:
         self.times.write_text("".join(f"{name} {seconds:.0f}\n" for name, seconds in found.items()))
 
 
-# A toolchain that proves each crate at once, but sel_bits, which it has proved before, and that fails in the crate that FAILS names.
+# A toolchain that proves each crate at once, but sel_bits, which it has proved before, and that fails in the crate that FAILS names. The
+# sources of the crate that CHANGES names change while it is proved.
 FAKE = """#!/bin/sh
 [ "$1" = version ] && echo fake && exit 0
 name=$(basename "$PWD")
 echo "$@" > out/words
+[ "$name" = "$CHANGES" ] && echo "changed meanwhile" > src/lib.rt
 [ "$name" = "$FAILS" ] && echo "error: not proved" && exit 1
 [ "$name" = sel_bits ] && exit 0
 echo "fn $name::one: proved"
@@ -168,10 +179,10 @@ echo "logic=proved functions=2 sum=0123456789abcdef"
 """
 
 
-def reported(folder: pathlib.Path, fails: str) -> tuple[bool, list[str]]:
+def reported(folder: pathlib.Path, fails: str = "", changes: str = "") -> tuple[bool, list[str]]:
     """Returns what a build with the toolchain that only prints returns and prints, without times."""
     output = io.StringIO()
-    os.environ["FAILS"] = fails
+    os.environ |= {"FAILS": fails, "CHANGES": changes}
     with contextlib.redirect_stdout(output):
         done = Build(["--cpu", "x86-64-v3"], str(folder / "rt"), folder).run()
     return done, [re.sub(r"^\[ *\d+:\d\d, |; about \d+ (s|min) left$", "", line) for line in output.getvalue().splitlines()]
@@ -183,6 +194,33 @@ def words_of(folder: pathlib.Path) -> set[str]:
     for path in found:
         path.unlink()
     return {path.parent.parent.name for path in found}
+
+
+def check_changes(folder: pathlib.Path, names: list[str], before: list[str]) -> None:
+    """Checks which crates are proved again after a build, whose report is `before` if none is."""
+    words_of(folder)
+    if not reported(folder)[0] or words_of(folder) != {TOP}:
+        sys.exit("failed: the toolchain is called for libraries that are built from the present sources")
+    (folder / "crates" / names[-2] / "out" / "rlib" / f"{names[-2]}.rlib" / "format").write_text("another build")
+    if not reported(folder)[0] or words_of(folder) != {names[-2], TOP}:
+        sys.exit("failed: the toolchain is not called for a library that another command has built")
+    source = folder / "crates" / names[2] / "src" / "lib.rt"
+    source.parent.mkdir()
+    source.write_text("changed")
+    uses = {name: used for name, (_, used) in lines().items()}
+    above = {names[2], *(name for name in names if names[2] in crates_below(name, uses))}
+    if not reported(folder)[0] or words_of(folder) != above:
+        sys.exit("failed: the toolchain is not called for a crate that was changed and for those above it")
+    source.write_text("changed again")
+    if reported(folder, fails=names[2]) != (False, [*before[:2], "error: not proved"]):
+        sys.exit("failed: a build goes on after a crate that is not proved")
+    changed = f"the sources of {names[2]} changed since this build began: build again"
+    if reported(folder, changes=names[2]) != (False, [*before[:2], changed]):
+        sys.exit("failed: a build goes on with a crate whose sources changed while it was proved")
+    source.write_text("changed again")
+    words_of(folder)
+    if not reported(folder)[0] or words_of(folder) != above:
+        sys.exit("failed: a crate whose sources changed while it was proved counts as built")
 
 
 def check() -> int:
@@ -197,7 +235,7 @@ def check() -> int:
         (folder / "rt").chmod(0o755)
         said = [f"{number} of {len(names)} crates] {name}: {'proved before' if name == 'sel_bits' else '2 functions proved in 0 s'}" for number, name in enumerate(names, 1)]
         before = [line.replace("2 functions proved in 0 s", "proved before") for line in said]
-        found = reported(folder, "")
+        found = reported(folder)
         if found != (True, said):
             sys.exit(f"failed: the report of a build is {found}")
         if {*seconds_of(folder / "build" / "seconds")} != {*names} - {"sel_bits"}:
@@ -205,21 +243,7 @@ def check() -> int:
         kept = {name for name in names if (folder / "crates" / name / "out" / "verdict").exists()}
         if kept != {*names} - {"sel_bits"} or "--cpu x86-64-v3" not in (folder / "crates" / TOP / "out" / "words").read_text():
             sys.exit("failed: a verdict is not kept, or the options do not reach the toolchain")
-        words_of(folder)
-        if not reported(folder, "")[0] or words_of(folder) != {TOP}:
-            sys.exit("failed: the toolchain is called for libraries that are built from the present sources")
-        (folder / "crates" / names[-2] / "out" / "rlib" / f"{names[-2]}.rlib" / "format").write_text("another build")
-        if not reported(folder, "")[0] or words_of(folder) != {names[-2], TOP}:
-            sys.exit("failed: the toolchain is not called for a library that another command has built")
-        source = folder / "crates" / names[2] / "src" / "lib.rt"
-        source.parent.mkdir()
-        source.write_text("changed")
-        uses = {name: used for name, (_, used) in lines().items()}
-        if not reported(folder, "")[0] or words_of(folder) != {names[2], *(name for name in names if names[2] in crates_below(name, uses))}:
-            sys.exit("failed: the toolchain is not called for a crate that was changed and for those above it")
-        source.write_text("changed again")
-        if reported(folder, names[2]) != (False, [*before[:2], "error: not proved"]):
-            sys.exit("failed: a build goes on after a crate that is not proved")
+        check_changes(folder, names, before)
     print(f"the report of a build of {len(names)} crates: ok")
     return 0
 

@@ -143,15 +143,20 @@ def path_of(label: str) -> pathlib.Path:
 
 
 def listed() -> list[str]:
-    """Returns the labels that tools/mutants.txt lists."""
-    return [line for line in LIST.read_text().split("\n") if line and not line.startswith("#")]
+    """Returns the labels that tools/mutants.txt lists. Exits if there are none."""
+    return [line for line in LIST.read_text().split("\n") if line and not line.startswith("#")] or sys.exit("tools/mutants.txt lists no mutant")
 
 
 def selected(args: list[str]) -> list[pathlib.Path]:
-    """Returns the files of the mutants that the arguments select."""
+    """Returns the files of the mutants that the arguments select. Exits if one of these selects none."""
     if args == ["--all"]:
-        return [path for crate in lines() for path in mutants_of(crate)]
-    return [path for arg in args or listed() for path in ([path_of(arg)] if "/" in arg else mutants_of(arg))]
+        return some([path for crate in lines() for path in mutants_of(crate)], "any crate")
+    return [path for arg in args or listed() for path in ([path_of(arg)] if "/" in arg else some(mutants_of(arg), arg))]
+
+
+def some(mutants: list[pathlib.Path], crate: str) -> list[pathlib.Path]:
+    """Returns the files of a crate's mutants. Exits if there are none."""
+    return mutants or sys.exit(f"there is no mutant of {crate}")
 
 
 CYCLE = re.compile(r"^ *#\[cycle\((\w+)\)\]$")
@@ -399,7 +404,7 @@ def try_crate(crate: str, mutants: list[Mutant], control: bool) -> tuple[int, in
 
 def check_texts() -> int:
     """Checks that every mutant can be applied, that every listed one exists, that crates can be shortened for mutants, and functions repeated."""
-    mutants = [Mutant(path) for crate in lines() for path in mutants_of(crate)]
+    mutants = [Mutant(path) for path in selected(["--all"])]
     for label in listed():
         path_of(label)
     for crate in lines():

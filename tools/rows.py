@@ -5,7 +5,7 @@ tools/rows.py [--fast] [LIBRARY]    LIBRARY is the archive to link, build/libsel
 
 Builds tests/run plainly and with the address and undefined behaviour sanitizers, and runs all files of tests/rows by both, and at
 one offset under valgrind. Then tests/wrong.txt, each line of which must fail, and tests/faults.txt: each fault of tests/faults.c
-must be found by its line. The last line lists missing optional dependencies. With --fast the run with sanitizers is at one offset and refuses
+must be found by its line. A line `not run: ..` names what needs a missing dependency. With --fast the run with sanitizers is at one offset and refuses
 no allocation, and nothing is run under valgrind, which finds what the sanitizers find, unless the compiler lacks these.
 Writes into build/, where it keeps the compiled sources of the runner, prints what failed and one line that sums up, and exits with
 status 1 if anything failed.
@@ -68,6 +68,10 @@ def wrapped(names: Tuple[str, ...]) -> List[str]:
     return [f"-Wl,--wrap={name}" for name in names]
 
 
+def left_out(what: str) -> None:
+    print(f"not run: {what}", file=sys.stderr)
+
+
 def must_run(command: List[str]) -> None:
     """Runs a command; ends the program if that fails."""
     if subprocess.run(command, check=False).returncode != 0:
@@ -77,7 +81,7 @@ def must_run(command: List[str]) -> None:
 def compiled(source: str, flags: List[str], folder: pathlib.Path) -> str:
     """Returns the object file of a source, which is compiled unless that was done before, by the same command and of the same files."""
     made, key = folder / f"{pathlib.Path(source).stem}.o", folder / f"{pathlib.Path(source).stem}.key"
-    files = [pathlib.Path(source), *sorted(TESTS.glob("*.h")), *sorted((ROOT / "include").glob("*.h"))]
+    files = [pathlib.Path(source), *sorted(TESTS.glob("*.h")), ROOT / "c" / "wrapped.h", *sorted((ROOT / "include").glob("*.h"))]
     said = repr([VERSION, source, flags, [hashlib.sha256(path.read_bytes()).hexdigest() for path in files]])
     if not (made.exists() and key.exists() and key.read_text() == said):
         key.unlink(missing_ok=True)
@@ -126,6 +130,7 @@ def run(program: pathlib.Path, *words: str, fault: Optional[str] = None, under: 
 def run_sanitized(library: pathlib.Path, *options: str) -> Optional[Counts]:
     """Runs all files with sanitizers, the longest first, as many at once as there are processors. Returns the sums, or None without sanitizers."""
     if not has_sanitizers():
+        left_out("the rows with sanitizers")
         return None
     program = build(library, "rows_sanitized", ["-O1", *SANITIZERS], sources())
     files = sorted((TESTS / "rows").glob("*.txt"), key=lambda path: -path.stat().st_size)
@@ -136,6 +141,7 @@ def run_sanitized(library: pathlib.Path, *options: str) -> Optional[Counts]:
 def run_under_valgrind(plain: pathlib.Path) -> Tuple[bool, str]:
     """Runs all files at one offset under valgrind. Returns whether nothing failed, and what was run."""
     if shutil.which("valgrind") is None:
+        left_out("the rows under valgrind")
         return True, "not run under valgrind, which is missing"
     under = run(plain, *AT_ONE_OFFSET, under=VALGRIND)
     return under.status == 0, f"{under.cases} cases under valgrind" if under.status == 0 else "FAILED under valgrind"
@@ -144,6 +150,8 @@ def run_under_valgrind(plain: pathlib.Path) -> Tuple[bool, str]:
 def read_faults() -> List[Fault]:
     """Reads faults.txt: a heading `== FAULT [OPTION ..]: TEXT`, and the line behind it."""
     lines = [line for line in (TESTS / "faults.txt").read_text(encoding="utf-8").split("\n") if line and not line.startswith("#")]
+    if not lines or [line.startswith("== ") for line in lines] != [True, False] * (len(lines) // 2):
+        sys.exit("tests/faults.txt does not have a heading and a line by turns")
     faults: List[Fault] = []
     for heading, line in zip(lines[::2], lines[1::2]):
         words, _, says = heading[len("== "):].partition(": ")

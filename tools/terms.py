@@ -90,6 +90,8 @@ def main() -> int:
         sys.exit(__doc__)
     patterns, terms = read_list()
     files = [path for path in tracked() if is_selected(path, patterns)]
+    if not terms or not files:
+        sys.exit("tools/terms.txt has no phrase, or its paths select no file")
     count = 0
     for path in files:
         for line, term in sorted(occurrences(path, terms)):

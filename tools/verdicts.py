@@ -5,6 +5,7 @@ from __future__ import annotations
 import hashlib
 import pathlib
 import subprocess
+import sys
 
 from prover import crates_below, lines
 
@@ -51,10 +52,18 @@ def crates() -> list[str]:
     return [*crates_below(TOP, {name: used for name, (_, used) in lines().items()}), TOP]
 
 
-def table() -> str:
-    """Returns the verdicts as the text of a file: a paragraph for each crate."""
+def sum_of_all() -> str:
+    """Returns a sum of the sources of all these crates."""
+    return sum_of("".join(f"{crate} {sum_of_sources(crate)}\n" for crate in crates()).encode())
+
+
+def table(before: str) -> str:
+    """Returns the verdicts as the text of a file: a paragraph for each crate. Exits if the sources do not have the sum that they had before
+    the proof: the verdicts may then be about others."""
     prover = subprocess.run(["rt", "version"], capture_output=True, text=True, check=True).stdout.strip()
     found = [f"The crates that this library is built from, and the last line that the prover printed of each.\n\nprover {prover}\n"]
     for crate in crates():
         found.append(f"\n{crate}\nverdict {kept(crate)}\nsources sha256 {sum_of_sources(crate)}\nbuilt sha256 {sum_of_built(crate)}\n")
+    if sum_of_all() != before:
+        sys.exit("failed: sources of the crates changed while they were proved, so the verdicts may not be about them: build again")
     return "".join(found)

@@ -28,7 +28,7 @@ int LLVMFuzzerTestOneInput(const uint8_t *input, size_t len) {
     }
     is_right = pool_check(&pool) && is_right;
     pool_end(&pool);
-    if (!is_right || memory_in_use() != before) {
+    if (!is_right || failures_of_line() > 0 || memory_in_use() != before) {
         abort();
     }
     return 0;

@@ -3,7 +3,8 @@
  * soak [--seed N] [--calls N] [--seconds N] [--threads N]
  *
  * Each round makes columns from a seed and calls on them and on their results; with threads, that many make calls on the same
- * columns at once. A failure names its seed; `--seed N --calls 1` runs that round again. The last line has the numbers of the run. */
+ * columns at once. A failure names its seed; `--seed N --calls 1` runs that round again. The last line has the numbers of the run.
+ * The exit status is 0 if no failure was reported and there was a round. */
 #include "../report.h"
 #include "steps.h"
 
@@ -80,7 +81,8 @@ static bool run_round(uint64_t seed, size_t threads) {
     }
     is_right = pool_check(&pool) && is_right;
     pool_end(&pool);
-    return (memory_in_use() == before || fail("%ld blocks are lost", memory_in_use() - before)) && is_right;
+    is_right = (memory_in_use() == before || fail("%ld blocks are lost", memory_in_use() - before)) && is_right;
+    return is_right && failures_of_line() == 0;
 }
 
 static bool read_options(int count, char **words, struct options *out) {
@@ -120,5 +122,5 @@ int main(int count, char **words) {
     }
     printf("%" PRIu64 " calls in %" PRIu64 " rounds from seed %" PRIu64 ", %zu threads, %" PRIu64 " rounds failed\n", calls, rounds, options.seed,
         options.threads, failed);
-    return failed == 0 ? 0 : 1;
+    return failed > 0 || rounds == 0 ? 1 : 0;
 }

@@ -75,7 +75,8 @@ static bool ends(const struct step *step, const char *call, sel_status status, s
         sel_free(column);
         return is_right;
     }
-    is_right = wanted != SEL_OK || (check_column(column, rows, call) && is_right);
+    /* where an error is wanted there are no rows to compare with */
+    is_right = is_right && check_column(column, rows, call);
     if (is_right && strlen(rows->text) <= LONGEST_TEXT) {
         *step->made = (struct entry){*column, *rows};
     } else {
@@ -203,7 +204,8 @@ static bool step_equal(const struct step *step) {
     bool is_right = (status == SEL_OK && equal) || fail("sel_equal_rows of a column built again: %s", status_text(step->arena, status));
     status = sel_equal_rows(&again, &other->column, &equal);
     bool wanted = strcmp(entry->rows.text, other->rows.text) == 0;
-    is_right = (status == SEL_OK && equal == wanted) || fail("sel_equal_rows: expected %d, got %d", wanted, equal);
+    is_right = ((status == SEL_OK && equal == wanted)
+        || fail("sel_equal_rows: expected %d, got %d, %s", wanted, equal, status_text(step->arena, status))) && is_right;
     sel_free(&again);
     return is_right;
 }

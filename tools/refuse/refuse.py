@@ -36,6 +36,11 @@ PROGRAM = "sel_bench"
 # a crate, and the beginning of the names of the tests that are run
 TESTS = [("tests_bits", "alloc_"), ("tests_kernels", "alloc_")]
 SECONDS = 60
+sys.dont_write_bytecode = True
+sys.path.insert(0, str(TOP / "tools"))
+
+import prover  # noqa: E402
+
 # the report of a call: how it ended, its allocations, and how many of them failed
 Report = tuple[str, int, int]
 Ended = subprocess.CompletedProcess[bytes]
@@ -82,9 +87,7 @@ def built_shim(room: str) -> pathlib.Path:
 
 def sources(crate: str) -> Iterator[pathlib.Path]:
     """Yields the sources of a crate and of the crates that it depends on."""
-    lines = [line.partition(":") for line in (TOP / "crates.txt").read_text().splitlines() if line.strip() and line[0] != "#"]
-    below = next(rest.split() for name, _, rest in lines if name.split()[0] == crate)
-    for name in [crate, *below]:
+    for name in [crate, *prover.crates_below(crate, {it: used for it, (_, used) in prover.lines().items()})]:
         for part in ("src", "specs", "proofs"):
             yield from (it for it in (CRATES / name / part).rglob("*") if it.suffix in (".rt", ".antt"))
     yield TOP / "crates.txt"
@@ -227,8 +230,10 @@ def shown(name: str, calls: int, allocations: int, runs: int) -> str:
 
 def listed(program: pathlib.Path) -> list[str]:
     """Returns the names of the tests of a built test program."""
-    lines = subprocess.run([str(program), "--list"], capture_output=True, text=True).stdout.splitlines()
-    return [it[: -len(": test")] for it in lines if it.endswith(": test")]
+    ran = subprocess.run([str(program), "--list"], capture_output=True, text=True)
+    if ran.returncode:
+        stop(f"{program.name} does not list its tests: {ran.stderr}")
+    return [it[: -len(": test")] for it in ran.stdout.splitlines() if it.endswith(": test")]
 
 
 def main(names: list[str]) -> int:
