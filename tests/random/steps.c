@@ -339,9 +339,11 @@ static bool step_collect_rows(const struct step *step) {
     uint8_t *bits = arena_take(step->arena, (len + 7) / 8, 1);
     struct listing rows = {.arena = step->arena};
     sel_status status = SEL_OK;
-    for (size_t i = 0; i < count && status == SEL_OK; i += 1) {
+    for (size_t i = 0; i < count; i += 1) {
         entries[i] = i == 0 ? first : like(step, first);
-        status = sel_share(&entries[i]->column, &columns[i]);
+        if (status == SEL_OK) {
+            status = sel_share(&entries[i]->column, &columns[i]);
+        }
     }
     for (size_t i = 0; i < len; i += 1) {
         size_t source = draw(step->draws, count), row = draw(step->draws, entries[source]->rows.len);

@@ -70,6 +70,8 @@ def _check_result(found: Any, expected: Any, through_arrow: bool) -> None:
         if through_arrow and _has_arrow_format(expected):
             _check_column(Column.from_arrow(found), expected, "the result, through Arrow and back,")
     elif isinstance(expected, list) and isinstance(found, tuple):
+        if len(found) != len(expected):
+            raise Wrong(f"{len(found)} columns, not {len(expected)}")
         for column, rows in zip(found, expected):
             _check_result(column, rows, through_arrow)
     elif type(found) is not type(expected) or found != expected:
