@@ -177,6 +177,7 @@ def batches(capsule: object) -> Iterator[Typed]:
     The stream is released at the end, after an error, and when the iterator is closed.
     """
     stream, schema = _moved(ArrowArrayStream.from_address(_api.PyCapsule_GetPointer(capsule, _STREAM))), ArrowSchema()
+    del capsule  # else it might be freed while the StopIteration of this generator passes
     if not stream.release:
         raise error_of(ARROW_RELEASED, status_of(ARROW_RELEASED))
     try:

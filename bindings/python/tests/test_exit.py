@@ -29,6 +29,10 @@ class AtExit(unittest.TestCase):
         self.check("sys.kept = [coded.__arrow_c_array__(), coded.__arrow_c_schema__(), coded.__arrow_c_stream__()]\n")
         self.check("tables = sel.Stream(iter([sel.Table({'a': [1]})] * 3))\nsys.kept = iter(sel.Stream.from_arrow(tables))\nnext(sys.kept)\n")
 
+    def test_a_stream_that_ends(self) -> None:
+        """The capsule of a stream is not freed while the exception of its end passes, which ctypes would report."""
+        self.check("for table in sel.Stream.from_arrow(sel.Stream(iter([sel.Table({'a': [1]})]))): pass\n")
+
     def test_streams_that_were_begun(self) -> None:
         self.check("sys.kept = sel.Stream(iter([sel.Table({'a': [1]})])).__arrow_c_stream__(), sel.Column.from_arrow(coded)\n")
 
