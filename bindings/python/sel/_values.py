@@ -148,7 +148,7 @@ def python_value(type: ArrowType | None, kind: str) -> Converter | None:
     return bytes if format.startswith("w:") and type.kind == "fixed" else None
 
 
-# What stands for NaN, and what is beside the numbers of times and of booleans, so that they are equal to their own sort alone.
+# The value in place of NaN, and those beside the numbers of times and of booleans, so that they are equal to their own sort alone.
 _NAN = object()
 _SORTS = {name: object() for name in ("boolean", "date", "duration", "time", "timestamp", "timestamp of a zone", "tiM", "tiD", "tin")}
 
