@@ -3,7 +3,8 @@
 A `Column` is made of Python values, of a numpy array, of text, or of Arrow data of another library. Its methods and the functions
 of this module return new columns. The types are `null`, `bool`, `i8` to `i128`, `u8` to `u128`, `binary`, `binview` (binary views),
 `utf8` (string views), `list<..>`, `fixed<n,..>` (fixed-size lists) and `struct<..>`. Arrow's names are accepted as well: `int64`,
-`string`, `list<item: string>`, `fixed_size_list<item: int64>[2]`. The fields of structs have no names.
+`string`, `list<item: string>`, `fixed_size_list<item: int64>[2]`. The fields of such structs have no names; a type whose fields have names, as
+in `struct<id: int64>`, is a logical one.
 
 A column also has a logical type, an `ArrowType`, if it says more than the storage: `double`, `timestamp[ms, tz=UTC]`, dictionaries,
 and what else comes in from Arrow. A `Table` has columns with names; a `Stream` has tables one after the other.

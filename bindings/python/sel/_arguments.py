@@ -6,17 +6,48 @@ from collections.abc import Iterable
 from typing import Any
 
 from . import _arrays
+from ._arrow import Typed, imported_if_arrow
 from ._checks import ROW_INDEX, SIZE, integers_within, shown
+from ._logical import ArrowType, decoded
 from ._makers import made_of
 from ._memory import SIZE_CODE, Memory, validity_of, words
 from ._owner import Owner
-from ._types import Type
+from ._readers import rows_of
+from ._types import NUMBERS, Type
 
-__all__ = ["column_of", "columns_of", "indices_of", "mask_of", "picks_of", "sizes_of"]
+__all__ = ["column_of", "columns_of", "indices_of", "mask_of", "picks_of", "plain_column_of", "sizes_of"]
+
+# The formats of booleans and of the integers that count: the storage of other types has other meanings.
+_PLAIN_FORMATS = ("b", "c", "C", "s", "S", "i", "I", "l", "L")
+
+
+def plain_column_of(column: Owner, logical: ArrowType | None, name: str) -> Owner:
+    """Returns a column of indices or of booleans, decoded if it has a dictionary. Raises TypeError for another logical type."""
+    if logical is not None and logical.is_dictionary:
+        column, logical = decoded(column, logical)
+    if logical is not None and logical.format not in _PLAIN_FORMATS:
+        raise TypeError(f"{name}: a column of type {logical}, where integers or booleans are needed")
+    return column
+
+
+def _plain(values: Owner, name: str) -> Owner:
+    return plain_column_of(values, getattr(values, "_logical", None), name)
+
+
+def _of_arrow(found: Typed, name: str) -> tuple[Any, Any]:
+    """Returns the rows of a column of another library as a masked array of numpy, or as a list."""
+    column = plain_column_of(*found, name)
+    kind = column._kind()
+    if kind != "bool" and kind not in NUMBERS:
+        raise TypeError(f"{name}: a column of type {kind}, where integers or booleans are needed")
+    return (_arrays.opened(_arrays.array_of(column), name), None) if _arrays.can_be_array(column) else (None, rows_of(column))
 
 
 def _array_or_list(values: Any, name: str, dimensions: int = 1) -> tuple[Any, Any]:
     """Returns either a masked array of numpy's own types, or an iterable of Python values."""
+    found = imported_if_arrow(values) if dimensions == 1 else None
+    if found is not None:
+        return _of_arrow(found, name)
     if not _arrays.is_array(values):
         return None, values
     array = _arrays.opened(values, name, dimensions)
@@ -26,7 +57,7 @@ def _array_or_list(values: Any, name: str, dimensions: int = 1) -> tuple[Any, An
 def indices_of(values: Any, name: str) -> Owner:
     """Returns the column of row indices; `None` and masked values are null."""
     if isinstance(values, Owner):
-        return values
+        return _plain(values, name)
     array, entries = _array_or_list(values, name)
     if array is None:
         return made_of(integers_within(entries, name, ROW_INDEX, nulls=True), Type("u32"), name)
@@ -36,7 +67,7 @@ def indices_of(values: Any, name: str) -> Owner:
 def mask_of(values: Any, name: str) -> Owner:
     """Returns the column of a mask of booleans; `None` and masked values are null."""
     if isinstance(values, Owner):
-        return values
+        return _plain(values, name)
     array, entries = _array_or_list(values, name)
     if array is None:
         return made_of(list(entries), Type("bool"), name)

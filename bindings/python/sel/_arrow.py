@@ -5,10 +5,12 @@ from __future__ import annotations
 import ctypes
 import errno
 import os
+import sys
 import threading
 from ctypes import CFUNCTYPE, POINTER, byref, c_char_p, c_int, c_void_p, py_object
 from typing import Any, Iterator, Optional, Tuple
 
+from ._callbacks import NO_RELEASE, Release, callback
 from ._checks import shown
 from ._errors import BrokenRule, WrongArgument, error_of
 from ._library import ArrowArray, ArrowArrayStream, ArrowSchema, attempt, call, lib, status_of
@@ -16,7 +18,7 @@ from ._logical import ArrowType, TypeOwner, as_logical_of, common_type, logical_
 from ._owner import Owner, concatenated
 from ._statuses import ARROW_FORMAT, ARROW_RELEASED, OK
 
-__all__ = ["Typed", "batches", "export", "export_type", "imported", "new_stream"]
+__all__ = ["PASSED", "Typed", "batches", "export", "export_type", "imported", "imported_if_arrow", "new_stream"]
 
 _api = ctypes.pythonapi
 _api.PyCapsule_New.restype, _api.PyCapsule_New.argtypes = py_object, [c_void_p, c_char_p, c_void_p]
@@ -29,7 +31,6 @@ _give_back.restype, _give_back.argtypes = None, [c_void_p]
 
 # A capsule keeps a pointer to its name.
 _SCHEMA, _ARRAY, _STREAM = c_char_p(b"arrow_schema"), c_char_p(b"arrow_array"), c_char_p(b"arrow_array_stream")
-_Release = CFUNCTYPE(None, c_void_p)
 _GetNext = CFUNCTYPE(c_int, c_void_p, c_void_p)
 _GetLastError = CFUNCTYPE(c_char_p, c_void_p)
 
@@ -45,19 +46,22 @@ def _moved(there: Any) -> Any:
     return moved
 
 
-def _release(there: Any) -> None:
+# The defaults of the functions that capsules call are what they use: a capsule may be freed after the names of this module are gone.
+def _release(there: Any, function: Any = Release, address_of: Any = ctypes.addressof) -> None:
     """Releases a structure, unless it is empty, was moved, or was released before."""
     if there.release:
-        _Release(there.release)(ctypes.addressof(there))
+        function(there.release)(address_of(there))
 
 
 def _destructor(kind: Any, name: c_char_p) -> Any:
-    def destroy(capsule: int) -> None:
-        address = _address_in(capsule, name)
-        _release(kind.from_address(address))
-        _give_back(address)
+    """Returns the function that frees a capsule. See `_callbacks` for what an exception in flight does to it."""
 
-    return ctypes.PYFUNCTYPE(None, c_void_p)(destroy)
+    def destroy(capsule: int, address_in: Any = _address_in, release: Any = _release, give_back: Any = _give_back) -> None:
+        address = address_in(capsule, name)
+        release(kind.from_address(address))
+        give_back(address)
+
+    return callback(ctypes.PYFUNCTYPE(None, c_void_p), destroy)
 
 
 _DESTROY_SCHEMA, _DESTROY_ARRAY = _destructor(ArrowSchema, _SCHEMA), _destructor(ArrowArray, _ARRAY)
@@ -130,6 +134,22 @@ def imported(source: Any) -> tuple[Owner, ArrowType | None]:
 Typed = Tuple[Owner, Optional[ArrowType]]
 
 
+def imported_if_arrow(values: Any) -> Typed | None:
+    """Returns the column of values of another library that offer Arrow data, and its type; none if they do not, or are an array of numpy.
+
+    Other protocols of such values may lose nulls: numpy's makes NaN of them. Where an object needs a module for the Arrow data that is not
+    installed, as a Series of pandas does, it is taken as if it offered none.
+    """
+    numpy = sys.modules.get("numpy")
+    is_own = isinstance(values, Owner) or (numpy is not None and isinstance(values, numpy.ndarray))
+    if is_own or not (hasattr(values, "__arrow_c_array__") or hasattr(values, "__arrow_c_stream__")):
+        return None
+    try:
+        return imported(values)
+    except ImportError:
+        return None
+
+
 def _imported(array: ArrowArray, schema: ArrowSchema) -> Typed:
     """Returns the column of an array, which reads its buffers, and its logical type. Releases the array on an error."""
     made, found = Owner(), TypeOwner()
@@ -157,6 +177,7 @@ def batches(capsule: object) -> Iterator[Typed]:
     The stream is released at the end, after an error, and when the iterator is closed.
     """
     stream, schema = _moved(ArrowArrayStream.from_address(_api.PyCapsule_GetPointer(capsule, _STREAM))), ArrowSchema()
+    del capsule  # else it might be freed while the StopIteration of this generator passes
     if not stream.release:
         raise error_of(ARROW_RELEASED, status_of(ARROW_RELEASED))
     try:
@@ -179,15 +200,36 @@ def _import_stream(capsule: object) -> Typed:
     return concatenated(owners), logical
 
 
+class _Passed(threading.local):
+    """The exceptions of streams of this package, of which C passes only a status: a list while this thread waits for one."""
+
+    errors: list[BaseException] | None = None
+
+
+PASSED = _Passed()
+
+
+def _attempt_get(stream: ArrowArrayStream, function: int, out: ArrowArray | ArrowSchema) -> tuple[int, BaseException | None]:
+    """Calls a function of a stream. Returns its code, and the last exception of a stream of this package that was behind it."""
+    before, PASSED.errors = PASSED.errors, []
+    try:
+        code = _GetNext(function)(byref(stream), byref(out))
+        return code, PASSED.errors[-1] if PASSED.errors else None
+    finally:
+        PASSED.errors = before
+
+
 def _get(stream: ArrowArrayStream, function: int, out: ArrowArray | ArrowSchema) -> None:
     """Gets the schema or the next array of a stream by one of its functions, and raises the exception of the error that it returns."""
-    code = _GetNext(function)(byref(stream), byref(out))
+    code, cause = _attempt_get(stream, function, out)
     if code == 0:
         return
+    if cause is not None and not isinstance(cause, Exception):
+        raise cause
     text = _GetLastError(stream.get_last_error)(byref(stream))
     message = text.decode(errors="replace") if text else os.strerror(code)
     kinds: dict[int, type[Exception]] = {errno.ENOMEM: MemoryError, errno.EINVAL: ValueError, errno.ENOSYS: NotImplementedError}
-    raise kinds[code](message) if code in kinds else OSError(code, message)
+    raise (kinds[code](message) if code in kinds else OSError(code, message)) from cause
 
 
 def _chunks(stream: ArrowArrayStream, schema: ArrowSchema) -> Iterator[Typed]:
@@ -202,14 +244,13 @@ def _chunks(stream: ArrowArrayStream, schema: ArrowSchema) -> Iterator[Typed]:
 
 # The library does not look at what is below this level.
 _DEEPEST = 257
-_NO_RELEASE = _Release(lambda address: None)
 
 
 def _empty_array(schema: ArrowSchema, level: int = 0) -> ArrowArray:
     """Returns an array of a schema without rows. It has as many buffers as the format's layout: the library checks the format."""
     name = schema.format or b""
     buffers = 0 if name == b"+r" else 1 if name[:2] in (b"+s", b"+w") else 3 if name[:1] in (b"z", b"Z", b"u", b"U", b"v") or name[:2] == b"+v" else 2
-    array = ArrowArray(n_buffers=buffers, buffers=(c_void_p * buffers)(), n_children=schema.n_children, release=ctypes.cast(_NO_RELEASE, c_void_p))
+    array = ArrowArray(n_buffers=buffers, buffers=(c_void_p * buffers)(), n_children=schema.n_children, release=ctypes.cast(NO_RELEASE, c_void_p))
     if name[:1] == b"+" and schema.children and level < _DEEPEST:
         children = [schema.children[number] for number in range(schema.n_children)]
         array.children = (POINTER(ArrowArray) * len(children))(*[

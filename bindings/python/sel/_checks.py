@@ -9,14 +9,15 @@ import operator
 import reprlib
 import sys
 from collections.abc import Iterable
+from datetime import date, timedelta
 from typing import Any, NamedTuple
 
 from ._errors import OutOfBounds
 from ._statuses import INDEX_OUT_OF_BOUNDS
 
 __all__ = ["FIELD_NUMBER", "LIST_INDEX", "LIST_SIZE", "ROW_INDEX", "ROW_OFFSET", "SIZE", "Limits",
-           "boolean", "booleans", "error_out_of_bounds", "error_outside", "integer", "integer_within", "integers_within", "is_boolean", "is_integer",
-           "position_of", "shown"]
+           "boolean", "booleans", "checked_name", "error_out_of_bounds", "error_outside", "integer", "integer_within", "integers_within", "is_boolean", "is_integer",
+           "position_of", "real", "shown"]
 
 
 class Limits(NamedTuple):
@@ -51,6 +52,15 @@ def shown(value: object) -> str:
 def _numpy() -> Any:
     """Returns numpy if some module has imported it. If none has, no value is of a type of numpy."""
     return sys.modules.get("numpy")
+
+
+def checked_name(value: object, what: str) -> bytes:
+    """Returns a name as UTF-8. Raises TypeError if it is not a str, and ValueError if Arrow cannot have it: for a zero, where C's texts end."""
+    if not isinstance(value, str):
+        raise TypeError(f"{what}: the name {shown(value)} is of type {type(value).__name__}, not str")
+    if "\0" in value:
+        raise ValueError(f"{what}: the name {shown(value)} has a zero character")
+    return value.encode()
 
 
 def is_boolean(value: object) -> bool:
@@ -94,6 +104,28 @@ def integer(value: object, name: str) -> int:
     if not is_integer(value):
         raise TypeError(f"{name}: {shown(value)} is of type {type(value).__name__}, not an integer")
     return int(operator.index(value))  # type: ignore[arg-type]
+
+
+def _is_real(value: object) -> bool:
+    """Returns whether `float` gives the value of a number: not for booleans, texts, complex numbers, times and arrays, which it converts, too."""
+    if is_boolean(value) or isinstance(value, (str, bytes, bytearray, complex, date, timedelta)) or not hasattr(value, "__float__"):
+        return False
+    numpy = _numpy()
+    if numpy is not None and isinstance(value, numpy.generic):
+        return isinstance(value, (numpy.integer, numpy.floating)) and not isinstance(value, numpy.timedelta64)
+    return not hasattr(value, "__array__")
+
+
+def real(value: object, name: str) -> float:
+    """Returns a number as a float.
+
+    Raises TypeError if it is a boolean, a text, a complex number, an array or masked, or has no `__float__`.
+    """
+    if type(value) is float:
+        return value
+    if not _is_real(value):
+        raise TypeError(f"{name}: {shown(value)} is of type {type(value).__name__}, not a number")
+    return float(value)  # type: ignore[arg-type]
 
 
 def error_outside(value: int, name: str, limits: Limits) -> Exception:

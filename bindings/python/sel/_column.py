@@ -8,12 +8,14 @@ from ctypes import byref, c_bool, c_size_t
 from typing import TYPE_CHECKING, Any, overload
 
 from . import _arrays
-from ._arguments import column_of, columns_of, indices_of, mask_of, picks_of, sizes_of
+from ._arguments import column_of, columns_of, indices_of, mask_of, picks_of, plain_column_of, sizes_of
+from ._arrow import Typed, imported_if_arrow
 from ._checks import FIELD_NUMBER, LIST_INDEX, ROW_OFFSET, SIZE, boolean, integer_within, is_integer, position_of, shown
+from ._equality import has_equal_rows
 from ._errors import BrokenText, WrongArgument, error_of
 from ._indexing import selected
 from ._library import attempt, call, lib, status_of
-from ._logical import ArrowType, as_logical_of, common_type, decoded, nullable, of_format, storage_type
+from ._logical import ArrowType, as_logical_of, common_type, decoded, nullable, of_format, storage_type, with_arrow_types
 from ._makers import made_of
 from ._memory import _NOTHING, NO_VALIDITY, unpacked
 from ._names import VALID_NAMES, short_names
@@ -21,7 +23,7 @@ from ._owner import Owner, concatenated, derived, from_several
 from ._readers import printed, rows_of, text_of, validity_bits
 from ._selection import Selection
 from ._statuses import OK, ROW_SYNTAX, ROW_TYPE_MISMATCH, TYPE_MISMATCH, TYPE_SYNTAX
-from ._types import Type, parse_type, type_of_values
+from ._types import Type, check_levels, parse_type, type_of_values
 
 if TYPE_CHECKING:
     from typing import SupportsIndex, Union
@@ -73,21 +75,28 @@ class Column(Owner):
     def __new__(cls, values: Iterable[Any], type: str | Type | None = None) -> Self:
         """Makes the column of Python values, of the type or of the one that the first value has; `None` is null.
 
-        Integers of numpy and other objects with `__index__` are integers, a numpy.bool_ is a boolean, and neither is the other.
-        A column as the values keeps its type if none is given. Raises TypeError for a value of another type, OverflowError for an
-        integer that the type cannot hold, and LimitPassed, an OverflowError, for a type with more than 128 levels.
+        Integers of numpy and other objects with `__index__` are integers, a numpy.bool_ is a boolean, and neither is the other. Floats are
+        numbers with `__float__`, but no booleans, texts, arrays or complex numbers. Structs are tuples, or dicts if the type names the fields.
+        A column as the values, or Arrow data of another library, keeps its type if none is given. Raises TypeError for a value of another
+        type, OverflowError for an integer that the type cannot hold, ValueError for a dict with other keys than the names of the fields, and
+        LimitPassed, an OverflowError, for a type with more than 128 levels.
 
         >>> sel.Column([1, None], "uint8")
         Column(u8, [1,null])
         >>> sel.Column([(1, "a"), None])
         Column(struct<i64,utf8>, [(1,"a"),null])
+        >>> sel.Column([{"id": 1, "price": 2.5}], "struct<id: int64, price: double>").to_pylist()
+        [{'id': 1, 'price': 2.5}]
         """
-        if isinstance(values, Column) and type is None:
-            return cls._owning(derived(values, "sel_share"), values._logical)
-        rows = list(values)
+        found = _typed_if_column(values)
+        if found is not None and type is None:
+            return cls._owning(derived(found[0], "sel_share"), found[1])
+        rows = list(values) if found is None else rows_of(*found)
         wanted = type_of_values(rows) if type is None else parse_type(type) if isinstance(type, str) else type
         if not isinstance(wanted, Type):
             raise TypeError(f"type: {shown(type)} is neither a Type nor the text of one")
+        check_levels(wanted)
+        wanted = with_arrow_types(wanted)
         return cls._owning(made_of(rows, wanted), wanted if isinstance(wanted, ArrowType) else None)
 
     @staticmethod
@@ -103,12 +112,15 @@ class Column(Owner):
     def parse(type: str | Type, rows: str) -> Column:
         """Returns the column of a type with the rows of a text, both as `str` prints them, with JSON's white space and escapes.
 
-        Raises BrokenText, a ValueError with the place of the first character with which no such text goes on, or of the first value that does
-        not fit the type, and LimitPassed, an OverflowError.
+        The names of fields in the text of a type are left out. Raises BrokenText, a ValueError with the place of the first character with which
+        no such text goes on, or of the first value that does not fit the type, ValueError for a logical type, whose rows are not parsed, and
+        LimitPassed, an OverflowError.
 
         >>> sel.Column.parse("list<utf8>", '[["Ada", "Grace"], null]')
         Column(list<utf8>, [["Ada","Grace"],null])
         """
+        if isinstance(type, Type) and isinstance(with_arrow_types(type), ArrowType):
+            raise ValueError(f"type: rows of the logical type {type} are not parsed from text; Column(values, type) makes a column of it")
         made, place = Owner(), c_size_t()
         short, places = short_names(str(type))
         name, text = short.encode(), rows.encode()
@@ -344,20 +356,16 @@ class Column(Owner):
     def equals(self, other: Column) -> bool:
         """Returns whether both columns have the same rows, whatever their types. Null is equal to null.
 
+        Numbers are equal by their values, as in Python, but NaN is equal to NaN. So 0.0 is equal to -0.0, and a float to an integer or to
+        a float of another size. A time (a timestamp, date, time, duration or interval) is equal to the same one in another unit and to no
+        number, and a boolean to a boolean alone. Structs whose fields have names are not equal to others.
+
         >>> sel.Column([1, None], "i8").equals(sel.Column([1, None], "u64"))
         True
+        >>> sel.Column([0.0, float("nan")]).equals(sel.Column([-0.0, float("nan")], "float"))
+        True
         """
-        answer = c_bool()
-        column_of(other, "other")
-        first, second = self, other
-        if self._logical is not None or other._logical is not None:
-            try:
-                (one, two), _ = common_type((self, other), (self._logical, other._logical))
-            except WrongArgument:
-                return self.to_pylist() == other.to_pylist()
-            first, second = Column._owning(one), Column._owning(two)
-        call("sel_equal_rows", first, second, byref(answer))
-        return answer.value
+        return has_equal_rows((self, self._logical), (column_of(other, "other"), getattr(other, "_logical", None)))
 
     # ---- parts
 
@@ -444,7 +452,8 @@ class Column(Owner):
         """
         flag = boolean(null_on_oob, "null_on_oob")
         if isinstance(index, Column):
-            return self._new("sel_fixed_size_list_get_each", index, flag, logical=self._element_type())
+            places = plain_column_of(index, index._logical, "index")
+            return self._new("sel_fixed_size_list_get_each", places, flag, logical=self._element_type())
         return self._new("sel_fixed_size_list_get", integer_within(index, "index", LIST_INDEX), flag, logical=self._element_type())
 
     def list_element(self, index: SupportsIndex) -> Column:
@@ -607,6 +616,10 @@ class Column(Owner):
         return nullable(self._field_type(0), "")
 
 
+def _typed_if_column(values: Any) -> Typed | None:
+    """Returns a column, or Arrow data of another library as one, and its type; none for other values."""
+    return (values, values._logical) if isinstance(values, Column) else imported_if_arrow(values)
+
 
 def _with_type(rows: list[Any], storage: str, logical: ArrowType) -> Column:
     """Returns a column that was pickled."""
@@ -704,5 +717,7 @@ def propagate_dictionary(keys: Column, values: Column) -> tuple[Column, Column]:
     (Column(u32, [0,null,1,null]), Column(utf8, ["a","c"]))
     """
     new_keys, new_values = Owner(), Owner()
-    call("sel_propagate_dictionary", column_of(keys, "keys"), column_of(values, "values"), byref(new_keys._handle), byref(new_values._handle))
+    old_keys = plain_column_of(column_of(keys, "keys"), getattr(keys, "_logical", None), "keys")
+    words = values.decoded() if isinstance(values, Column) else column_of(values, "values")
+    call("sel_propagate_dictionary", old_keys, words, byref(new_keys._handle), byref(new_values._handle))
     return Column._owning(new_keys), Column._owning(new_values)

@@ -7,6 +7,8 @@ from collections.abc import Sequence
 from typing import Any
 
 from . import _arrays
+from ._arguments import plain_column_of
+from ._arrow import Typed, imported_if_arrow
 from ._checks import booleans, integer, is_boolean, position_of, shown
 from ._makers import made_of
 from ._memory import NO_VALIDITY, words
@@ -26,8 +28,9 @@ def selected(column: Owner, key: Any, name: str) -> Owner:
     """
     if isinstance(key, slice):
         return _sliced(column, key)
-    if isinstance(key, Owner):
-        return _by_column(column, key, name)
+    found = (key, getattr(key, "_logical", None)) if isinstance(key, Owner) else imported_if_arrow(key)
+    if found is not None:
+        return _by_column(column, found, name)
     if _arrays.is_array(key):
         return _by_array(column, key, name)
     if isinstance(key, (Sequence, array)) and not isinstance(key, _BYTES):
@@ -71,8 +74,9 @@ def _taken(column: Owner, rows: Owner) -> Owner:
     return derived(column, "sel_take", rows)
 
 
-def _by_column(column: Owner, key: Owner, name: str) -> Owner:
+def _by_column(column: Owner, found: Typed, name: str) -> Owner:
     """Selects by a column of booleans or of integers. A null boolean counts as false; a null integer gives a null row."""
+    key = plain_column_of(*found, name)
     kind = key._kind()
     if kind == "bool":
         return _filtered(column, key, name)

@@ -9,21 +9,19 @@ from __future__ import annotations
 import ctypes
 from array import array
 from collections.abc import Sequence
-from ctypes import CFUNCTYPE, POINTER, byref, c_char_p, c_int, c_size_t, c_ssize_t, c_ubyte, c_void_p, cast, py_object
-from itertools import count as numbers
+from ctypes import POINTER, byref, c_char_p, c_int, c_size_t, c_ssize_t, c_ubyte, c_void_p, cast, py_object
 from typing import Any, NamedTuple, Optional, Tuple
 
+from ._callbacks import NO_RELEASE, Numbers, Release, callback
 from ._library import ArrowArray, ArrowSchema, call
 from ._logical import TypeOwner
 from ._owner import Owner
 
 __all__ = ["Exported", "Piece", "Pinned", "bytes_at", "lent", "values_of"]
 
-_Release = CFUNCTYPE(None, c_void_p)
-
 # What the arrays that are not released refer to, by the number in their private data.
 _KEPT: dict[int, tuple[Any, list[Any]]] = {}
-_NUMBERS = numbers(1)
+_NUMBERS = Numbers()
 
 _NULLABLE = 2
 
@@ -46,19 +44,16 @@ def _released(address: int, structure: Any = ArrowArray, kept: dict[int, tuple[A
     kept.pop(there.private_data, None)
 
 
-_RELEASE, _NO_RELEASE = _Release(_released), _Release(lambda address: None)
-# Nor may the code be freed that the library calls.
-for _code in (_RELEASE, _NO_RELEASE):
-    ctypes.pythonapi.Py_IncRef(py_object(_code))
+_RELEASE = callback(Release, _released)
 
 
 def _structures(piece: Piece, parts: list[Any]) -> tuple[ArrowSchema, ArrowArray]:
     """Returns the schema and the array of a piece. The parts keep what these refer to."""
     below = [_structures(child, parts) for child in piece.children]
     buffers = (c_void_p * max(1, len(piece.buffers)))(*[address or None for address in piece.buffers])
-    schema = ArrowSchema(format=piece.format, metadata=piece.metadata, flags=_NULLABLE, n_children=len(below), release=cast(_NO_RELEASE, c_void_p))
+    schema = ArrowSchema(format=piece.format, metadata=piece.metadata, flags=_NULLABLE, n_children=len(below), release=cast(NO_RELEASE, c_void_p))
     there = ArrowArray(length=piece.length, null_count=piece.null_count, n_buffers=len(piece.buffers), buffers=buffers, n_children=len(below),
-                       release=cast(_NO_RELEASE, c_void_p))
+                       release=cast(NO_RELEASE, c_void_p))
     if below:
         schema.children = (POINTER(ArrowSchema) * len(below))(*[ctypes.pointer(one) for one, _ in below])
         there.children = (POINTER(ArrowArray) * len(below))(*[ctypes.pointer(one) for _, one in below])
@@ -68,7 +63,7 @@ def _structures(piece: Piece, parts: list[Any]) -> tuple[ArrowSchema, ArrowArray
 
 def lent(piece: Piece, keeps: object) -> Owner:
     """Returns the column of a piece, in the storage of its format. The object keeps the memory of the piece."""
-    made, number = Owner(), next(_NUMBERS)
+    made, number = Owner(), _NUMBERS.next()
     parts: list[Any] = []
     schema, there = _structures(piece, parts)
     there.private_data, there.release = number, cast(_RELEASE, c_void_p)
@@ -116,7 +111,7 @@ class Exported:
         self.array, self.schema = ArrowArray(), ArrowSchema()
         call("sel_export", column, type, byref(self.array), byref(self.schema))
 
-    def __del__(self, function: Any = _Release, address: Any = ctypes.addressof) -> None:
+    def __del__(self, function: Any = Release, address: Any = ctypes.addressof) -> None:
         for there in (self.array, self.schema):
             if there.release:
                 function(there.release)(address(there))

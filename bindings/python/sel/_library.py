@@ -87,11 +87,13 @@ def _packed(folder: Path, flags: frozenset[str]) -> list[str]:
 
 
 def _places() -> list[str]:
-    """Returns the paths to try: $SEL_LIBRARY, next to this file, the build folder of a checkout, and the system's own search."""
+    """Returns the paths to try: $SEL_LIBRARY alone, if it is set; else next to this file, the build folder of a checkout, and the system's own search."""
+    told = os.environ.get("SEL_LIBRARY")
+    if told:
+        return [told]
     here = Path(__file__).resolve()
-    told = [os.environ["SEL_LIBRARY"]] if "SEL_LIBRARY" in os.environ else []
     built = [str(up / "build" / "libsel.so") for up in list(here.parents)[2:4]]
-    return told + _packed(here.parent, _cpu_flags()) + [place for place in built if os.path.exists(place)] + ["libsel.so.1"]
+    return _packed(here.parent, _cpu_flags()) + [place for place in built if os.path.exists(place)] + ["libsel.so.1"]
 
 
 def _load() -> tuple[Any, Any]:
@@ -101,6 +103,8 @@ def _load() -> tuple[Any, Any]:
             return ctypes.CDLL(place), ctypes.PyDLL(place)
         except OSError as error:
             fault = error
+    if os.environ.get("SEL_LIBRARY"):
+        raise ImportError(f"SEL_LIBRARY is {place!r}, which cannot be loaded: {fault}")
     raise ImportError(f"libsel was not found (build it by make lib, or set SEL_LIBRARY to its path): {fault}")
 
 

@@ -5,8 +5,9 @@ from __future__ import annotations
 import ctypes
 from collections.abc import Sequence
 from ctypes import byref, c_size_t
-from typing import TYPE_CHECKING, Any
+from typing import TYPE_CHECKING, Any, overload
 
+from ._checks import checked_name
 from ._library import ArrowSchema, Handle, TypeHandle, call, lib
 from ._memory import room
 from ._owner import HandleOwner, Owner, derived
@@ -15,7 +16,8 @@ from ._types import KINDS, Type
 if TYPE_CHECKING:
     from typing_extensions import Self
 
-__all__ = ["ArrowType", "coded_type", "TypeOwner", "as_logical_of", "common_type", "decoded", "dictionary_of", "logical_type", "metadata_of", "nullable", "of_format", "storage_type", "type_parameter"]
+__all__ = ["ArrowType", "coded_type", "TypeOwner", "as_logical_of", "common_type", "decoded", "dictionary_of", "logical_type", "metadata_of", "nested_type", "nullable", "of_format",
+           "storage_type", "type_parameter", "with_arrow_types"]
 
 # ARROW_FLAG_NULLABLE in include/sel_arrow.h.
 _NULLABLE = 2
@@ -216,18 +218,37 @@ def type_parameter(type: ArrowType | None) -> TypeOwner:
 
 
 def of_format(format: str, children: Sequence[Type] = (), names: Sequence[str] = ()) -> ArrowType:
-    """Returns the type of an Arrow format over children, which get these names."""
+    """Returns the type of an Arrow format over children, which get these names. Raises ValueError for a name that Arrow cannot have."""
     handles = (TypeHandle * max(1, len(children)))()
     try:
         for number, child in enumerate(children):
             owner = child._owner if isinstance(child, ArrowType) else _of_storage(child)._owner
             name = names[number] if names else "item" if format != "+s" else str(number)
             is_nullable = not isinstance(child, ArrowType) or child.is_nullable
-            call("sel_type_as_field", owner, name.encode(), is_nullable, byref(handles[number]))
+            call("sel_type_as_field", owner, checked_name(name, "field"), is_nullable, byref(handles[number]))
         return ArrowType(_made("sel_type_new", format.encode(), handles, len(children)))
     finally:
         for handle in handles:
             lib.sel_type_free(byref(handle))
+
+
+_NESTED_FORMATS = {"list": "+L", "struct": "+s"}
+
+
+def nested_type(kind: str, children: Sequence[Type], width: int = 0, names: Sequence[str | None] = ()) -> Type:
+    """Returns a type over children: a logical type if a child has one, or if fields of structs have names. A field without one gets its number."""
+    has_names = any(name is not None for name in names)
+    if not any(isinstance(child, ArrowType) for child in children) and not (kind == "struct" and has_names):
+        return Type(kind, tuple(children), width)
+    given = [str(number) if name is None else name for number, name in enumerate(names)] if has_names else ()
+    return of_format(_NESTED_FORMATS.get(kind, f"+w:{width}"), children, given)
+
+
+def with_arrow_types(type: Type) -> Type:
+    """Returns the type as a logical type if it has one below it."""
+    if isinstance(type, ArrowType) or not type.children:
+        return type
+    return nested_type(type.kind, [with_arrow_types(child) for child in type.children], type.width)
 
 
 def _of_storage(type: Type) -> ArrowType:
@@ -242,11 +263,22 @@ def as_logical_of(column: Owner, type: ArrowType | None) -> ArrowType:
     return ArrowType(_made("sel_type_of_storage", column)) if type is None else type
 
 
-def nullable(type: ArrowType | None, name: str | None = None) -> ArrowType | None:
-    """Returns the type with null rows, and with another name if one is given."""
-    if type is None or (type.is_nullable and name is None):
-        return type
-    return ArrowType(_made("sel_type_as_field", type._owner, (type.name if name is None else name).encode(), True))
+@overload
+def nullable(type: ArrowType | None, name: str | None = None) -> ArrowType | None: ...
+
+
+@overload
+def nullable(type: Type, name: str | None = None, *, is_nullable: bool) -> ArrowType: ...
+
+
+def nullable(type: Type | None, name: str | None = None, *, is_nullable: bool = True) -> ArrowType | None:
+    """Returns the type with null rows, or without, and with another name if one is given."""
+    if type is None:
+        return None
+    logical = type if isinstance(type, ArrowType) else _of_storage(type)
+    if logical.is_nullable == is_nullable and name is None:
+        return logical
+    return ArrowType(_made("sel_type_as_field", logical._owner, (logical.name if name is None else name).encode(), is_nullable))
 
 
 def dictionary_of(type: ArrowType) -> tuple[Owner, ArrowType | None]:

@@ -10,13 +10,13 @@ from typing import Any
 
 from ._checks import Limits, booleans, integer_within, integers_within, shown
 from ._library import Slice, call
-from ._logical import ArrowType, dictionary_of
+from ._logical import ArrowType, dictionary_of, storage_type
 from ._memory import Memory, packed, validity_of, words
 from ._owner import Owner, from_several
 from ._types import NUMBERS, Type
-from ._values import has_values, storage_values
+from ._values import comparable_value, has_values, storage_values
 
-__all__ = ["CODES", "made_of"]
+__all__ = ["CODES", "made_of", "nulls"]
 
 # The type codes of the module `array` for the integers of 8 to 64 bits.
 CODES = {"int8": "b", "int16": "h", "int32": "i", "int64": "q", "uint8": "B", "uint16": "H", "uint32": "I", "uint64": "Q"}
@@ -45,24 +45,55 @@ def _make_logical(values: Sequence[Any], wanted: ArrowType, name: str, valid: Se
     if has_values(wanted):
         values = storage_values(values, wanted, name)
     if wanted.format == "+s":
-        names = [field.name for field in wanted.fields]
-        values = [tuple(map(value.get, names)) if isinstance(value, dict) else value for value in values]
+        values = _without_names(values, [field.name for field in wanted.fields], name)
     return _MAKERS.get(wanted.kind, _make_numbers)(values, wanted, name, valid)
 
 
+def _without_names(values: Sequence[Any], names: Sequence[str], name: str) -> list[Any]:
+    """Returns dicts as tuples of the values of these fields, and other values as they are. Raises ValueError for other keys than the fields."""
+    found: list[Any] = []
+    for position, value in enumerate(values):
+        if isinstance(value, dict):
+            if len(set(names)) < len(names):
+                raise ValueError(f"{name}[{position}]: a dict has no value for each of the fields {', '.join(map(repr, names))}, of which some have one name")
+            if value.keys() != set(names):
+                raise _error_of_keys(value, names, f"{name}[{position}]")
+            value = tuple(value[field] for field in names)
+        found.append(value)
+    return found
+
+
+def _error_of_keys(value: dict[Any, Any], names: Sequence[str], name: str) -> ValueError:
+    missing, unknown = [field for field in names if field not in value], [key for key in value if key not in names]
+    faults = [f"{text} {', '.join(map(shown, keys))}" for text, keys in (("has no", missing), ("has the unknown", unknown)) if keys]
+    return ValueError(f"{name}: {shown(value)} {' and '.join(faults)}; the fields are {', '.join(map(repr, names))}")
+
+
+def _key_of(row: Any) -> Any:
+    """Returns a row as a value that can be hashed and is equal for equal rows of one type."""
+    if isinstance(row, (list, tuple)):
+        return tuple(map(_key_of, row))
+    return tuple(map(_key_of, row.values())) if isinstance(row, dict) else row
+
+
 def _make_keys(values: Sequence[Any], wanted: ArrowType, name: str, valid: Sequence[bool]) -> Owner:
-    """Returns the keys of values that a dictionary has."""
+    """Returns the keys of values that a dictionary has. The values are converted to its type, and then compared as rows."""
     from ._readers import rows_of
 
-    places = {value: place for place, value in reversed(list(enumerate(rows_of(*dictionary_of(wanted)))))}
-    for position, value in enumerate(values):
-        if value is not None and value not in places:
+    dictionary, value_type = dictionary_of(wanted)
+    made = made_of(values, storage_type(dictionary) if value_type is None else value_type, name)
+    places = {_key_of(row): place for place, row in reversed(list(enumerate(rows_of(dictionary, value_type, comparable_value))))}
+    keys: list[int | None] = []
+    for position, (value, row) in enumerate(zip(values, rows_of(made, value_type, comparable_value))):
+        key = None if value is None else places.get(_key_of(row))
+        if key is None and value is not None:
             raise ValueError(f"{name}[{position}]: the dictionary does not have {shown(value)}")
-    keys = [None if value is None else places[value] for value in values]
+        keys.append(key)
     return _make_numbers(keys, Type(wanted.kind), name, valid)
 
 
-def _nulls(count: int) -> Owner:
+def nulls(count: int) -> Owner:
+    """Returns a column of type null with so many rows."""
     made = Owner()
     call("sel_null_new", count, byref(made._handle))
     return made
@@ -72,7 +103,7 @@ def _make_null(values: Sequence[Any], wanted: Type, name: str, valid: Sequence[b
     for position, value in enumerate(values):
         if value is not None:
             raise TypeError(f"{name}[{position}]: {shown(value)} is not None, and a column of type null has no values")
-    return _nulls(len(values))
+    return nulls(len(values))
 
 
 def _make_numbers(values: Sequence[Any], wanted: Type, name: str, valid: Sequence[bool]) -> Owner:
@@ -148,7 +179,8 @@ def _check_rows(values: Sequence[Any], name: str, kind: type[list[Any]] | type[t
         if value is None:
             continue
         if not isinstance(value, kind):
-            raise TypeError(f"{name}[{position}]: {shown(value)} is of type {type(value).__name__}, not {kind.__name__}")
+            hint = "; the fields of its type have no names" if isinstance(value, dict) and kind is tuple else ""
+            raise TypeError(f"{name}[{position}]: {shown(value)} is of type {type(value).__name__}, not {kind.__name__}{hint}")
         if length is not None and len(value) != length:
             raise ValueError(f"{name}[{position}]: {shown(value)} has {len(value)} values, not {length}")
 
@@ -166,7 +198,7 @@ def _fixed_list_items(values: Sequence[Any], wanted: Type, name: str) -> Owner:
     inner = wanted.children[0]
     if inner.kind == "null":
         _make_null([item for value in values for item in value or ()], inner, name, ())
-        return _nulls(len(values) * wanted.width)
+        return nulls(len(values) * wanted.width)
     empty = [None] * wanted.width if any(value is None for value in values) else []
     return made_of([item for value in values for item in (empty if value is None else value)], inner, name)
 

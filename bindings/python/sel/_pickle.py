@@ -3,10 +3,10 @@
 from __future__ import annotations
 
 import ctypes
-from itertools import count as numbers
 from ctypes import POINTER, byref, c_char_p, c_void_p, cast
 from typing import Any, Optional, Tuple
 
+from ._callbacks import NO_RELEASE, Numbers, Release, callback
 from ._library import ArrowArray, ArrowSchema, call
 from ._logical import ArrowType, TypeOwner, dictionary_of, metadata_of
 from ._owner import Owner
@@ -16,24 +16,22 @@ __all__ = ["described", "type_again"]
 # A level: its format, name, metadata and flags, its children, and the rows and the type of its dictionary.
 Level = Tuple[bytes, Optional[bytes], Optional[bytes], int, Tuple[Any, ...], Optional[Tuple[Any, ...]]]
 
-_Release = ctypes.CFUNCTYPE(None, c_void_p)
-_NO_RELEASE = _Release(lambda address: None)
-
 # What imported arrays refer to, until they are released, by the number in their private data.
 _kept: dict[int, list[Any]] = {}
-_next = numbers(1)
+_NUMBERS = Numbers()
 
 
-def _release_kept(address: int) -> None:
-    array = ArrowArray.from_address(address)
+# The defaults are what the function uses: a type may be freed after the names of this module are gone.
+def _release_kept(address: int, kind: Any = ArrowArray, kept: dict[int, list[Any]] = _kept, function: Any = Release, address_of: Any = ctypes.addressof) -> None:
+    array = kind.from_address(address)
     array.release = None
-    for structures in _kept.pop(array.private_data):
+    for structures in kept.pop(array.private_data):
         for structure in structures if len(structures) == 2 else ():
             if structure.release:
-                _Release(structure.release)(ctypes.addressof(structure))
+                function(structure.release)(address_of(structure))
 
 
-_RELEASE_KEPT = _Release(_release_kept)
+_RELEASE_KEPT = callback(Release, _release_kept)
 
 
 def _described(type: ArrowType, schema: ArrowSchema) -> Level:
@@ -54,7 +52,7 @@ def described(owner: TypeOwner) -> Level:
     try:
         return _described(ArrowType(owner), schema)
     finally:
-        _Release(schema.release)(ctypes.addressof(schema))
+        Release(schema.release)(ctypes.addressof(schema))
 
 
 def _buffers(format: bytes) -> int:
@@ -68,8 +66,8 @@ def _built(level: Level, kept: list[Any]) -> tuple[ArrowSchema, ArrowArray]:
     format, name, metadata, flags, children, dictionary = level
     below = [_built(child, kept) for child in children]
     count = _buffers(format)
-    schema = ArrowSchema(format=format, name=name, metadata=metadata, flags=flags, n_children=len(below), release=cast(_NO_RELEASE, c_void_p))
-    array = ArrowArray(n_buffers=count, buffers=(c_void_p * max(1, count))(), n_children=len(below), release=cast(_NO_RELEASE, c_void_p))
+    schema = ArrowSchema(format=format, name=name, metadata=metadata, flags=flags, n_children=len(below), release=cast(NO_RELEASE, c_void_p))
+    array = ArrowArray(n_buffers=count, buffers=(c_void_p * max(1, count))(), n_children=len(below), release=cast(NO_RELEASE, c_void_p))
     if below:
         schema.children = (POINTER(ArrowSchema) * len(below))(*[ctypes.pointer(one) for one, _ in below])
         array.children = (POINTER(ArrowArray) * len(below))(*[ctypes.pointer(one) for _, one in below])
@@ -86,7 +84,7 @@ def type_again(level: Level) -> ArrowType:
     """Returns the type of nested tuples."""
     kept: list[Any] = []
     made, owner = Owner(), TypeOwner()
-    number = next(_next)
+    number = _NUMBERS.next()
     _kept[number] = kept
     top = ArrowArray(private_data=number, release=cast(_RELEASE_KEPT, c_void_p))
     try:

@@ -18,7 +18,7 @@ from ._makers import CODES
 from ._memory import NO_VALIDITY, Memory, room, room_for_bits, unpacked, words
 from ._owner import Owner, derived
 from ._types import NUMBERS
-from ._values import python_value
+from ._values import Converters, python_value
 
 __all__ = ["compacted", "is_mostly", "printed", "rows_of", "text_of", "validity_bits"]
 
@@ -35,37 +35,37 @@ def validity_bits(owner: Owner) -> Memory | None:
     return bits if has.value else None
 
 
-def rows_of(owner: Owner, logical: ArrowType | None = None) -> list[Any]:
-    """Returns the rows as Python values of the logical type, `None` for null."""
+def rows_of(owner: Owner, logical: ArrowType | None = None, converters: Converters = python_value) -> list[Any]:
+    """Returns the rows as Python values of the logical type, `None` for null. The converters are those of types without children."""
     if logical is not None and logical.is_dictionary:
-        return _read_keys(owner, logical)
+        return _read_keys(owner, logical, converters)
     kind = owner._kind()
     if kind == "null":
         return [None] * len(owner)
     bits = validity_bits(owner)
     if bits is None:
-        return _values_of(owner, kind, logical)
+        return _values_of(owner, kind, logical, converters)
     valid = unpacked(bits, len(owner))
     if kind not in _VARIABLE:
-        return [value if is_valid else None for value, is_valid in zip(_values_of(owner, kind, logical), valid)]
-    values = iter(_values_of(derived(owner, "sel_filter_bits", bits, bits.size(), len(valid)), kind, logical))
+        return [value if is_valid else None for value, is_valid in zip(_values_of(owner, kind, logical, converters), valid)]
+    values = iter(_values_of(derived(owner, "sel_filter_bits", bits, bits.size(), len(valid)), kind, logical, converters))
     return [next(values) if is_valid else None for is_valid in valid]
 
 
-def _read_keys(owner: Owner, logical: ArrowType) -> list[Any]:
+def _read_keys(owner: Owner, logical: ArrowType, converters: Converters) -> list[Any]:
     """Returns for each key the value of the dictionary that it names."""
     dictionary, value_type = dictionary_of(logical)
-    values = rows_of(dictionary, value_type)
+    values = rows_of(dictionary, value_type, converters)
     return [None if key is None else values[key] for key in rows_of(owner)]
 
 
-def _values_of(owner: Owner, kind: str, logical: ArrowType | None) -> list[Any]:
+def _values_of(owner: Owner, kind: str, logical: ArrowType | None, converters: Converters) -> list[Any]:
     """Returns the values of all rows, those of null slots too."""
     if kind in _NESTED and (logical is None or logical.format.startswith("+")):
-        return _NESTED[kind](owner, logical)
+        return _NESTED[kind](owner, logical, converters)
     reader = _READERS.get(kind)
-    values = _NESTED[kind](owner, None) if kind in _NESTED else _read_numbers(owner, kind) if reader is None else reader(owner)
-    convert = None if logical is None else python_value(logical)
+    values = _NESTED[kind](owner, None, python_value) if kind in _NESTED else _read_numbers(owner, kind) if reader is None else reader(owner)
+    convert = converters(logical, kind)
     return values if convert is None else list(map(convert, values))
 
 
@@ -184,37 +184,39 @@ def _printed_bytes(owner: Owner, size: int) -> list[Any]:
     return [bytes.fromhex(piece[2:-1]) for piece in text[1:-1].split(",")]
 
 
-def _read_lists(owner: Owner, logical: ArrowType | None) -> list[Any]:
+def _read_lists(owner: Owner, logical: ArrowType | None, converters: Converters) -> list[Any]:
     offsets = _offsets(owner)
     first = offsets[0]
     part = derived(derived(owner, "sel_child"), "sel_slice", first, offsets[-1] - first)
     if logical is not None and logical.format == "+m":
-        items: list[Any] = _tuples(part, logical.fields[0].fields)
+        items: list[Any] = _tuples(part, logical.fields[0].fields, converters)
     else:
-        items = rows_of(part, None if logical is None else logical.fields[0])
+        items = rows_of(part, None if logical is None else logical.fields[0], converters)
     return [items[start - first : end - first] for start, end in zip(offsets, offsets[1:])]
 
 
-def _read_fixed_lists(owner: Owner, logical: ArrowType | None) -> list[Any]:
-    width, items = owner._size("sel_fixed_size_list_size"), rows_of(derived(owner, "sel_child"), None if logical is None else logical.fields[0])
+def _read_fixed_lists(owner: Owner, logical: ArrowType | None, converters: Converters) -> list[Any]:
+    width = owner._size("sel_fixed_size_list_size")
+    items = rows_of(derived(owner, "sel_child"), None if logical is None else logical.fields[0], converters)
     return [items[position * width : (position + 1) * width] for position in range(len(owner))]
 
 
-def _tuples(owner: Owner, fields: Sequence[ArrowType | None]) -> list[Any]:
+def _tuples(owner: Owner, fields: Sequence[ArrowType | None], converters: Converters) -> list[Any]:
     if not fields:
         return [()] * len(owner)
-    return list(zip(*[rows_of(derived(owner, "sel_field", number), field) for number, field in enumerate(fields)]))
+    return list(zip(*[rows_of(derived(owner, "sel_field", number), field, converters) for number, field in enumerate(fields)]))
 
 
-def _read_structs(owner: Owner, logical: ArrowType | None) -> list[Any]:
+def _read_structs(owner: Owner, logical: ArrowType | None, converters: Converters) -> list[Any]:
     """Returns structs as dicts if the names of their fields are known and distinct, else as tuples."""
     if logical is None:
-        return _tuples(owner, [None] * owner._size("sel_field_count"))
+        return _tuples(owner, [None] * owner._size("sel_field_count"), converters)
     names = [field.name for field in logical.fields]
-    rows = _tuples(owner, logical.fields)
+    rows = _tuples(owner, logical.fields, converters)
     return [dict(zip(names, row)) for row in rows] if all(names) and len(set(names)) == len(names) else rows
 
 
 _READERS = {"bool": _read_booleans, "binary": _read_bytes, "binview": _read_views, "utf8": _read_views}
-_NESTED: dict[str, Callable[[Owner, ArrowType | None], list[Any]]] = {"list": _read_lists, "fixed": _read_fixed_lists, "struct": _read_structs}
+_NESTED: dict[str, Callable[[Owner, ArrowType | None, Converters], list[Any]]] = {
+    "list": _read_lists, "fixed": _read_fixed_lists, "struct": _read_structs}
 _VARIABLE = ("binary", "binview", "utf8", "list", "fixed", "struct")

@@ -6,7 +6,8 @@ from collections.abc import Iterator
 from ctypes import CFUNCTYPE, POINTER, byref, c_uint32, c_void_p
 from typing import Any, Dict
 
-from ._arrow import Typed, new_stream
+from ._arrow import PASSED, Typed, new_stream
+from ._callbacks import Numbers, callback
 from ._errors import SelError, error_of
 from ._library import Handle, TypeHandle, call, lib, status_of
 from ._logical import ArrowType, as_logical_of
@@ -19,35 +20,46 @@ _Free = CFUNCTYPE(None, c_void_p)
 
 # The iterators of the streams that are not released, by the number that the library passes back.
 _OPEN: Dict[int, Iterator[Typed]] = {}
-_NUMBERS = iter(range(1, 1 << 62))
+_NUMBERS = Numbers()
 
 
-def _next_batch(number: int, out: Any, type: Any) -> int:
-    try:
-        column, logical = next(_OPEN[number])
+def _share_next(batches: Iterator[Typed], out: Any, type: Any) -> int:
+    """Writes the next batch and its type, if there is one."""
+    for column, logical in batches:
         call("sel_share", column, out)
         call("sel_type_share", as_logical_of(column, logical)._owner, type)
-    except StopIteration:
-        return OK
-    except SelError as error:
-        return error.status
-    except MemoryError:
-        return OUT_OF_MEMORY
-    except Exception:  # an exception cannot pass through the consumer: the stream reports an error
-        return ARROW_STREAM
+        break
     return OK
 
 
-def _free_batches(number: int) -> None:
-    _OPEN.pop(number, None)
+# No exception can pass through the consumer, not even KeyboardInterrupt: where one leaves the function, ctypes returns any number, and 0
+# would be the end of the stream. A consumer of this package gets the exception itself. The defaults are what the function uses: a stream may
+# be read after the names of this module are gone.
+def _next_batch(number: int, out: Any, type: Any, open: Dict[int, Iterator[Typed]] = _OPEN, share: Any = _share_next, passed: Any = PASSED,
+                statuses: Any = (SelError, MemoryError, OUT_OF_MEMORY, ARROW_STREAM)) -> int:
+    try:
+        return int(share(open[number], out, type))
+    except BaseException as error:
+        if passed.errors is not None:
+            passed.errors.append(error)
+        if isinstance(error, statuses[0]):
+            return int(error.status)
+        return int(statuses[2] if isinstance(error, statuses[1]) else statuses[3])
 
 
-_NEXT, _FREE = _Next(_next_batch), _Free(_free_batches)
+def _free_batches(number: int, open: Dict[int, Iterator[Typed]] = _OPEN) -> None:
+    open.pop(number, None)
+
+
+_NEXT, _FREE = callback(_Next, _next_batch), callback(_Free, _free_batches)
 
 
 def stream_of(batches: Iterator[Typed], type: ArrowType) -> object:
-    """Returns a capsule with a stream of columns of a type, which are taken from the iterator as the consumer asks for them."""
-    number = next(_NUMBERS)
+    """Returns a capsule with a stream of columns of a type, which are taken from the iterator as the consumer asks for them.
+
+    See `_callbacks` for what happens to an exception that passes while a consumer in C releases the stream.
+    """
+    number = _NUMBERS.next()
     stream, capsule = new_stream()
     _OPEN[number] = batches
     status = int(lib.sel_stream_export(byref(type._owner._handle), _NEXT, number, _FREE, byref(stream)))

@@ -2,16 +2,17 @@
 
 from __future__ import annotations
 
-from collections.abc import Iterable, Iterator, Mapping
+from collections.abc import Callable, Iterable, Iterator, Mapping
 from typing import TYPE_CHECKING, Any, SupportsIndex
 
 from . import _arrays
 from ._arguments import indices_of, mask_of
-from ._arrow import Typed, batches, export, export_type, imported
-from ._checks import is_integer, position_of, shown
+from ._arrow import Typed, batches, export, export_type, imported, imported_if_arrow
+from ._checks import checked_name, is_integer, position_of, shown
 from ._column import Column, choose
 from ._library import call
 from ._logical import ArrowType, as_logical_of, of_format
+from ._makers import nulls
 from ._memory import NO_VALIDITY
 from ._owner import Owner, derived, from_several
 from ._readers import text_of
@@ -42,10 +43,13 @@ class Table:
     __slots__ = ("_columns", "_length", "_names")
 
     def __init__(self, columns: Mapping[str, Any]) -> None:
-        """Makes a table of columns, arrays of numpy or lists of Python values. Raises ValueError for columns of several lengths.
+        """Makes a table of columns, Arrow data of other libraries, arrays of numpy or lists of Python values.
 
-        The columns of arrays read their memory, as those of `Column.from_numpy` do: nobody may write to the arrays meanwhile.
+        Raises ValueError for columns of several lengths and for a name with a zero character, and TypeError for a name that is no str. The
+        columns of arrays read their memory, as those of `Column.from_numpy` do: nobody may write to the arrays meanwhile.
         """
+        for name in columns:
+            checked_name(name, "columns")
         made = [_column_of(values) for values in columns.values()]
         self._set(list(columns), made, len(made[0]) if made else 0)
 
@@ -121,19 +125,28 @@ class Table:
             return self.column(key)
         if is_integer(key):
             place = position_of(key, "index", self._length)
+            self._check_distinct()
             return {name: column[place] for name, column in zip(self._names, self._columns)}
-        return self._each([column[key] for column in self._columns])
+        return self._each([column[key] for column in self._columns], lambda: len(self._rows()[key]))
+
+    def _check_distinct(self) -> None:
+        """Raises ValueError if some columns have one name: a dict has one value for it."""
+        if len(set(self._names)) < len(self._names):
+            twice = next(name for name in self._names if self._names.count(name) > 1)
+            raise ValueError(f"several columns have the name {twice!r}, and a dict would have one of them; `columns` has them all")
 
     def to_pydict(self) -> dict[str, list[Any]]:
-        """Returns the rows of each column as Python values, by name."""
+        """Returns the rows of each column as Python values, by name. Raises ValueError if some columns have one name."""
+        self._check_distinct()
         return {name: column.to_pylist() for name, column in zip(self._names, self._columns)}
 
     def to_pylist(self) -> list[dict[str, Any]]:
-        """Returns each row as a dict.
+        """Returns each row as a dict. Raises ValueError if some columns have one name.
 
         >>> sel.Table({"a": [1, None]}).to_pylist()
         [{'a': 1}, {'a': None}]
         """
+        self._check_distinct()
         rows = zip(*[column.to_pylist() for column in self._columns]) if self._columns else iter([()] * self._length)
         return [dict(zip(self._names, row)) for row in rows]
 
@@ -167,7 +180,7 @@ class Table:
     def filter(self, mask: Column | Iterable[Boolean | None] | Array | Selection) -> Table:
         """Returns the rows where the mask is true, as `Column.filter` does. The mask is prepared once for all columns."""
         selection = mask if isinstance(mask, Selection) else Selection(mask)
-        return self._each([column.filter(selection) for column in self._columns], lambda: len(Column([None] * self._length).filter(selection)))
+        return self._each([column.filter(selection) for column in self._columns], lambda: len(self._rows().filter(selection)))
 
     def take(self, indices: Column | Iterable[SupportsIndex | None] | Array) -> Table:
         """Returns the rows at the indices, as `Column.take` does.
@@ -176,11 +189,11 @@ class Table:
         {'a': [2, 2, None], 'b': ['y', 'y', None]}
         """
         prepared = Column._owning(derived(indices_of(indices, "indices"), "sel_share"))
-        return self._each([column.take(prepared) for column in self._columns], lambda: len(prepared))
+        return self._each([column.take(prepared) for column in self._columns], lambda: len(self._rows().take(prepared)))
 
     def slice(self, offset: SupportsIndex, length: SupportsIndex) -> Table:
         """Returns `length` rows from row `offset` on, which share memory with this table."""
-        return self._each([column.sliced(offset, length) for column in self._columns], lambda: len(Column([None] * self._length).sliced(offset, length)))
+        return self._each([column.sliced(offset, length) for column in self._columns], lambda: len(self._rows().sliced(offset, length)))
 
     def if_else(self, mask: Column | Iterable[Boolean | None] | Array, other: Table) -> Table:
         """Returns the rows of this table where the mask is true, and else those of the other one, which has the same columns.
@@ -191,7 +204,7 @@ class Table:
         if self._names != other._names:
             raise ValueError(f"other: the columns are {other._names}, and not {self._names}")
         prepared = Column._owning(derived(mask_of(mask, "mask"), "sel_share"))
-        return self._each([choose(prepared, one, two) for one, two in zip(self._columns, other._columns)], lambda: self._length)
+        return self._each([choose(prepared, one, two) for one, two in zip(self._columns, other._columns)], lambda: len(choose(prepared, self._rows(), other._rows())))
 
     # ---- Arrow
 
@@ -216,9 +229,14 @@ class Table:
 
     # ---- internal
 
-    def _each(self, columns: list[Column], length: Any = None) -> Table:
+    def _rows(self) -> Column:
+        """Returns a column of nulls, which stands for the rows where there is no column."""
+        return Column._owning(nulls(self._length))
+
+    def _each(self, columns: list[Column], length: Callable[[], int]) -> Table:
+        """Returns the columns as a table with these names, and so many rows if there is no column."""
         made = object.__new__(Table)
-        made._set(self._names, columns, len(columns[0]) if columns else length() if length else 0)
+        made._set(self._names, columns, len(columns[0]) if columns else length())
         return made
 
 
@@ -232,6 +250,9 @@ def _table_again(names: list[str], columns: list[Column], length: int) -> Table:
 def _column_of(values: Any) -> Column:
     if isinstance(values, Column):
         return values
+    found = imported_if_arrow(values)
+    if found is not None:
+        return Column._owning(*found)
     return Column.from_numpy(values) if _arrays.is_array(values) else Column(values)
 
 
@@ -278,7 +299,11 @@ class Stream:
         return self._tables
 
     def __arrow_c_stream__(self, requested_schema: object = None) -> object:
-        """Returns a capsule with a stream of the tables. The first one gives the schema; raises ValueError if there is none."""
+        """Returns a capsule with a stream of the tables. The first one gives the schema; raises ValueError if there is none.
+
+        An exception of the iterator is an error of the stream: `Stream.from_arrow` raises KeyboardInterrupt and the like themselves, and
+        others as the cause of its own.
+        """
         first = next(self._tables, None)
         if first is None:
             raise ValueError("a stream without tables has no schema")

@@ -7,10 +7,13 @@ from collections.abc import Sequence
 from dataclasses import dataclass
 from typing import Any
 
-from ._checks import LIST_SIZE, integer_within, is_boolean, is_integer
-from ._names import LOGICAL_NAMES, VALID_NAMES, format_of_value, logical_format, short_names
+from ._checks import LIST_SIZE, integer_within, is_boolean, is_integer, shown
+from ._errors import SelError, error_of
+from ._library import status_of
+from ._names import LOGICAL_NAMES, LONG_NAMES, VALID_NAMES, format_of_value, logical_format
+from ._statuses import TOO_DEEP
 
-__all__ = ["KINDS", "NUMBERS", "Type", "parse_type", "type_of_values"]
+__all__ = ["KINDS", "NUMBERS", "Type", "check_levels", "parse_type", "type_of_values"]
 
 # The kinds in the order of their numbers in sel.h, as they are written in a type.
 KINDS = ("null", "bool", "i8", "i16", "i32", "i64", "i128", "u8", "u16", "u32", "u64", "u128", "binary", "binview", "utf8", "list", "fixed", "struct")
@@ -24,7 +27,8 @@ NUMBERS = {"i8": ("int8", -8), "i16": ("int16", -16), "i32": ("int32", -32), "i6
 class Type:
     """The type of a column: its kind, the types of its children, and the list size of fixed-size lists.
 
-    Types are compared by `==`, can be hashed, and print as in `list<fixed<2,i64>>`.
+    Types are compared by `==`, can be hashed, and print as in `list<fixed<2,i64>>`. A column of a type with a logical type below it has
+    the logical type that `parse_type` gives for it. Raises ValueError for a kind that there is not, and for another number of children.
 
     >>> sel.Type("list", (sel.Type("i64"),)) == sel.parse_type("list<item: int64>")
     True
@@ -35,7 +39,16 @@ class Type:
     width: int = 0
 
     def __post_init__(self) -> None:
+        object.__setattr__(self, "children", tuple(self.children))
         object.__setattr__(self, "width", integer_within(self.width, "width", LIST_SIZE))
+        if self.kind not in KINDS:
+            raise ValueError(f"there is no type {shown(self.kind)}; the kinds are {', '.join(KINDS)}")
+        for child in self.children:
+            if not isinstance(child, Type):
+                raise TypeError(f"children: {shown(child)} is of type {type(child).__name__}, not a Type")
+        count = 1 if self.kind in ("list", "fixed") else 0
+        if self.kind != "struct" and len(self.children) != count:
+            raise ValueError(f"{self.kind} has {len(self.children)} child types, not {count}")
 
     def __str__(self) -> str:
         """Returns the short name of the type.
@@ -49,82 +62,167 @@ class Type:
         return f"{self.kind}<{inner}>" if self.kind in ("list", "struct") else self.kind
 
 
-# White space as in JSON, and a bracket or a comma with such space around it.
+# The levels of lists and structs of a column, and those of a text that is read, so that a type may be too deep for a column.
+_MOST_LEVELS, _MOST_READ = 128, 256
+
+
+def _error_too_deep() -> SelError:
+    return error_of(TOO_DEEP, status_of(TOO_DEEP))
+
+
+def check_levels(type: Type) -> None:
+    """Raises LimitPassed for a type with more levels than a column has."""
+    types: tuple[Type, ...] = (type,)
+    count = 0
+    while types := tuple(child for each in types for child in each.children):
+        count += 1
+        if count > _MOST_LEVELS + 1:  # what has one level too many may be the bytes of a value; the library knows
+            raise _error_too_deep()
+
+
+# White space as in JSON.
 _SPACE = " \t\n\r"
-_SPACED = re.compile(rf"[{_SPACE}]*([<>,])[{_SPACE}]*")
+_COMMA = re.compile(rf"[{_SPACE}]*,[{_SPACE}]*")
+_SIZE_FIRST, _SIZE_LAST = re.compile(rf"[{_SPACE}]*([0-9]+)[{_SPACE}]*,"), re.compile(r"\[([0-9]+)\]")
+_NOT_NULL = re.compile(rf"[{_SPACE}]not null[{_SPACE}]*\Z")
 
 
 def parse_type(text: str) -> Type:
-    """Returns the type that a text names; white space between its parts is skipped. Arrow's longer names are accepted, too, also with names of fields.
+    """Returns the type that a text names; white space between its parts is skipped. Arrow's longer names are accepted, too.
 
-    Raises ValueError if it names none, and OverflowError if a list size is more than 4,294,967,295.
+    Structs whose fields have names are an `ArrowType` with these names, and so is what has such a struct or another logical type below it.
+    The text of a logical type gives the type again, also with `not null` behind fields, unless it has dictionaries, maps, extensions, or
+    strings, binary or lists of another layout than the columns that are made here.
 
-    >>> str(sel.parse_type("struct<id: int64, tags: list<item: string>>"))
-    'struct<i64,list<utf8>>'
+    Raises ValueError if the text names no type, OverflowError if a list size is more than 4,294,967,295, and LimitPassed, an OverflowError,
+    for more than 256 levels.
+
+    >>> str(sel.parse_type("list<item: fixed_size_list<item: int64>[2]>"))
+    'list<fixed<2,i64>>'
+    >>> str(sel.parse_type("struct<id: int64, price: double>"))
+    'struct<id: i64, price: double>'
     """
-    plain = _SPACED.sub(r"\1", short_names(text)[0]).strip(_SPACE)
-    found, rest = _read(plain)
+    reader = _Reader(text)
+    found = reader.type(0)
+    rest = text[reader.place :].strip(_SPACE)
     if rest:
         raise ValueError(f"{text!r} has {rest!r} after the end of its type")
     return found
 
 
-def _read(text: str) -> tuple[Type, str]:
-    end = _end_of_word(text)
-    kind, rest = text[:end], text[end:]
-    format = logical_format(kind)
-    if format is not None:
-        from ._logical import of_format
-
-        return of_format(format), rest
-    if kind not in KINDS:
-        raise ValueError(f"there is no type {kind!r}; {VALID_NAMES}; {LOGICAL_NAMES}")
-    if kind not in ("list", "fixed", "struct"):
-        return Type(kind), rest
-    if not rest.startswith("<"):
-        raise ValueError(f"{kind} must be followed by the types of its children, as in {kind}<i64>")
-    rest, width = rest[1:], 0
-    if kind == "fixed":
-        width, rest = _read_width(rest)
-    children: list[Type] = []
-    while not rest.startswith(">"):
-        child, rest = _read(rest)
-        children.append(child)
-        if not rest.startswith(","):
-            break
-        rest = rest[1:]
-    if not rest.startswith(">") or (kind != "struct" and len(children) != 1):
-        raise ValueError(f"{kind} is not closed, or it does not have exactly one child type")
-    if any(type(child) is not Type for child in children):
-        from ._logical import of_format
-
-        return of_format({"list": "+L", "struct": "+s"}.get(kind, f"+w:{width}"), children), rest[1:]
-    return Type(kind, tuple(children), width), rest[1:]
-
-
-def _end_of_word(text: str) -> int:
-    """Returns the length of the word at the beginning; a comma in square or round brackets belongs to it."""
+def _end_of_word(text: str, start: int, ends: str) -> int:
+    """Returns the end of the word from a place on: at one of these characters, which belong to it within square or round brackets."""
     depth = 0
-    for place, letter in enumerate(text):
+    for place in range(start, len(text)):
+        letter = text[place]
         depth += {"[": 1, "(": 1, "]": -1, ")": -1}.get(letter, 0)
-        if letter in "<>" or (letter == "," and depth <= 0):
+        if letter in "<>" or (letter in ends and depth <= 0):
             return place
     return len(text)
 
 
-def _read_width(text: str) -> tuple[int, str]:
-    digits, comma, rest = text.partition(",")
-    if not comma or not (digits.isascii() and digits.isdecimal()):
-        raise ValueError("fixed must begin with a list size, as in fixed<2,i64>")
+def _size_of(digits: str) -> int:
+    """Returns a list size. Raises OverflowError if it is too large."""
     significant = digits.lstrip("0")
     # Python may refuse to convert a text of thousands of digits.
     if len(significant) > 100:
         raise OverflowError(f"list size: {significant[:20]}.. of {len(significant)} digits is outside [{LIST_SIZE.least}, {LIST_SIZE.most}]")
-    return integer_within(int(significant or "0"), "list size", LIST_SIZE), rest
+    return integer_within(int(significant or "0"), "list size", LIST_SIZE)
 
 
-def type_of_values(values: Sequence[Any]) -> Type:
-    """Returns the type of Python values by the first that is not `None`; `null` if there is none. Integers have type `i64`."""
+class _Reader:
+    """Reads the text of a type from left to right."""
+
+    def __init__(self, text: str) -> None:
+        self.text, self.place = text, 0
+
+    def takes(self, sign: str) -> bool:
+        """Returns whether a sign comes next, behind white space, and skips it if it does."""
+        while self.text[self.place : self.place + 1] in tuple(_SPACE):
+            self.place += 1
+        found = self.text.startswith(sign, self.place)
+        self.place += len(sign) if found else 0
+        return found
+
+    def matches(self, pattern: re.Pattern[str]) -> str | None:
+        """Returns the group of a pattern that comes next, and skips it; none if it does not."""
+        found = pattern.match(self.text, self.place)
+        if found is None:
+            return None
+        self.place = found.end()
+        return found[1]
+
+    def name(self) -> str | None:
+        """Returns the name of a field, which is behind white space and before a colon; none if there is no name."""
+        end = _end_of_word(self.text, self.place, ",:")
+        if self.text[end : end + 1] != ":":
+            return None
+        start, self.place = self.place, end + 1
+        return self.text[start:end].strip(_SPACE)
+
+    def word(self) -> str:
+        """Returns the name of a type without the spaces around it and around commas; `not null` behind it is left."""
+        start, end = self.place, _end_of_word(self.text, self.place, ",")
+        found = _NOT_NULL.search(self.text, start, end)
+        self.place = end if found is None else found.start()
+        return _COMMA.sub(",", self.text[start : self.place]).strip(_SPACE)
+
+    def type(self, level: int) -> Type:
+        """Returns the type that comes next, below so many others."""
+        if level > _MOST_READ:
+            raise _error_too_deep()
+        word = self.word()
+        kind, format = LONG_NAMES.get(word, word), logical_format(word)
+        if format is not None:
+            from ._logical import of_format
+
+            return of_format(format)
+        if kind not in KINDS:
+            raise ValueError(f"there is no type {kind!r}; {VALID_NAMES}; {LOGICAL_NAMES}")
+        if kind not in ("list", "fixed", "struct"):
+            return Type(kind)
+        if not self.takes("<"):
+            raise ValueError(f"{kind} must be followed by the types of its children, as in {kind}<i64>")
+        return self.nested(kind, word == "fixed_size_list", level)
+
+    def nested(self, kind: str, may_have_size_last: bool, level: int) -> Type:
+        """Returns a type of a kind with children, which come next. The size of fixed-size lists is before them or, in brackets, behind them."""
+        from ._logical import nested_type
+
+        digits = self.matches(_SIZE_FIRST) if kind == "fixed" else "0"
+        fields: list[tuple[str | None, Type]] = []
+        if digits is not None or may_have_size_last:
+            while not self.takes(">"):
+                fields.append(self.field(kind, level))
+                if not self.takes(",") and not self.text.startswith(">", self.place):
+                    raise ValueError(f"{kind} is not closed, or it does not have exactly one child type")
+            digits = self.matches(_SIZE_LAST) if digits is None else digits
+        if digits is None:
+            raise ValueError("fixed must begin with a list size, as in fixed<2,i64>")
+        if kind != "struct" and len(fields) != 1:
+            raise ValueError(f"{kind} is not closed, or it does not have exactly one child type")
+        return nested_type(kind, [child for _, child in fields], _size_of(digits), [name for name, _ in fields])
+
+    def field(self, kind: str, level: int) -> tuple[str | None, Type]:
+        """Returns the name and the type of a field or of the elements of lists, which come next."""
+        name = self.name()
+        if name == "" and kind != "struct":
+            raise ValueError(f"{kind}: the name before the colon is missing")
+        child = self.type(level + 1)
+        if self.takes("not null"):
+            from ._logical import nullable
+
+            child = nullable(child, is_nullable=False)
+        return name, child
+
+
+def type_of_values(values: Sequence[Any], level: int = 0) -> Type:
+    """Returns the type of Python values by the first that is not `None`; `null` if there is none. Integers have type `i64`.
+
+    Raises LimitPassed for values below more than 128 others.
+    """
+    if level > _MOST_LEVELS:
+        raise _error_too_deep()
     there = [value for value in values if value is not None]
     if not there:
         return Type("null")
@@ -142,17 +240,18 @@ def type_of_values(values: Sequence[Any]) -> Type:
         return Type("utf8")
     if isinstance(first, (bytes, bytearray)):
         return Type("binview")
-    if isinstance(first, tuple):
-        from ._logical import ArrowType, of_format
-
-        fields = range(len(first))
-        if any(isinstance(row, tuple) and len(row) != len(first) for row in there):
-            raise ValueError(f"values: some tuples have {len(first)} values, and some do not")
-        inner = [type_of_values([row[place] for row in there]) for place in fields]
-        return of_format("+s", inner) if any(isinstance(one, ArrowType) for one in inner) else Type("struct", tuple(inner))
-    if isinstance(first, list):
-        from ._logical import ArrowType, of_format
-
-        items = type_of_values([item for row in there for item in row])
-        return of_format("+L", [items]) if isinstance(items, ArrowType) else Type("list", (items,))
+    if isinstance(first, (tuple, list)):
+        return _type_of_nested(there, level + 1)
     raise TypeError(f"no type of column has values of type {type(first).__name__}")
+
+
+def _type_of_nested(values: Sequence[Any], level: int) -> Type:
+    """Returns the type of tuples or lists."""
+    from ._logical import nested_type
+
+    first = values[0]
+    if isinstance(first, list):
+        return nested_type("list", [type_of_values([item for row in values for item in row], level)])
+    if any(isinstance(row, tuple) and len(row) != len(first) for row in values):
+        raise ValueError(f"values: some tuples have {len(first)} values, and some do not")
+    return nested_type("struct", [type_of_values([row[place] for row in values], level) for place in range(len(first))])

@@ -7,36 +7,45 @@ such as nanoseconds in a datetime or a year beyond 9999, stays the integer of th
 from __future__ import annotations
 
 import datetime
+import re
 import struct
 from collections.abc import Callable, Sequence
 from decimal import Decimal
-from typing import Any
+from typing import Any, Optional
 
-from ._checks import shown
+from ._checks import real, shown
 from ._logical import ArrowType
 
-__all__ = ["has_values", "python_value", "storage_values"]
+__all__ = ["Converters", "comparable_value", "has_values", "python_value", "storage_values"]
 
 _FLOATS = {"e": ("<e", "<H"), "f": ("<f", "<I"), "g": ("<d", "<Q")}
 _MICROSECONDS = {"s": 1_000_000, "m": 1_000, "u": 1}
+_NANOSECONDS = {"s": 1_000_000_000, "m": 1_000_000, "u": 1_000, "n": 1}
+_MILLISECONDS_OF_DAY = 86_400_000
 _DAY = datetime.date(1970, 1, 1)
 _EPOCH = datetime.datetime(1970, 1, 1)
 
 Converter = Callable[[Any], Any]
+
+# Returns the function from values of the storage, none of which is null, to others, for a logical type, if there is one, and the kind of the
+# storage; none if they stay.
+Converters = Callable[[Optional[ArrowType], str], Optional[Converter]]
+
+_OFFSET = re.compile(r"[+-][0-9]{2}:[0-9]{2}")
 
 
 def _zone(name: str) -> datetime.tzinfo | None:
     """Returns the time zone of a timestamp; UTC if this machine does not know it."""
     if not name:
         return None
-    if name[0] in "+-" and len(name) == 6:
-        minutes = int(name[1:3]) * 60 + int(name[4:6])
-        return datetime.timezone(datetime.timedelta(minutes=-minutes if name[0] == "-" else minutes))
     try:
+        if _OFFSET.fullmatch(name):
+            minutes = int(name[1:3]) * 60 + int(name[4:6])
+            return datetime.timezone(datetime.timedelta(minutes=-minutes if name[0] == "-" else minutes))
         import zoneinfo
 
         return datetime.timezone.utc if name == "UTC" else zoneinfo.ZoneInfo(name)
-    except (ImportError, KeyError, ValueError):
+    except (ImportError, KeyError, OSError, ValueError):
         return datetime.timezone.utc
 
 
@@ -112,8 +121,10 @@ def _scale(format: str) -> int:
     return int(format[2:].split(",")[1])
 
 
-def python_value(type: ArrowType) -> Converter | None:
+def python_value(type: ArrowType | None, kind: str) -> Converter | None:
     """Returns the function from a value of the storage, which is not null, to its Python value; none if they are the same."""
+    if type is None:
+        return None
     format = type.format
     if format in _FLOATS:
         plain, bits = (struct.Struct(text) for text in _FLOATS[format])
@@ -121,7 +132,7 @@ def python_value(type: ArrowType) -> Converter | None:
     if format == "tdD":
         return _or_storage(lambda value: _DAY + datetime.timedelta(days=value))
     if format == "tdm":
-        return _or_storage(lambda value: _DAY + datetime.timedelta(days=value // 86_400_000))
+        return _or_storage(lambda value: _DAY + datetime.timedelta(days=value // _MILLISECONDS_OF_DAY))
     if format.startswith("ts"):
         return _timestamps(format[2], _zone(format[4:]))
     if format.startswith("tt"):
@@ -137,23 +148,59 @@ def python_value(type: ArrowType) -> Converter | None:
     return bytes if format.startswith("w:") and type.kind == "fixed" else None
 
 
+# The value in place of NaN, and those beside the numbers of times and of booleans, so that they are equal to their own sort alone.
+_NAN = object()
+_SORTS = {name: object() for name in ("boolean", "date", "duration", "time", "timestamp", "timestamp of a zone", "tiM", "tiD", "tin")}
+
+
+def _of_sort(name: str, factor: int = 1) -> Converter:
+    sort = _SORTS[name]
+    return lambda value: (sort, value * factor)
+
+
+def _with_one_nan(plain: Converter) -> Converter:
+    def convert(value: Any) -> Any:
+        number = plain(value)
+        return number if number == number else _NAN
+
+    return convert
+
+
+def comparable_value(type: ArrowType | None, kind: str) -> Converter | None:
+    """Returns the function from a value of the storage to one by which rows of columns of any types are compared.
+
+    NaN is equal to NaN. A time is equal to the same one in another unit, and to no number; a boolean is equal to a boolean alone.
+    """
+    format = "" if type is None else type.format
+    plain = python_value(type, kind)
+    if plain is not None and format in _FLOATS:
+        return _with_one_nan(plain)
+    if format in ("tdD", "tdm"):
+        sort, parts = _SORTS["date"], 1 if format == "tdD" else _MILLISECONDS_OF_DAY
+        return lambda value: (sort, *divmod(value, parts))
+    if format.startswith("ts"):
+        return _of_sort("timestamp of a zone" if format[4:] else "timestamp", _NANOSECONDS[format[2]])
+    if format[:2] in ("tt", "tD"):
+        return _of_sort("time" if format[1] == "t" else "duration", _NANOSECONDS[format[2]])
+    if format in _SORTS:
+        return _of_sort(format)
+    return _of_sort("boolean") if kind == "bool" else plain
+
+
 # ---- from Python values
 
 
 def _number_of(format: str, value: Any, name: str) -> Any:
-    if isinstance(value, bool) or not (isinstance(value, (int, float)) or hasattr(value, "__float__")):
-        raise TypeError(f"{name}: {shown(value)} is of type {type(value).__name__}, not a number")
     plain, bits = _FLOATS[format]
-    return struct.unpack(bits, struct.pack(plain, float(value)))[0]
+    return struct.unpack(bits, struct.pack(plain, real(value, name)))[0]
 
 
-def _counted(micros: int, unit: str, value: Any, name: str) -> int:
-    """Returns microseconds as a count of the unit. Raises ValueError if something is left over."""
-    if unit == "n":
-        return micros * 1000
-    if micros % _MICROSECONDS[unit]:
+def _counted(since: datetime.timedelta, nanos: int, unit: str, value: Any, name: str) -> int:
+    """Returns a time and the nanoseconds beyond its last microsecond as a count of the unit. Raises ValueError if something is left over."""
+    count, left = divmod(since // datetime.timedelta(microseconds=1) * 1000 + nanos, _NANOSECONDS[unit])
+    if left:
         raise ValueError(f"{name}: {shown(value)} is not a whole number of the unit")
-    return micros // _MICROSECONDS[unit]
+    return count
 
 
 def _expected(value: Any, kinds: type | tuple[type, ...], name: str, what: str) -> None:
@@ -167,7 +214,8 @@ def _timestamp_of(format: str, value: Any, name: str) -> int:
     if (value.tzinfo is None) != (zone is None):
         raise ValueError(f"{name}: {shown(value)} {'needs a time zone' if zone else 'has a time zone'}")
     since = value - _EPOCH if zone is None else value - _EPOCH.replace(tzinfo=datetime.timezone.utc)
-    return _counted(since // datetime.timedelta(microseconds=1), format[2], value, name)
+    # a Timestamp of pandas has nanoseconds beyond the microseconds of a datetime
+    return _counted(since, getattr(value, "nanosecond", 0), format[2], value, name)
 
 
 def _decimal_of(type: ArrowType, value: Any, name: str) -> Any:
@@ -177,13 +225,14 @@ def _decimal_of(type: ArrowType, value: Any, name: str) -> Any:
     sign, digits, exponent = Decimal(value).as_tuple()
     if not isinstance(exponent, int):
         raise ValueError(f"{name}: {shown(value)} is not a finite number")
-    shift = exponent + scale
+    # the exponent may have millions of digits: it is no exponent of a power before it was compared
+    shift = exponent + scale if any(digits) else 0
+    kept = max(0, len(digits) + min(0, shift))
     if len(digits) + shift > precision and any(digits):
         raise OverflowError(f"{name}: {shown(value)} has more than {precision} digits")
-    number = int("".join(map(str, digits)))
-    if shift < 0 and number % 10**-shift:
+    if any(digits[kept:]):
         raise ValueError(f"{name}: {shown(value)} has more than {scale} digits behind the point")
-    number = number * 10**shift if shift >= 0 else number // 10**-shift
+    number = int("".join(map(str, digits[:kept])) or "0") * 10 ** max(0, shift)
     number = -number if sign else number
     return list(number.to_bytes(32, "little", signed=True)) if type.kind == "fixed" else number
 
@@ -195,16 +244,16 @@ def _storage_value(type: ArrowType, value: Any, name: str) -> Any:
     if format in ("tdD", "tdm"):
         _expected(value, datetime.date, name, "a date")
         days = (datetime.date(value.year, value.month, value.day) - _DAY).days
-        return days if format == "tdD" else days * 86_400_000
+        return days if format == "tdD" else days * _MILLISECONDS_OF_DAY
     if format.startswith("ts"):
         return _timestamp_of(format, value, name)
     if format.startswith("tt"):
         _expected(value, datetime.time, name, "a time")
         since = datetime.datetime.combine(_DAY, value.replace(tzinfo=None)) - _EPOCH
-        return _counted(since // datetime.timedelta(microseconds=1), format[2], value, name)
+        return _counted(since, 0, format[2], value, name)
     if format.startswith("tD"):
         _expected(value, datetime.timedelta, name, "a timedelta")
-        return _counted(value // datetime.timedelta(microseconds=1), format[2], value, name)
+        return _counted(value, getattr(value, "nanoseconds", 0), format[2], value, name)
     if format.startswith("d:"):
         return _decimal_of(type, value, name)
     _expected(value, (bytes, bytearray), name, "bytes")

@@ -3,6 +3,7 @@
 from __future__ import annotations
 
 import ctypes
+import os
 import re
 import unittest
 from ctypes import c_bool, c_int64, c_size_t, c_uint32, c_void_p
@@ -112,6 +113,24 @@ class LastCheck(unittest.TestCase):
                 with self.assertRaises(TypeError):
                     _library.attempt(name, *wrong)
         self.assertEqual(self.recorder.calls, [])
+
+
+class Places(unittest.TestCase):
+    """Which library is loaded."""
+
+    def test_a_library_that_is_named_is_the_only_one(self) -> None:
+        with patch.dict(os.environ, {"SEL_LIBRARY": "/no/such/libsel.so"}):
+            self.assertEqual(_library._places(), ["/no/such/libsel.so"])
+            with self.assertRaisesRegex(ImportError, "SEL_LIBRARY is '/no/such/libsel.so', which cannot be loaded: "):
+                _library._load()
+
+    def test_an_empty_name_is_none(self) -> None:
+        with patch.dict(os.environ, {"SEL_LIBRARY": ""}):
+            empty = _library._places()
+        with patch.dict(os.environ):
+            os.environ.pop("SEL_LIBRARY", None)
+            self.assertEqual(_library._places(), empty)
+        self.assertEqual((empty[-1], "" in empty), ("libsel.so.1", False))
 
 
 class Declarations(unittest.TestCase):

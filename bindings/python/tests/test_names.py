@@ -19,6 +19,11 @@ NAMES = (
     ("struct<a: int64, b: list<item: string>, c: struct<string: string>>", "struct<i64,list<utf8>,struct<utf8>>"),
     ("list<item: fixed_size_list<x: struct<a: int8, b: bool>>[10]>", "list<fixed<10,struct<i8,bool>>>"), ("struct<>", "struct<>"),
 )
+# The types of the texts whose structs have names of fields; the names in a text of `Column.parse` are left out.
+NAMED = {
+    NAMES[-3][0]: "struct<a: i64, b: large_list<item: string_view>, c: struct<string: string_view>>",
+    NAMES[-2][0]: "large_list<item: fixed_size_list<x: struct<a: i8, b: bool>>[10]>",
+}
 NOT_NAMES = ("int7", "item: int64", "list<a: b: int8>", "list<: int8>", "list<item: >", "list<item>", "strings", "fixed_size_list<int8>", "fixed_size_list<int8>[]",
              "fixed_size_list<int8>[-1]", "fixed_size_list<int8>[2", "list<int8>[2]", "fixed<int8>[2]", "int64[2]", "int64:", "INT64", "struct<a: int8; b: int8>",
              "fixed_size_list<2, int8>[3]")
@@ -27,9 +32,10 @@ NOT_NAMES = ("int7", "item: int64", "list<a: b: int8>", "list<: int8>", "list<it
 class Names(unittest.TestCase):
     def test_longer_names(self) -> None:
         for text, short in NAMES:
-            self.assertEqual(str(parse_type(text)), short, text)
-            self.assertEqual(str(Column([], text).type), short)
-            self.assertEqual(str(Column.from_pylist([None], text).type), short)
+            found = NAMED.get(text, short)
+            self.assertEqual(str(parse_type(text)), found, text)
+            self.assertEqual((str(Column([], text).type), str(Column([], text).storage)), (found, short))
+            self.assertEqual(str(Column.from_pylist([None], text).type), found)
             self.assertEqual(str(Column.parse(text, "[null]").type), short)
         self.assertEqual(Column.parse("struct<id: int64, tags: list<item: string>>", '[(1,["a",null])]').to_pylist(), [(1, ["a", None])])
 

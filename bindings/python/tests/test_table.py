@@ -5,11 +5,13 @@ from __future__ import annotations
 import datetime
 import unittest
 from collections.abc import Iterator
+from ctypes import byref
 from typing import Any
 
 import sel
 from cases import table
 from sel import Column, Selection, Stream, Table
+from sel._library import ArrowArray, ArrowArrayStream
 
 DAY = datetime.date(2020, 1, 1)
 ROWS: dict[str, list[Any]] = {"id": [1, 2, 3], "when": [DAY, None, DAY], "name": ["a", "a name of more than twelve bytes", None], "lists": [[0.5], [], None]}
@@ -23,6 +25,20 @@ class Only:
 
     def __arrow_c_stream__(self, requested_schema: object = None) -> object:
         return self.source.__arrow_c_stream__(requested_schema)
+
+
+def codes_of(source: Stream) -> list[int]:
+    """Returns the codes that another consumer of a stream gets: for each array, and for what ends the stream."""
+    capsule, codes = source.__arrow_c_stream__(), []
+    stream = sel._arrow._moved(ArrowArrayStream.from_address(sel._arrow._api.PyCapsule_GetPointer(capsule, sel._arrow._STREAM)))
+    while True:
+        array = ArrowArray()
+        codes.append(sel._arrow._GetNext(stream.get_next)(byref(stream), byref(array)))
+        if not array.release:
+            break
+        sel._arrow._release(array)
+    sel._arrow._release(stream)
+    return codes
 
 
 class Tables(unittest.TestCase):
@@ -53,6 +69,31 @@ class Tables(unittest.TestCase):
         with self.assertRaises(IndexError):
             made.take([-1])
         self.assertEqual(repr(Table({"a": list(range(9)), "b": [0.5] * 9})), "Table of 9 rows\na: i64 [0,1,2,3,4,5, ...]\nb: double [0.5,0.5,0.5,0.5,0.5,0.5, ...]")
+
+    def test_without_columns(self) -> None:
+        """The rows are counted as those of a column are."""
+        made = Table.from_arrow(Column([()] * 5))
+        self.assertEqual((made.column_names, len(made)), ([], 5))
+        for found, count in table((made[:], 5), (made[1:3], 2), (made[::-1], 5), (made[[True, False, True, True, False]], 3), (made[[0, 0, -1]], 3), (made[Column([1, None])], 2),
+                                  (made.filter([True] * 4 + [None]), 4), (made.take([4, None]), 2), (made.slice(1, 2), 2), (made.if_else([True] * 5, made), 5)):
+            self.assertEqual((len(found), found.to_pylist()), (count, [{}] * count))
+        self.assertEqual(made[-1], {})
+        uses: list[tuple[type[Exception], Any]] = [
+            (TypeError, lambda: made[1.5]), (IndexError, lambda: made[[99]]), (ValueError, lambda: made[[True]]), (IndexError, lambda: made[5]), (IndexError, lambda: made.take([99])),
+            (IndexError, lambda: made.slice(5, 1)), (TypeError, lambda: made.if_else([True], made)), (TypeError, lambda: made.filter([True]))]
+        for error, use in uses:
+            with self.assertRaises(error):
+                use()
+
+    def test_names(self) -> None:
+        for name, error in table((1, TypeError), (None, TypeError), (b"a", TypeError), ("a\0b", ValueError)):
+            with self.assertRaisesRegex(error, "columns: the name"):
+                Table({name: [1]})
+        twice = Table.from_arrow(Column.from_arrow(Column._owning(Column([(1, 2)]), sel._logical.of_format("+s", [Column([1]).type] * 2, ["a", "a"]))))
+        self.assertEqual((twice.column_names, twice.columns[1].to_pylist(), twice[[0]].column(1).to_pylist()), (["a", "a"], [2], [2]))
+        for use in table(twice.to_pydict, twice.to_pylist, lambda: twice[0]):
+            with self.assertRaisesRegex(ValueError, "several columns have the name 'a'"):
+                use()
 
     def test_arrow(self) -> None:
         made = Table(ROWS)
@@ -124,6 +165,29 @@ class Streams(unittest.TestCase):
             Stream(iter(())).__arrow_c_stream__()
         with self.assertRaises(TypeError):
             Stream.from_arrow([1])
+
+    def test_every_exception_is_an_error(self) -> None:
+        """None of them looks like the end of the stream. This package gets it, or has it as the cause; another consumer gets a code."""
+        def failing(error: BaseException) -> Iterator[Table]:
+            yield Table({"a": [1]})
+            raise error
+
+        def passing(source: Stream) -> Iterator[Table]:
+            yield from Stream.from_arrow(Only(source))
+
+        for error in (KeyboardInterrupt(), SystemExit(3), GeneratorExit()):
+            for stream in (Stream(failing(error)), Stream(passing(Stream(failing(error))))):
+                with self.assertRaises(type(error)) as caught:
+                    list(Stream.from_arrow(stream))
+                self.assertIs(caught.exception, error)
+            with self.assertRaises(type(error)):
+                Table.from_arrow(Only(Stream(failing(error))))
+            self.assertEqual(codes_of(Stream(failing(error))), [0, 22])
+        cause = KeyError("x")
+        with self.assertRaises(ValueError) as given:
+            list(Stream.from_arrow(Stream(failing(cause))))
+        self.assertIs(given.exception.__cause__, cause)
+        self.assertEqual((sel._arrow.PASSED.errors, sel._stream._OPEN), (None, {}))
 
     def test_a_stream_that_is_not_read_is_released(self) -> None:
         capsule = Stream(iter([Table({"a": [1]})])).__arrow_c_stream__()

@@ -1,0 +1,99 @@
+"""Types that are given as text or as a Type: names of fields, logical types below others, and levels."""
+
+from __future__ import annotations
+
+import datetime
+import unittest
+from typing import Any
+
+import sel
+from cases import table
+from sel import Column, Table, Type, parse_type
+
+DAY = datetime.date(2024, 2, 29)
+ORDER = {"id": 1, "price": 2.5}
+
+
+class Fields(unittest.TestCase):
+    def test_names_of_a_text_are_kept(self) -> None:
+        for text, rows, printed in table(
+            ("struct<id: int64, price: double>", [ORDER, None], "struct<id: i64, price: double>"),
+            ("struct<id: int64, n: int8>", [{"id": 1, "n": 2}, None], "struct<id: i64, n: i8>"),
+            ("list<item: struct<id: int64, when: date32>>", [[{"id": 1, "when": DAY}], [], None], "large_list<item: struct<id: i64, when: date32[day]>>"),
+            ("fixed_size_list<item: struct<a: int64>>[1]", [[{"a": 1}], None], "fixed_size_list<item: struct<a: i64>>[1]"),
+            ("struct< unit price : double , timestamp[ms, tz=+05:30]>", [{"unit price": 0.5, "1": None}], "struct<unit price: double, 1: timestamp[ms, tz=+05:30]>"),
+        ):
+            column = Column(rows, text)
+            self.assertEqual((str(column.type), column.to_pylist()), (printed, rows))
+            self.assertEqual(Column(rows, parse_type(text)).to_pylist(), rows)
+        self.assertEqual(Column([(1, 2.5)], "struct<id: int64, price: double>").to_pylist(), [ORDER])
+        self.assertEqual(Column([ORDER], "struct<id: int64, price: double>").field("price").to_pylist(), [2.5])
+
+    def test_keys_of_dicts(self) -> None:
+        for text in table("struct<id: int64, price: double>", "struct<id: int64, price: int8>"):
+            column = Column([None], text)
+            for value, message in table(({"id": 7, "prise": 1}, "has no 'price' and has the unknown 'prise'"), ({"id": 7}, "has no 'price'"), ({}, "has no 'id', 'price'"),
+                                        ({"id": 7, "price": 1, 3: 4}, "has the unknown 3")):
+                for use in table(lambda value: Column([None, value], text), column.fill_null, lambda value: sel.choose([True], value, column)):
+                    with self.assertRaisesRegex(ValueError, message):
+                        use(value)
+        twice = sel._logical.of_format("+s", [Type("i8"), Type("i8")], ["a", "a"])
+        with self.assertRaisesRegex(ValueError, "some have one name"):
+            Column([{"a": 1}], twice)
+        with self.assertRaisesRegex(TypeError, "have no names"):
+            Column([{"a": 1}], "struct<i8>")
+
+    def test_texts_of_types_give_the_types(self) -> None:
+        for column in (Column.from_arrow(Table({"id": [1], "when": [DAY], "unit price": [0.5]})), Column.from_arrow(Table({"id": [1], "n": [2]})),
+                       Column.from_arrow(Table({"a": Column([[(1, 0.5)]]), "b": Column([[True]], "fixed<1,bool>"), "c": Column([None], "timestamp[ms, tz=+05:30]")})),
+                       Column.from_arrow(Table({"": [1]}))):
+            self.assertEqual(parse_type(str(column.type)), column.type)
+        text = "struct<a: i64 not null, b: large_list<element: double not null> not null>"
+        self.assertEqual(str(parse_type(text)), text)
+        self.assertEqual([field.is_nullable for field in sel._logical.with_arrow_types(parse_type(text)).children if isinstance(field, sel.ArrowType)], [False, False])
+        with self.assertRaises(ValueError):
+            parse_type("i64 not null")
+
+    def test_names_that_arrow_cannot_have(self) -> None:
+        with self.assertRaisesRegex(ValueError, "zero character"):
+            parse_type("struct<a\0b: int64, a\0c: double>")
+
+
+class Types(unittest.TestCase):
+    def test_logical_types_below_others(self) -> None:
+        double = parse_type("double")
+        for wanted, rows, text in table(
+            (Type("list", (double,)), [[1.5, None], None], "large_list<item: double>"), (Type("struct", (parse_type("date32"), Type("i64"))), [{"0": DAY, "1": 1}], "struct<0: date32[day], 1: i64>"),
+            (Type("fixed", (Type("list", (double,)),), 1), [[[0.5]]], "fixed_size_list<item: large_list<item: double>>[1]"),
+        ):
+            column = Column(rows, wanted)
+            self.assertEqual((str(column.type), column.to_pylist()), (text, rows))
+
+    def test_types_that_there_are_not(self) -> None:
+        makers: list[Any] = [lambda: Type("foo"), lambda: Type("list"), lambda: Type("fixed", (), 2), lambda: Type("i64", (Type("i64"),)), lambda: Type("list", (Type("i8"),) * 2)]
+        for make in makers:
+            with self.assertRaises(ValueError):
+                make()
+        with self.assertRaisesRegex(TypeError, "not a Type"):
+            Type("list", table("i64"))  # type: ignore[arg-type]
+        self.assertEqual(Type("struct"), parse_type("struct<>"))
+
+    def test_deep_types(self) -> None:
+        value: Any = 1
+        wanted = Type("i8")
+        for _ in range(600):
+            value, wanted = [value], Type("list", (wanted,))
+        deep: list[Any] = [lambda: parse_type("list<" * 1500 + "i8" + ">" * 1500), lambda: Column([value]), lambda: Column([(value,)]), lambda: Column([], wanted)]
+        for use in deep:
+            with self.assertRaises(sel.LimitPassed) as caught:
+                use()
+            self.assertEqual(caught.exception.status, 12)
+
+    def test_rows_of_logical_types_are_not_parsed(self) -> None:
+        for wanted in (Column([0.5]).type, Type("list", (parse_type("double"),))):
+            with self.assertRaisesRegex(ValueError, "logical type .*double"):
+                Column.parse(wanted, "[]")
+
+
+if __name__ == "__main__":
+    unittest.main()
