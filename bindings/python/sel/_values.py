@@ -225,7 +225,7 @@ def _decimal_of(type: ArrowType, value: Any, name: str) -> Any:
     sign, digits, exponent = Decimal(value).as_tuple()
     if not isinstance(exponent, int):
         raise ValueError(f"{name}: {shown(value)} is not a finite number")
-    # the exponent may have millions of digits: it is no exponent of a power before it was compared
+    # compared before a power is computed, since an exponent of millions would take minutes
     shift = exponent + scale if any(digits) else 0
     kept = max(0, len(digits) + min(0, shift))
     if len(digits) + shift > precision and any(digits):
