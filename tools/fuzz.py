@@ -101,6 +101,8 @@ def start(target: str, folder: pathlib.Path, seconds: int, seed: int) -> "subpro
     for place in (found, folder / f"{target}-failed"):
         place.mkdir(exist_ok=True)
     stored = unpacked(target, folder)
+    if not any(stored.iterdir()):
+        sys.exit(f"failed: {target} has no stored inputs; tools/fuzz.py --store {target} writes them")
     command = [str(built(target, folder)), f"-max_total_time={seconds}", f"-seed={seed}", *options(target, folder), str(found), str(stored)]
     env = {**os.environ, "ASAN_OPTIONS": "allocator_may_return_null=1:malloc_context_size=8"}
     # a file: a target would wait for a reader of a full pipe, while another one is read
