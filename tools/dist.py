@@ -248,8 +248,7 @@ def check_unpacked(archive: pathlib.Path, folder: pathlib.Path) -> pathlib.Path:
     run("sha256sum", "--check", "--strict", "--quiet", "SHA256SUMS", cwd=top)
     listed = [line.split("  ", 1)[1] for line in (top / "SHA256SUMS").read_text().splitlines()]
     expect(sorted([*listed, "SHA256SUMS"]) == sorted(tree(top)), "SHA256SUMS does not list every file")
-    stated = {"LICENSE", "README.md", "VERDICTS", *(f"examples/{name}.c" for name in examples())}
-    expect(set(paths(built_for())) | stated == set(listed), "the archive does not have the stated files")
+    expect(set(paths(built_for())) | beside_library() == set(listed), "the archive does not have the stated files")
     shared = [path for path in listed if path.endswith(f"/{SONAME}")]
     expect(len(shared) == len(built_for()), "the archive does not have a shared library for each processor")
     expect(all(dynamic(top / path, "SONAME") == [SONAME] for path in shared), f"a soname is not {SONAME}")
@@ -272,6 +271,11 @@ def check_verdicts(top: pathlib.Path) -> None:
 def examples() -> List[str]:
     """Returns the names of the examples in C."""
     return sorted(path.stem for path in EXAMPLES.glob("*.c"))
+
+
+def beside_library() -> Set[str]:
+    """Returns the paths of the archive that `make install` does not copy, but for SHA256SUMS."""
+    return {"LICENSE", "README.md", "VERDICTS", *(f"examples/{name}.c" for name in examples())}
 
 
 def runs_linked(program: pathlib.Path, name: str, shared: bool, how: str) -> None:
@@ -449,7 +453,7 @@ def check_newer(folder: pathlib.Path) -> None:
         expect(all(f"sel/glibc-hwcaps/{cpu}/libsel.so" in wheel.namelist() for cpu in NEWER_CPUS), "the wheel lacks a library for newer processors")
     with tarfile.open(folder / f"{stem()}.tar.gz") as archive:
         names = {it.name.partition("/")[2] for it in archive.getmembers() if not it.isdir()}
-    expect(names == {*paths(every), "LICENSE", "README.md", "SHA256SUMS", "VERDICTS"}, "make dist does not pack the libraries for newer processors")
+    expect(names == {*paths(every), *beside_library(), "SHA256SUMS"}, "make dist does not pack the libraries for newer processors")
     print(f"libraries for {' and '.join(every)}, installed and packed: ok")
 
 
