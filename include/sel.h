@@ -464,23 +464,25 @@ sel_status sel_string_view_new(
 
 /* Copies the views to `out`, including those in null slots.
  * Errors: SEL_ERROR_NO_COLUMN: `of` is empty. SEL_ERROR_UNSUPPORTED_TYPE: its type is not SEL_TYPE_BINARY_VIEW or
- * SEL_TYPE_STRING_VIEW. SEL_ERROR_LENGTH_MISMATCH: `out_len` is not the number of rows. */
+ * SEL_TYPE_STRING_VIEW. SEL_ERROR_LENGTH_MISMATCH: `out_len` is not the number of rows. Never returns
+ * SEL_ERROR_OUT_OF_MEMORY. */
 sel_status sel_views(const sel_column *of, sel_view *out, size_t out_len);
 
 /* Returns in `count` the number of data buffers of a view column.
  * Errors: SEL_ERROR_NO_COLUMN: `of` is empty. SEL_ERROR_UNSUPPORTED_TYPE: its type is not SEL_TYPE_BINARY_VIEW or
- * SEL_TYPE_STRING_VIEW. */
+ * SEL_TYPE_STRING_VIEW. Never returns SEL_ERROR_OUT_OF_MEMORY. */
 sel_status sel_buffer_count(const sel_column *of, size_t *count);
 
 /* Returns in `len` the number of bytes of data buffer `i`, counted from 0.
  * Errors: SEL_ERROR_NO_COLUMN: `of` is empty. SEL_ERROR_UNSUPPORTED_TYPE: its type is not SEL_TYPE_BINARY_VIEW or
- * SEL_TYPE_STRING_VIEW. SEL_ERROR_INDEX_OUT_OF_BOUNDS: there is no data buffer `i`. */
+ * SEL_TYPE_STRING_VIEW. SEL_ERROR_INDEX_OUT_OF_BOUNDS: there is no data buffer `i`. Never returns
+ * SEL_ERROR_OUT_OF_MEMORY. */
 sel_status sel_buffer_len(const sel_column *of, size_t i, size_t *len);
 
 /* Copies the bytes of data buffer `i`, counted from 0, to `out`.
  * Errors: SEL_ERROR_NO_COLUMN: `of` is empty. SEL_ERROR_UNSUPPORTED_TYPE: its type is not SEL_TYPE_BINARY_VIEW or
  * SEL_TYPE_STRING_VIEW. SEL_ERROR_INDEX_OUT_OF_BOUNDS: there is no data buffer `i`. SEL_ERROR_LENGTH_MISMATCH:
- * `out_len` is not the length of the buffer. */
+ * `out_len` is not the length of the buffer. Never returns SEL_ERROR_OUT_OF_MEMORY. */
 sel_status sel_buffer(const sel_column *of, size_t i, uint8_t *out, size_t out_len);
 
 /* ---- Properties and values of a column. ---- */
@@ -496,7 +498,8 @@ sel_type_id sel_type_of(const sel_column *of);
 
 /* Copies the validity to `out`, of (rows + 7) / 8 bytes, and returns in `has` whether the column has one. If it has
  * none, `out` is unchanged and may have any length: each row is valid, or, in a column of SEL_TYPE_NULL, null.
- * Errors: SEL_ERROR_NO_COLUMN: `of` is empty. SEL_ERROR_LENGTH_MISMATCH: `out_len` is not (rows + 7) / 8. */
+ * Errors: SEL_ERROR_NO_COLUMN: `of` is empty. SEL_ERROR_LENGTH_MISMATCH: the column has a validity, and `out_len` is
+ * not (rows + 7) / 8; `has` is true then. After another error `has` may be either. */
 sel_status sel_validity(const sel_column *of, uint8_t *out, size_t out_len, bool *has);
 
 /* Copies the values, including those in null slots, as packed bits to `out`.
@@ -548,16 +551,17 @@ sel_status sel_uint64_values(const sel_column *of, uint64_t *out, size_t out_len
 
 /* Copies the offsets of a binary or list column to `out`. In a sliced column the first one may be above 0.
  * Errors: SEL_ERROR_NO_COLUMN: `of` is empty. SEL_ERROR_UNSUPPORTED_TYPE: its type has no offsets.
- * SEL_ERROR_LENGTH_MISMATCH: `out_len` is not the number of rows plus 1. */
+ * SEL_ERROR_LENGTH_MISMATCH: `out_len` is not the number of rows plus 1. Never returns SEL_ERROR_OUT_OF_MEMORY. */
 sel_status sel_offsets(const sel_column *of, int64_t *out, size_t out_len);
 
 /* Returns in `len` the number of bytes of a binary column with offsets, including bytes outside of the rows.
- * Errors: SEL_ERROR_NO_COLUMN: `of` is empty. SEL_ERROR_UNSUPPORTED_TYPE: its type is not SEL_TYPE_BINARY. */
+ * Errors: SEL_ERROR_NO_COLUMN: `of` is empty. SEL_ERROR_UNSUPPORTED_TYPE: its type is not SEL_TYPE_BINARY. Never
+ * returns SEL_ERROR_OUT_OF_MEMORY. */
 sel_status sel_bytes_len(const sel_column *of, size_t *len);
 
 /* Copies the bytes of a binary column with offsets to `out`, including bytes outside of the rows.
  * Errors: SEL_ERROR_NO_COLUMN: `of` is empty. SEL_ERROR_UNSUPPORTED_TYPE: its type is not SEL_TYPE_BINARY.
- * SEL_ERROR_LENGTH_MISMATCH: `out_len` is not what `sel_bytes_len` returns. */
+ * SEL_ERROR_LENGTH_MISMATCH: `out_len` is not what `sel_bytes_len` returns. Never returns SEL_ERROR_OUT_OF_MEMORY. */
 sel_status sel_bytes(const sel_column *of, uint8_t *out, size_t out_len);
 
 /* ---- Filter. ---- */
@@ -583,7 +587,7 @@ sel_status sel_selection_new(const sel_column *mask, sel_selection *out);
  * Errors: SEL_ERROR_LENGTH_MISMATCH: `mask` has fewer than (len + 7) / 8 bytes. */
 sel_status sel_selection_of_bits(const uint8_t *mask, size_t mask_len, size_t len, sel_selection *out);
 
-/* Returns in `len` the number of rows of the columns that `of` can filter.
+/* Returns in `len` the number of rows that a column must have to be filtered by `of`.
  * Errors: SEL_ERROR_NO_COLUMN: `of` is empty. Never returns SEL_ERROR_OUT_OF_MEMORY. */
 sel_status sel_selection_len(const sel_selection *of, size_t *len);
 
@@ -786,13 +790,13 @@ sel_status sel_print_type(const sel_column *of, uint8_t *out, size_t out_len, si
  * `text`, in the format that `sel_print` writes. Both are UTF-8. Between tokens there may be white space as in JSON,
  * and strings may have all of JSON's escapes. The types are null, bool, i8 to i128, u8 to u128, binary (with
  * offsets), binview and utf8 (views), list<..>, fixed<n,..> and struct<..>.
- * Errors: SEL_ERROR_TYPE_SYNTAX: syntax error in `dtype`. SEL_ERROR_ROW_SYNTAX: syntax error in `text`, which is not
- * that of rows of any type. With these two, `at` is the index of the first byte with which no type or no rows go on,
- * or the length if the text ends too soon. SEL_ERROR_ROW_TYPE_MISMATCH: a value in `text` does not fit the type;
- * `at` is the index of the first one. Values are compared with their types as they end, so a list or struct of the
- * wrong length comes after its values. With any other status `at` is unchanged. SEL_ERROR_TEXT_LIMIT: the column
- * exceeds a size limit, or the type has more than 64 levels of children. A syntax error in the type is returned
- * first, then that the type exceeds a limit, then errors in `text`. */
+ * Errors: SEL_ERROR_TYPE_SYNTAX: syntax error in `dtype`. SEL_ERROR_TEXT_LIMIT: the type has more than 64 levels of
+ * children, or a list size of more than 4,294,967,295. SEL_ERROR_ROW_SYNTAX: `text` is not that of rows of any type.
+ * SEL_ERROR_ROW_TYPE_MISMATCH: a value in `text` does not fit the type; values are compared with their types as they
+ * end, so a list or struct of the wrong length comes after its values. SEL_ERROR_TEXT_LIMIT: the column exceeds a
+ * size limit. After a syntax error `at` is the index of the first byte with which no type or no rows go on, or the
+ * length if the text ends too soon; after SEL_ERROR_ROW_TYPE_MISMATCH it is the index of the first value that does
+ * not fit; with any other status it is unchanged. */
 sel_status sel_parse(
     const uint8_t *dtype,
     size_t dtype_len,

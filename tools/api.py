@@ -32,14 +32,13 @@ class Call:
     ) -> None:
         self.crate, self.path, self.line, self.owner = crate, path, line, owner
         self.name, self.comment, self.text, self.end = name, comment, text, end
+        # the module by which callers name it, if not that of its file
+        self.module: list[str] | None = None
 
     def title(self) -> str:
         if self.crate == "sel_c":
             return self.name
-        parts = path_of(self.crate, self.path)
-        if self.owner:
-            parts.append(self.owner)
-        return "::".join(parts + [self.name])
+        return "::".join([*(self.module or path_of(self.crate, self.path)), *([self.owner] if self.owner else []), self.name])
 
 
 def path_of(crate: str, path: pathlib.Path) -> list[str]:
@@ -48,21 +47,41 @@ def path_of(crate: str, path: pathlib.Path) -> list[str]:
     return [crate] + [part for part in inside if part not in ("lib", "mod")]
 
 
-def is_public(crate: str, path: pathlib.Path) -> set[str] | None:
-    """Returns None if each module on the path to a file is public, else the names that are re-exported from it. C calls the functions of
-    sel_c by their names alone, so its modules count as public, except those below another: their functions are not exported."""
-    if crate == "sel_c":
-        return None if path.parent == ROOT / "crates" / crate / "src" else set()
+def exports(crate: str) -> dict[tuple[str, ...], dict[str, list[str]]]:
+    """Returns for each module of a crate the names that another one re-exports from it, with that module."""
+    found: dict[tuple[str, ...], dict[str, list[str]]] = {}
+    for path in sorted((ROOT / "crates" / crate / "src").rglob("*.rt")):
+        here = path_of(crate, path)
+        for way, words in re.findall(r"^pub use ([\w:]+)::\{?([^;}]*)\}?;", path.read_text(), re.M):
+            first, *rest = way.split("::")
+            there = {"crate": [crate], "self": here}.get(first, [*here, first])
+            found.setdefault((*there, *rest), {}).update({word.strip(): here for word in words.split(",")})
+    return found
+
+
+def is_public(crate: str, path: pathlib.Path) -> bool:
+    """Returns whether each module on the path to a file is public. C calls the functions of sel_c by their names alone, so its modules count as
+    public, except those below another: their functions are not exported."""
     at = ROOT / "crates" / crate / "src"
-    exported: set[str] | None = None
+    if crate == "sel_c":
+        return path.parent == at
     for part in path_of(crate, path)[1:]:
         above = at / "mod.rt" if (at / "mod.rt").exists() else at / "lib.rt"
-        text = above.read_text()
-        if not re.search(rf"^pub mod {part};", text, re.M):
-            words = re.findall(rf"^pub use (?:self::)?{part}::\{{?([^;}}]*)\}}?;", text, re.M)
-            exported = {word.strip() for words in words for word in words.split(",")}
+        if not re.search(rf"^pub mod {part};", above.read_text(), re.M):
+            return False
         at = at / part
-    return exported
+    return True
+
+
+def public_calls(crate: str, path: pathlib.Path, exported: dict[str, list[str]]) -> list[Call]:
+    """Returns the functions of a file that callers can name: all of a public module, else those that another module re-exports."""
+    calls = calls_of(crate, path)
+    if is_public(crate, path):
+        return calls
+    found = [(call, exported.get(call.owner or call.name)) for call in calls]
+    for call, module in found:
+        call.module = module
+    return [call for call, module in found if module]
 
 
 def owner_of(line: str) -> str | None:
@@ -87,12 +106,15 @@ def comment_above(lines: list[str], at: int) -> list[str]:
 
 def end_of_head(lines: list[str], at: int, indent: str) -> int:
     """Returns the line at which the signature and the contract end and the body begins."""
+    depth = 0
     for i in range(at, len(lines)):
-        line = lines[i]
-        if line.rstrip() in (indent + "{", indent + "{}") or line.endswith((";", " {}")):
+        line, opened = lines[i], lines[i].count("{") - lines[i].count("}")
+        # a record in a clause has lines that end in a semicolon
+        if line.rstrip() in (indent + "{", indent + "{}") or (line.endswith((";", " {}")) and depth + opened == 0):
             return i
-        if line.endswith(" {") and not re.match(r"^ *(requires|ensures)", line) and line.count("{") > line.count("}"):
+        if line.endswith(" {") and not re.match(r"^ *(requires|ensures)", line) and opened > 0 and depth == 0:
             return i
+        depth += opened
     return len(lines) - 1
 
 
@@ -183,8 +205,13 @@ def link(path: pathlib.Path) -> str:
 
 
 def paragraphs(comment: list[str]) -> list[str]:
-    """Returns the paragraphs of a comment, one on each line, with an empty line after each."""
-    return [line for text in "\n".join(comment).split("\n\n") for line in (" ".join(text.split()), "")]
+    """Returns the paragraphs of a comment, one on each line, with an empty line after each. Its headings are bold: the page has its own."""
+    out: list[str] = []
+    for text in "\n".join(comment).split("\n\n"):
+        head, _, rest = text.partition("\n") if text.startswith("# ") else ("", "", text)
+        out += [f"**{head[2:]}**", ""] if head else []
+        out += [" ".join(rest.split()), ""]
+    return out
 
 
 def section(call: Call, mutants: list[pathlib.Path], tests: list[TestFile], shared: set[str]) -> list[str]:
@@ -218,10 +245,8 @@ def page() -> str:
     bodies, found = [], {}
     for crate in LIBRARIES:
         paths = sorted((ROOT / "crates" / crate / "src").rglob("*.rt"))
-        calls = []
-        for path in paths:
-            exported = is_public(crate, path)
-            calls += [call for call in calls_of(crate, path) if exported is None or call.name in exported or call.owner in exported]
+        named = exports(crate)
+        calls = [call for path in paths for call in public_calls(crate, path, named.get(tuple(path_of(crate, path)), {}))]
         if calls:
             found[crate] = calls
     names = [call.name for calls in found.values() for call in calls]
@@ -254,6 +279,15 @@ fn unit() -> u8 {
     1
 }
 
+/// Returns two.
+pub fn both() -> Two
+    ensures { result ≡ record {
+      one = 1;
+    } }
+{
+    Two { one: 1 }
+}
+
 impl<T: Drop> Pair<T> {
     /// Returns the first.
     ///
@@ -278,6 +312,7 @@ pub trait Size {
 # what the page says of each: the owner, the comment and the text
 READ = [
     (None, ["Returns one."], ["pub fn one(a: u8) -> u8", "    requires small { a < 9 }", "    ensures { result ≡ 1 }"]),
+    (None, ["Returns two."], ["pub fn both() -> Two", "    ensures { result ≡ record {", "      one = 1;", "    } }"]),
     ("Pair", ["Returns the first.", "", "Of two."], ["pub fn first(&self) -> &T"]),
     ("Size", ["Returns how many."], ["fn size(&self) -> usize", "    ensures { result ≡ length self.now };"]),
 ]

@@ -10,7 +10,8 @@ use sel_ffi::status::NO_COLUMN;
 /// above 0.
 ///
 /// Errors: SEL_ERROR_NO_COLUMN: `of` is empty. SEL_ERROR_UNSUPPORTED_TYPE: its type has no offsets.
-/// SEL_ERROR_LENGTH_MISMATCH: `out_len` is not the number of rows plus 1.
+/// SEL_ERROR_LENGTH_MISMATCH: `out_len` is not the number of rows plus 1. Never returns
+/// SEL_ERROR_OUT_OF_MEMORY.
 #[unsafe(no_mangle)]
 pub extern "C" fn sel_offsets(of: &ColumnRef, out: &mut [i64]) -> u32
     ensures { CopiesOffsets result of.now.tree out.old out.new }
@@ -25,7 +26,7 @@ pub extern "C" fn sel_offsets(of: &ColumnRef, out: &mut [i64]) -> u32
 /// of the rows.
 ///
 /// Errors: SEL_ERROR_NO_COLUMN: `of` is empty. SEL_ERROR_UNSUPPORTED_TYPE: its type is not
-/// SEL_TYPE_BINARY.
+/// SEL_TYPE_BINARY. Never returns SEL_ERROR_OUT_OF_MEMORY.
 #[unsafe(no_mangle)]
 pub extern "C" fn sel_bytes_len(of: &ColumnRef, len: &mut usize) -> u32
     ensures { CountsBytes result of.now.tree len.new }
@@ -39,7 +40,8 @@ pub extern "C" fn sel_bytes_len(of: &ColumnRef, len: &mut usize) -> u32
 /// Copies the bytes of a binary column with offsets to `out`, including bytes outside of the rows.
 ///
 /// Errors: SEL_ERROR_NO_COLUMN: `of` is empty. SEL_ERROR_UNSUPPORTED_TYPE: its type is not
-/// SEL_TYPE_BINARY. SEL_ERROR_LENGTH_MISMATCH: `out_len` is not what `sel_bytes_len` returns.
+/// SEL_TYPE_BINARY. SEL_ERROR_LENGTH_MISMATCH: `out_len` is not what `sel_bytes_len` returns. Never
+/// returns SEL_ERROR_OUT_OF_MEMORY.
 #[unsafe(no_mangle)]
 pub extern "C" fn sel_bytes(of: &ColumnRef, out: &mut [u8]) -> u32
     ensures { CopiesBytes result of.now.tree out.old out.new }

@@ -52,8 +52,9 @@ pub extern "C" fn sel_type_of(of: &ColumnRef) -> u32
 /// has one. If it has none, `out` is unchanged and may have any length: each row is valid, or, in
 /// a column of SEL_TYPE_NULL, null.
 ///
-/// Errors: SEL_ERROR_NO_COLUMN: `of` is empty. SEL_ERROR_LENGTH_MISMATCH: `out_len` is not (rows +
-/// 7) / 8.
+/// Errors: SEL_ERROR_NO_COLUMN: `of` is empty. SEL_ERROR_LENGTH_MISMATCH: the column has a
+/// validity, and `out_len` is not (rows + 7) / 8; `has` is true then. After another error `has` may
+/// be either.
 #[unsafe(no_mangle)]
 pub extern "C" fn sel_validity(alloc: Global, of: &ColumnRef, out: &mut [u8], has: &mut bool) -> u32
     ensures { CopiesValidity result of.now.tree out.old out.new has.new }

@@ -49,7 +49,7 @@ pub extern "C" fn sel_selection_of_bits(
     selection_of_bits_into(alloc, mask, len, out)
 }
 
-/// Returns in `len` the number of rows of the columns that `of` can filter.
+/// Returns in `len` the number of rows that a column must have to be filtered by `of`.
 ///
 /// Errors: SEL_ERROR_NO_COLUMN: `of` is empty. Never returns SEL_ERROR_OUT_OF_MEMORY.
 #[unsafe(no_mangle)]

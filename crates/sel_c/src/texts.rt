@@ -76,14 +76,14 @@ pub extern "C" fn sel_print_type(
 /// bool, i8 to i128, u8 to u128, binary (with offsets), binview and utf8 (views), list<..>,
 /// fixed<n,..> and struct<..>.
 ///
-/// Errors: SEL_ERROR_TYPE_SYNTAX: syntax error in `dtype`. SEL_ERROR_ROW_SYNTAX: syntax error in
-/// `text`, which is not that of rows of any type. With these two, `at` is the index of the first
-/// byte with which no type or no rows go on, or the length if the text ends too soon.
-/// SEL_ERROR_ROW_TYPE_MISMATCH: a value in `text` does not fit the type; `at` is the index of the
-/// first one. Values are compared with their types as they end, so a list or struct of the wrong
-/// length comes after its values. With any other status `at` is unchanged. SEL_ERROR_TEXT_LIMIT:
-/// the column exceeds a size limit, or the type has more than 64 levels of children. A syntax error
-/// in the type is returned first, then that the type exceeds a limit, then errors in `text`.
+/// Errors: SEL_ERROR_TYPE_SYNTAX: syntax error in `dtype`. SEL_ERROR_TEXT_LIMIT: the type has more
+/// than 64 levels of children, or a list size of more than 4,294,967,295. SEL_ERROR_ROW_SYNTAX:
+/// `text` is not that of rows of any type. SEL_ERROR_ROW_TYPE_MISMATCH: a value in `text` does not
+/// fit the type; values are compared with their types as they end, so a list or struct of the wrong
+/// length comes after its values. SEL_ERROR_TEXT_LIMIT: the column exceeds a size limit. After a
+/// syntax error `at` is the index of the first byte with which no type or no rows go on, or the
+/// length if the text ends too soon; after SEL_ERROR_ROW_TYPE_MISMATCH it is the index of the first
+/// value that does not fit; with any other status it is unchanged.
 #[unsafe(no_mangle)]
 pub extern "C" fn sel_parse(
     alloc: Global,

@@ -76,7 +76,7 @@ pub extern "C" fn sel_string_view_new(
 ///
 /// Errors: SEL_ERROR_NO_COLUMN: `of` is empty. SEL_ERROR_UNSUPPORTED_TYPE: its type is not
 /// SEL_TYPE_BINARY_VIEW or SEL_TYPE_STRING_VIEW. SEL_ERROR_LENGTH_MISMATCH: `out_len` is not the
-/// number of rows.
+/// number of rows. Never returns SEL_ERROR_OUT_OF_MEMORY.
 #[unsafe(no_mangle)]
 pub extern "C" fn sel_views(of: &ColumnRef, out: &mut [ViewWords]) -> u32
     ensures { CopiesViews result of.now.tree out.old out.new }
@@ -90,7 +90,7 @@ pub extern "C" fn sel_views(of: &ColumnRef, out: &mut [ViewWords]) -> u32
 /// Returns in `count` the number of data buffers of a view column.
 ///
 /// Errors: SEL_ERROR_NO_COLUMN: `of` is empty. SEL_ERROR_UNSUPPORTED_TYPE: its type is not
-/// SEL_TYPE_BINARY_VIEW or SEL_TYPE_STRING_VIEW.
+/// SEL_TYPE_BINARY_VIEW or SEL_TYPE_STRING_VIEW. Never returns SEL_ERROR_OUT_OF_MEMORY.
 #[unsafe(no_mangle)]
 pub extern "C" fn sel_buffer_count(of: &ColumnRef, count: &mut usize) -> u32
     ensures { CountsBuffers result of.now.tree count.new }
@@ -105,7 +105,7 @@ pub extern "C" fn sel_buffer_count(of: &ColumnRef, count: &mut usize) -> u32
 ///
 /// Errors: SEL_ERROR_NO_COLUMN: `of` is empty. SEL_ERROR_UNSUPPORTED_TYPE: its type is not
 /// SEL_TYPE_BINARY_VIEW or SEL_TYPE_STRING_VIEW. SEL_ERROR_INDEX_OUT_OF_BOUNDS: there is no data
-/// buffer `i`.
+/// buffer `i`. Never returns SEL_ERROR_OUT_OF_MEMORY.
 #[unsafe(no_mangle)]
 pub extern "C" fn sel_buffer_len(of: &ColumnRef, i: usize, len: &mut usize) -> u32
     ensures { CountsBuffer result of.now.tree i len.new }
@@ -120,7 +120,8 @@ pub extern "C" fn sel_buffer_len(of: &ColumnRef, i: usize, len: &mut usize) -> u
 ///
 /// Errors: SEL_ERROR_NO_COLUMN: `of` is empty. SEL_ERROR_UNSUPPORTED_TYPE: its type is not
 /// SEL_TYPE_BINARY_VIEW or SEL_TYPE_STRING_VIEW. SEL_ERROR_INDEX_OUT_OF_BOUNDS: there is no data
-/// buffer `i`. SEL_ERROR_LENGTH_MISMATCH: `out_len` is not the length of the buffer.
+/// buffer `i`. SEL_ERROR_LENGTH_MISMATCH: `out_len` is not the length of the buffer. Never returns
+/// SEL_ERROR_OUT_OF_MEMORY.
 #[unsafe(no_mangle)]
 pub extern "C" fn sel_buffer(of: &ColumnRef, i: usize, out: &mut [u8]) -> u32
     ensures { CopiesBuffer result of.now.tree i out.old out.new }

@@ -23,10 +23,13 @@ pub enum LineEnd {
     TooLong,
 }
 
-/// Reads the next line into `line`, without its line feed.
+/// Reads the next line into `line`, in place of its bytes and without the line feed, and returns
+/// how it ends: `Input` at the end of the input, with no bytes if no line is left, and `TooLong`
+/// after 1,048,577 bytes.
 ///
 /// # Errors
-/// `Input` if a read fails; `OutOfMemory` if an allocation fails.
+/// `Input` if a read fails, which `reader` counts; `OutOfMemory` if an allocation fails. The bytes
+/// that were read are consumed.
 pub fn read_line<R: Read>(reader: &mut Counted<R>, line: &mut Vec<u8>) -> Result<LineEnd, RunError>
     ensures ok { IfOk result (λ end. HasNoFeed line.new.items
         × Consumes (R.remaining (inner_of reader.old)) (R.remaining (inner_of reader.new))

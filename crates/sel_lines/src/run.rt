@@ -48,9 +48,11 @@ impl<T: Drop> From<AllocFailed<T>> for RunError {
     }
 }
 
-/// Writes the result of each line of the reader to the writer, up to the first bad line.
+/// Writes the answer to each line of the reader and a line feed to the writer.
 ///
-/// Reads nothing of the next line before the result of a line is written.
+/// For the first bad line it writes `bad line`, its number and a line feed, and returns
+/// `Done::BadLine`; at the end of the input it returns `Done::End`. Reads nothing of the next line
+/// before the answer to a line is written.
 ///
 /// # Requires
 /// The reader and the writer have counted no failures.

@@ -10,7 +10,8 @@ use std::io::Write;
 /// Writes all of `text`.
 ///
 /// # Errors
-/// `Output` if a write fails or accepts no bytes.
+/// `Output` if a write fails or accepts no bytes, which `writer` counts. A beginning of `text` may
+/// have been written.
 pub fn send<W: Write>(writer: &mut Counted<W>, text: &[u8]) -> Result<(), RunError>
     ensures ok { OnOk result (Appends (W.contents (inner_of writer.old))
         (W.contents (inner_of writer.new)) text.now) }
