@@ -201,19 +201,21 @@ static void schemas_are_read_whole(void) {
     sel_type_free(&type);
 }
 
-/* The rows of a slice may be few, though the bytes before them are many. */
+/* The rows of a slice may be few, though the bytes before them are many; but not more than a column has, of bytes of the list's child. */
 static void slices_of_fixed_bytes_may_begin_late(void) {
     enum { OFFSET = 300000000, LEN = 10, WIDTH = 16 };
     const size_t bytes = (size_t)(OFFSET + LEN) * WIDTH;
-    const void *values = mmap(NULL, bytes, PROT_READ, MAP_PRIVATE | MAP_ANONYMOUS | MAP_NORESERVE, -1, 0);
     sel_column column = {0};
-    if (values == MAP_FAILED) return;
     forget_pieces();
+    CHECK(import_piece(piece_of("w:1000", 4294968, 0, 2, NULL, numbers, NULL), &column, NULL) == SEL_ERROR_TOO_MANY_ROWS);
+    const void *values = mmap(NULL, bytes, PROT_READ, MAP_PRIVATE | MAP_ANONYMOUS | MAP_NORESERVE, -1, 0);
+    if (values == MAP_FAILED) {
+        printf("not run: slices of fixed-size binary that begin late, without 5 GB of addresses\n");
+        return;
+    }
     CHECK(import_piece(piece_of("w:16", LEN, OFFSET, 2, NULL, values, NULL), &column, NULL) == SEL_OK && sel_len(&column) == LEN);
     sel_free(&column);
     munmap((void *)values, bytes);
-    /* more rows than a column has, of bytes of the list's child */
-    CHECK(import_piece(piece_of("w:1000", 4294968, 0, 2, NULL, numbers, NULL), &column, NULL) == SEL_ERROR_TOO_MANY_ROWS);
 }
 
 void test_rules(void) {
