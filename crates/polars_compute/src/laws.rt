@@ -63,8 +63,8 @@ pub fn law_propagate()
 ///
 /// Two columns of one type with equal rows have equal size requirements and give equal results in
 /// every kernel definition, whatever their layout. The rows that a mask keeps require no more than
-/// all rows. The rows of a well-formed column exceed no limit. Rows exceed a limit exactly if what
-/// they require is above it. Batch executors depend on it.
+/// all rows. The rows of a well-formed column exceed no limit. At most 4,294,967,295 rows exceed a
+/// limit exactly if what they require is above it. Batch executors depend on it.
 #[tactic(auto, using(sel_kernels::proofs::RowNeeds::kept_needs, sel_kernels::proofs::RowNeeds::needs_decide, sel_kernels::proofs::RowNeeds::needs_fit))]
 pub fn law_equal_meaning()
     ensures alike { EqualMeaning }

@@ -148,7 +148,7 @@ impl<O: Offset> BinaryArray<O> {
     /// Replaces the validity.
     ///
     /// # Requires
-    /// The length of `validity` is the number of rows; check with `has_other_length`.
+    /// If there is a validity, its length is the number of rows; check with `has_other_length`.
     pub fn with_validity(self, validity: Option<Bitmap>) -> BinaryArray<O>
         requires { Covers validity (length (binary_rows self)) }
         ensures rows { binary_rows result ≡ byte_rows self.offsets self.values validity }

@@ -165,7 +165,7 @@ impl BinaryViewArray {
     /// Replaces the validity.
     ///
     /// # Requires
-    /// The length of `validity` is the number of rows; check with `has_other_length`.
+    /// If there is a validity, its length is the number of rows; check with `has_other_length`.
     pub fn with_validity(self, validity: Option<Bitmap>) -> BinaryViewArray
         requires { Covers validity (length (binview_rows self)) }
         ensures rows { binview_rows result ≡ view_rows self.views self.buffers validity }

@@ -52,8 +52,9 @@ impl BooleanArray {
         Ok(BooleanArray { values, validity })
     }
 
-    /// Builds a boolean column from `rows`; `None` gives a null row. The value in a null slot is
-    /// false.
+    /// Builds a boolean column from `rows`; `None` gives a null row.
+    ///
+    /// The value in a null slot is false, which the contract leaves open.
     ///
     /// # Errors
     /// `Malformed(TooManyRows)` if there are more than 4,294,967,295 rows; `OutOfMemory` if an
@@ -103,7 +104,7 @@ impl BooleanArray {
     /// Replaces the validity.
     ///
     /// # Requires
-    /// The length of `validity` is the number of rows; check with `has_other_length`.
+    /// If there is a validity, its length is the number of rows; check with `has_other_length`.
     pub fn with_validity(self, validity: Option<Bitmap>) -> BooleanArray
         requires { Covers validity (length (boolean_rows self)) }
         ensures rows { boolean_rows result ≡ bool_rows self.values.bits validity }

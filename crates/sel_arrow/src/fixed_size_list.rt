@@ -96,7 +96,7 @@ impl FixedSizeListArray {
     /// Replaces the validity.
     ///
     /// # Requires
-    /// The length of `validity` is the number of rows; check with `has_other_length`.
+    /// If there is a validity, its length is the number of rows; check with `has_other_length`.
     pub fn with_validity(self, validity: Option<Bitmap>) -> FixedSizeListArray
         requires { Covers validity (length (rows (block_column self))) }
         ensures rows { rows (block_column result) ≡
@@ -257,8 +257,13 @@ impl Array for FixedSizeListArray {
         Ok(ArrowDataType::FixedSizeList(child, self.size))
     }
 
-    /// Returns `len` lists from list `off` on, over the corresponding range of the child. Fails
-    /// only with `OutOfMemory`.
+    /// Returns `len` lists from list `off` on, over the corresponding range of the child.
+    ///
+    /// # Requires
+    /// `off + len` is at most the number of lists.
+    ///
+    /// # Errors
+    /// `OutOfMemory` if an allocation fails.
     fn sliced(&self, alloc: Global, off: usize, len: usize) -> PolarsResult<FixedSizeListArray>
         requires { off + len ≤ length (rows (block_column self.now)) }
         ensures rows { IfOk result (λ part. rows (block_column part) ≡

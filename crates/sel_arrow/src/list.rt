@@ -97,7 +97,7 @@ impl ListArray<i64> {
     /// Replaces the validity.
     ///
     /// # Requires
-    /// The length of `validity` is the number of rows; check with `has_other_length`.
+    /// If there is a validity, its length is the number of rows; check with `has_other_length`.
     pub fn with_validity(self, validity: Option<Bitmap>) -> ListArray<i64>
         requires { Covers validity (length (rows (list_column self))) }
         ensures rows { rows (list_column result) ≡

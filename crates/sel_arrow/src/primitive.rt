@@ -61,8 +61,9 @@ impl<T: NativeType> PrimitiveArray<T> {
         Ok(PrimitiveArray { values, validity })
     }
 
-    /// Builds a primitive column from `rows`; `None` gives a null row. The value in a null slot is
-    /// the minimum of the type.
+    /// Builds a primitive column from `rows`; `None` gives a null row.
+    ///
+    /// The value in a null slot is the minimum of the type, which the contract leaves open.
     ///
     /// # Errors
     /// `Malformed(TooManyRows)` if there are more than 4,294,967,295 rows; `OutOfMemory` if an
@@ -113,7 +114,7 @@ impl<T: NativeType> PrimitiveArray<T> {
     /// Replaces the validity.
     ///
     /// # Requires
-    /// The length of `validity` is the number of rows; check with `has_other_length`.
+    /// If there is a validity, its length is the number of rows; check with `has_other_length`.
     pub fn with_validity(self, validity: Option<Bitmap>) -> PrimitiveArray<T>
         requires { Covers validity (length (primitive_rows self)) }
         ensures rows { primitive_rows result ≡ number_rows T.number self.values validity }
@@ -132,14 +133,14 @@ pub trait ArrowPrimitive: NativeType {
     ghost use Rattle.sel_arrow.specs.DataType.{shape_of};
     ghost use Rattle.sel_arrow.specs.Rows.{rows, buffers_held, type_of, IsWellFormed};
 
-    /// The data type of such a column.
+    /// The data type of a column of this primitive type.
     ghost shape: { Shape };
 
-    /// Returns the data type of such a column.
+    /// Returns the data type of a column of this primitive type.
     fn column_dtype() -> ArrowDataType
         ensures { shape_of result ≡ shape };
 
-    /// Returns whether `dtype` is the data type of such a column.
+    /// Returns whether `dtype` is the data type of a column of this primitive type.
     fn is_column_dtype(dtype: &ArrowDataType) -> bool
         ensures { IsTrue result ↔ (shape ≡ shape_of dtype.now) };
 

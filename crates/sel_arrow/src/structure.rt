@@ -81,7 +81,7 @@ impl StructArray {
     /// Replaces the validity.
     ///
     /// # Requires
-    /// The length of `validity` is the number of rows; check with `has_other_length`.
+    /// If there is a validity, its length is the number of rows; check with `has_other_length`.
     pub fn with_validity(self, validity: Option<Bitmap>) -> StructArray
         requires { Covers validity (length (rows (struct_column self))) }
         ensures rows { rows (struct_column result) ≡

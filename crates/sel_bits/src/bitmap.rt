@@ -128,8 +128,10 @@ impl Bitmap {
         })
     }
 
-    /// Returns the lent bytes, or the bitmap if its bytes are not lent or something else reads
-    /// them.
+    /// Returns the lent bytes.
+    ///
+    /// # Errors
+    /// The bitmap, if its bytes are not lent or have another owner.
     pub fn into_lent(self) -> Result<Lent<u8>, Bitmap>
         ensures value { IfOk result (λ lent. BitsOf self lent.items) }
         ensures refusal { IfErr result (λ bitmap. bitmap ≡ self) }

@@ -75,8 +75,10 @@ impl<T: Drop> Buffer<T> {
         Ok(Buffer::of_part(shared, 0, count))
     }
 
-    /// Returns the lent values, of which the buffer's are a part, or the buffer if its values are
-    /// not lent or something else reads them.
+    /// Returns the lent values, of which the buffer's are a part.
+    ///
+    /// # Errors
+    /// The buffer, if its values are not lent or have another owner.
     pub fn into_lent(self) -> Result<Lent<T>, Buffer<T>>
         ensures items { IfOk result (λ lent. IsPart self lent.items) }
         ensures refusal { IfErr result (λ buffer. buffer ≡ self) }

@@ -40,7 +40,10 @@ impl<T: Drop> Storage<T> {
         }
     }
 
-    /// Returns the lent values, or the storage if they are not lent or have another owner.
+    /// Returns the lent values.
+    ///
+    /// # Errors
+    /// The storage, if its values are not lent or have another owner.
     pub fn into_lent(self) -> Result<Lent<T>, Storage<T>>
         ensures items { IfOk result (λ lent. lent.items ≡ storage_items self) }
         ensures refusal { IfErr result (λ storage. storage_items storage ≡ storage_items self) }

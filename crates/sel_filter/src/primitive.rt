@@ -60,7 +60,8 @@ pub fn filter_counted_values<T: Copy>(
 
 /// Appends the items of the source where `mask` is true, one copy per run of true bits.
 ///
-/// A run that crosses a word boundary is split there. On success `mask` is read to its end.
+/// A run that crosses a word boundary is split there. On success `mask` is read to its end, which
+/// the contract leaves open.
 ///
 /// # Requires
 /// `out` has made no copies, nothing has been read from `mask`, and the source of `out` has the

@@ -34,7 +34,9 @@ pub fn push_validity(
     }
 }
 
-/// Returns the validity of `len` rows with these bits; none if all bits are true.
+/// Returns the validity of `len` rows with these bits.
+///
+/// It is `None` if all bits are true, which the contract leaves open.
 ///
 /// # Requires
 /// `packer` has `len` bits.

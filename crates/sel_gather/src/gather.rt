@@ -40,8 +40,8 @@ use std::alloc::Global;
 ///
 /// # Errors
 /// `OutOfMemory` if an allocation fails; `SizeLimit` if at some depth the result would have more
-/// than 2^32 - 1 rows (`Limit::Rows`) or 2^63 - 1 value bytes (`Limit::Bytes`), or the sources have
-/// more than 2^32 - 1 data buffers in total (`Limit::Buffers`).
+/// than 2^32 - 1 rows (`Limit::Rows`) or 2^63 - 1 value bytes (`Limit::Bytes`), or a view column of
+/// the sources would have more than 2^32 - 1 data buffers over all sources (`Limit::Buffers`).
 pub fn collect_rows<'a>(
     alloc: Global,
     sources: &'a [&'a Column],
@@ -204,8 +204,9 @@ fn collect_listed<'a, P: Plan>(
 /// Returns the lists at the row references of `plan`, in order; a null reference gives a null row.
 ///
 /// # Requires
-/// All sources are well-formed list columns whose child has the type of `child`, a well-formed
-/// column. Every non-null row reference refers to a row of a source.
+/// All sources are list columns whose child has the type of `child` (check with `same_dtype`), and
+/// they and `child` are well-formed (check with `are_well_formed`). Every non-null row reference
+/// refers to a row of a source (check with `plan_in_bounds`).
 ///
 /// # Errors
 /// `OutOfMemory` if an allocation fails; `SizeLimit` if the lists would have more than 2^32 - 1

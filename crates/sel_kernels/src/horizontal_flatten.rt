@@ -27,8 +27,9 @@ const LONG_PART: usize = 32;
 /// `output_height` times the sum of `widths`.
 ///
 /// # Requires
-/// There is at least one array, all arrays have the same type, and each has a width other than 0
-/// and `width` or `width * output_height` rows; check with `flatten_is_safe`.
+/// There is at least one array, and `widths` has one entry for each. All arrays have the same type,
+/// and each has a width other than 0 and `width` or `width * output_height` rows; check with
+/// `flatten_is_safe`.
 ///
 /// # Errors
 /// `OutOfMemory` if an allocation fails; `SizeLimit` if the result exceeds a limit: more than

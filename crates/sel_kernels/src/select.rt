@@ -26,7 +26,8 @@ use std::alloc::Global;
 /// rows that are true and valid; check with [`select_is_safe`].
 ///
 /// # Errors
-/// `SizeLimit` if the result for some column exceeds a limit; `OutOfMemory` if an allocation fails.
+/// `SizeLimit` if the result for some column exceeds a limit of `take_unchecked`; `OutOfMemory` if
+/// an allocation fails.
 pub fn select_rows(
     alloc: Global,
     columns: &[ArrayRef],

@@ -22,9 +22,9 @@ pub fn law_column_types_are_written()
     ensures { ColumnTypesAreWritten }
 {}
 
-/// The text of a type is its own canonical spelling: `parse_dtype` accepts the output of
-/// `print_dtype`, unless the type is nested too deeply or memory is exhausted, and returns the same
-/// type if its list sizes fit in 64 bits.
+/// The text of a type whose list sizes fit in 64 bits, as those of every column do, is its own
+/// canonical spelling: `parse_dtype` accepts the output of `print_dtype` and returns the same type,
+/// unless the type is nested too deeply or memory is exhausted.
 #[tactic(auto, using(crate::proofs::SpelledRows::type_spelled))]
 pub fn law_type_text_is_spelled()
     ensures { TypeTextIsSpelled }
@@ -37,8 +37,8 @@ pub fn law_row_text_is_spelled()
     ensures { RowTextIsSpelled }
 {}
 
-/// A text whose canonical spelling is the text of a type is in the notation of types, in which
-/// `find_type_error` finds no error.
+/// A text whose canonical spelling is the text of a type with list sizes that fit in 64 bits is in
+/// the notation of types, in which `find_type_error` finds no error.
 #[tactic(auto, using(crate::proofs::Respelled::type_respelled))]
 pub fn law_type_text_is_notation()
     ensures { TypeTextIsNotation }

@@ -33,14 +33,14 @@ use std::alloc::Global;
 ///
 /// White space may stand between tokens, and strings may have all of JSON's escapes: `print_rows`
 /// prints the result as the canonical spelling of `text`. `beneath` selects the values in null
-/// slots.
+/// slots, which the contract leaves open.
 ///
 /// # Errors
 /// `Syntax` if `text` is not the notation of rows of any type, with the position of the first byte
-/// with which no such text goes on. Otherwise `Type` if a value does not fit the type, with the
-/// position of the first one: values are compared with their types as they end, so a list or struct
-/// value of the wrong length comes after its values. Otherwise `Limit` if the column would exceed a
-/// size limit. `OutOfMemory` if an allocation fails.
+/// with which no such text goes on, or the length of `text` if it ends too soon. Otherwise `Type`
+/// if a value does not fit the type, with the position of the first one: values are compared with
+/// their types as they end, so a list or struct value of the wrong length comes after its values.
+/// Otherwise `Limit` if the column would exceed a size limit. `OutOfMemory` if an allocation fails.
 #[tactic(auto, using(crate::proofs::Respelled::rows_respelled))]
 pub fn parse_column(
     alloc: Global,

@@ -31,8 +31,9 @@ pub const DEEPEST: usize = 64;
 ///
 /// # Errors
 /// `Syntax` if `text` is not the notation of a type, with the position of the first byte with which
-/// no such text goes on. Otherwise `Limit` if the type is nested more than 64 levels deep or has a
-/// list size above 18,446,744,073,709,551,615. `OutOfMemory` if an allocation fails. Never `Type`.
+/// no such text goes on, or the length of `text` if it ends too soon. Otherwise `Limit` if the type
+/// is nested more than 64 levels deep or has a list size above 18,446,744,073,709,551,615.
+/// `OutOfMemory` if an allocation fails. Never `Type`.
 #[tactic(auto, using(crate::proofs::Respelled::type_respelled))]
 pub fn parse_dtype(alloc: Global, text: &str) -> Result<ArrowDataType, TextError>
     ensures text { IfOk result (λ dtype. spelled text.now ≡ Some (type_text (shape_of dtype))) }

@@ -72,7 +72,8 @@ pub fn filter(alloc: Global, array: &ArrayRef, mask: &BooleanArray) -> PolarsRes
 
 /// Returns the rows of `array` whose bit in `mask` is set, in order.
 ///
-/// The result has the type of `array`. If the set bits are consecutive, it is a slice of `array`.
+/// The result has the type of `array`. If the set bits are consecutive, it may be a slice of
+/// `array`, which the contract leaves open.
 ///
 /// # Requires
 /// `array` and `mask` have the same length.
@@ -96,7 +97,8 @@ pub fn filter_with_bitmap(alloc: Global, array: &ArrayRef, mask: &Bitmap) -> Pol
 
 /// Returns the rows of `array` that `selection` keeps, in order.
 ///
-/// The result has the type of `array`. If the kept rows are consecutive, it is a slice of `array`.
+/// The result has the type of `array`. If the kept rows are consecutive, it may be a slice of
+/// `array`, which the contract leaves open.
 ///
 /// # Requires
 /// `array` has `selection.len()` rows.

@@ -58,7 +58,7 @@ impl Selection {
         Ok(Selection { mask, count, first })
     }
 
-    /// Returns the number of rows of the columns that can be filtered.
+    /// Returns the number of rows that a column must have to be filtered.
     pub fn len(&self) -> usize
         ensures { result ≡ length self.now.mask.bits }
     {
@@ -66,9 +66,10 @@ impl Selection {
     }
 }
 
-/// Returns the position of the first of the `count` true bits if they are consecutive, else none.
+/// Returns the position of the first of the `count` true bits if they are consecutive, else `None`.
 ///
-/// Only speed depends on whether there is a result, and whether rows are shared or copied.
+/// `None` is also returned for consecutive bits that are not looked for, which the contract leaves
+/// open: then the kept rows are copied instead of shared.
 pub(crate) fn first_kept(mask: &Bitmap, count: usize) -> PolarsResult<Option<usize>>
     requires { count ≡ count_true mask.now.bits }
     ensures first { IfOk result (λ first. ForSome first (λ at. IsRun mask.now.bits at count)) }

@@ -223,8 +223,10 @@ pub fn idx_slice_in_bounds(indices: &[u32], len: usize) -> bool
     len > u32::MAX as usize || are_below(indices, len as u32)
 }
 
-/// Returns whether every index is less than `len`, by the greatest: with SIMD, one operation finds
-/// the greater indices of several pairs.
+/// Returns whether every index is less than `len`.
+///
+/// Looks for the greatest index: SSE4 has an operation for the maxima of several pairs of unsigned
+/// integers, but none that compares them.
 #[tactic(auto, using(crate::proofs::Takes::none_below))]
 fn are_below(places: &[u32], len: u32) -> bool
     ensures { result ≡ all_below len places.now }

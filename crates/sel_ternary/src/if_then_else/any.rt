@@ -39,7 +39,8 @@ use std::alloc::Global;
 /// Both columns have the same type (check with `same_dtype`), and a row for each bit of `mask`.
 ///
 /// # Errors
-/// `OutOfMemory`; `SizeLimit` if the result would exceed a limit.
+/// `OutOfMemory` if an allocation fails; `SizeLimit` if the result exceeds a limit of
+/// `collect_rows`.
 #[tactic(auto, using(crate::proofs::ListChoices::few_bits))]
 pub fn if_then_else_any(
     alloc: Global,
@@ -64,7 +65,8 @@ pub fn if_then_else_any(
 /// null, and `if_false` a row for each bit of `mask`.
 ///
 /// # Errors
-/// `OutOfMemory`; `SizeLimit` if the result would exceed a limit.
+/// `OutOfMemory` if an allocation fails; `SizeLimit` if the result exceeds a limit of
+/// `collect_rows`.
 #[tactic(auto, using(crate::proofs::ListChoices::few_bits))]
 pub fn if_then_else_any_broadcast_true(
     alloc: Global,
@@ -90,7 +92,8 @@ pub fn if_then_else_any_broadcast_true(
 /// `mask`, and `if_false` one row, which may be null.
 ///
 /// # Errors
-/// `OutOfMemory`; `SizeLimit` if the result would exceed a limit.
+/// `OutOfMemory` if an allocation fails; `SizeLimit` if the result exceeds a limit of
+/// `collect_rows`.
 #[tactic(auto, using(crate::proofs::ListChoices::few_bits))]
 pub fn if_then_else_any_broadcast_false(
     alloc: Global,
@@ -116,7 +119,8 @@ pub fn if_then_else_any_broadcast_false(
 /// has at most 4,294,967,295 bits.
 ///
 /// # Errors
-/// `OutOfMemory`; `SizeLimit` if the result would exceed a limit.
+/// `OutOfMemory` if an allocation fails; `SizeLimit` if the result exceeds a limit of
+/// `collect_rows`.
 pub fn if_then_else_any_broadcast_both(
     alloc: Global,
     mask: &Bitmap,

@@ -74,7 +74,8 @@ pub(crate) fn choose_blocks<C: BlockChoice>(
 
 /// Returns a vector with the value of `if_true` where the mask bit is set, else of `if_false`.
 ///
-/// Reads the mask to its end, in at most `len / 64 + 2` words for `len` bits.
+/// Reads the mask to its end, which the contract leaves open, in at most `len / 64 + 2` words for
+/// `len` bits.
 ///
 /// # Requires
 /// `mask` is unread, and each slice has as many values as the mask has bits.

@@ -37,10 +37,6 @@ pub use lanes::ChooseLanes;
 pub use validity::if_then_else_validity;
 
 /// Columns that support if-then-else with a boolean mask. A scalar is broadcast to all rows.
-///
-/// # Errors
-/// Each function returns `OutOfMemory` if an allocation fails, and `SizeLimit` only for a limit
-/// that `past` gives. On success no such limit is exceeded.
 pub trait IfThenElseKernel: Sized + Array {
     ghost use Rattle.sel_arrow.specs.DataType.{shape_of};
 
@@ -53,7 +49,7 @@ pub trait IfThenElseKernel: Sized + Array {
     /// The scalar can be a row of a column of this type.
     ghost fits: { Self.Scalar → Shape → Type 0 };
 
-    /// This type is a type of such columns.
+    /// This is the type of a column of type `Self`.
     ghost is_own: { Shape → Type 0 };
 
     /// The limits exceeded by an if-then-else result of this type with these rows.
@@ -63,7 +59,11 @@ pub trait IfThenElseKernel: Sized + Array {
     /// Returns a column with row k of `if_true` where bit k of `mask` is set, else of `if_false`.
     ///
     /// # Requires
-    /// Both columns have the same type, and a row for each bit of `mask`.
+    /// Both columns have the same type (check with `same_dtype`), and a row for each bit of `mask`.
+    ///
+    /// # Errors
+    /// `OutOfMemory` if an allocation fails; `SizeLimit` if the result exceeds a limit that
+    /// `exceeded` gives.
     fn if_then_else(
         alloc: Global,
         mask: &Bitmap,
@@ -86,7 +86,12 @@ pub trait IfThenElseKernel: Sized + Array {
     /// Returns a column with the scalar where the bit of `mask` is set, else the row of `if_false`.
     ///
     /// # Requires
-    /// `if_false` has a row for each bit of `mask`, and the scalar fits its type.
+    /// `if_false` has a row for each bit of `mask`, and the scalar fits its type. Lists have a
+    /// check for it, `scalar_fits`; the scalars of other columns always fit.
+    ///
+    /// # Errors
+    /// `OutOfMemory` if an allocation fails; `SizeLimit` if the result exceeds a limit that
+    /// `exceeded` gives.
     fn if_then_else_broadcast_true(
         alloc: Global,
         mask: &Bitmap,
@@ -108,7 +113,12 @@ pub trait IfThenElseKernel: Sized + Array {
     /// Returns a column with the row of `if_true` where the bit of `mask` is set, else the scalar.
     ///
     /// # Requires
-    /// `if_true` has a row for each bit of `mask`, and the scalar fits its type.
+    /// `if_true` has a row for each bit of `mask`, and the scalar fits its type. Lists have a check
+    /// for it, `scalar_fits`; the scalars of other columns always fit.
+    ///
+    /// # Errors
+    /// `OutOfMemory` if an allocation fails; `SizeLimit` if the result exceeds a limit that
+    /// `exceeded` gives.
     fn if_then_else_broadcast_false(
         alloc: Global,
         mask: &Bitmap,
@@ -130,7 +140,12 @@ pub trait IfThenElseKernel: Sized + Array {
     /// Returns a column of type `dtype` with `if_true` where `mask` is set, else `if_false`.
     ///
     /// # Requires
-    /// `dtype` is a type of such columns, and both scalars fit it.
+    /// `dtype` is the type of a column of type `Self`, and both scalars fit it. List types have a
+    /// check for it, `scalar_fits`; the scalars of other columns always fit.
+    ///
+    /// # Errors
+    /// `OutOfMemory` if an allocation fails; `SizeLimit` if the result exceeds a limit that
+    /// `exceeded` gives.
     fn if_then_else_broadcast_both(
         alloc: Global,
         dtype: ArrowDataType,

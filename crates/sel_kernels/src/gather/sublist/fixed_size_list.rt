@@ -25,15 +25,15 @@ use sel_gather::one_source::collect_one_plan;
 use sel_gather::row_refs::{Places, Walk};
 use std::alloc::Global;
 
-/// Returns a column with the element of each list at `index`, which may be null.
+/// Returns a column whose row k is the element of list k at `index`.
 ///
-/// A negative index counts from the end. Row k is null if list k is null or the index is out of
-/// bounds for the list size. The result has the type of the child.
+/// A negative index counts from the end. Row k is null if the element is null, list k is null or
+/// the index is out of bounds for the list size. The result has the type of the child.
 ///
 /// # Errors
 /// `ComputeError` if `null_on_oob` is false, the index is out of bounds and some list is not null;
 /// checked before any allocation. Otherwise `OutOfMemory` if an allocation fails, or `SizeLimit` if
-/// the result exceeds a limit of its type.
+/// the result exceeds a limit of `take_unchecked`.
 pub fn sub_fixed_size_list_get_literal(
     alloc: Global,
     arr: &FixedSizeListArray,
@@ -66,10 +66,10 @@ pub fn sub_fixed_size_list_get_literal(
     collect_one_plan(alloc, arr.values(), &plan)
 }
 
-/// Returns a column with the element of each list k at index k, which may be null.
+/// Returns a column whose row k is the element of list k at index k.
 ///
-/// A negative index counts from the end. Row k is null if list k or index k is null, or the index
-/// is out of bounds for the list size. The result has the type of the child.
+/// A negative index counts from the end. Row k is null if the element, list k or index k is null,
+/// or the index is out of bounds for the list size. The result has the type of the child.
 ///
 /// # Requires
 /// `index` has as many rows as `arr`.
@@ -77,7 +77,7 @@ pub fn sub_fixed_size_list_get_literal(
 /// # Errors
 /// `ComputeError` if `null_on_oob` is false and an index is null or out of bounds for a list that
 /// is not null; checked before any allocation. Otherwise `OutOfMemory` if an allocation fails, or
-/// `SizeLimit` if the result exceeds a limit of its type.
+/// `SizeLimit` if the result exceeds a limit of `take_unchecked`.
 pub fn sub_fixed_size_list_get(
     alloc: Global,
     arr: &FixedSizeListArray,

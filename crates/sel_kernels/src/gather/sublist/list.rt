@@ -38,13 +38,14 @@ use std::alloc::Global;
 /// one of them.
 const BLOCK: usize = 64;
 
-/// Returns a column with the element of each list at `index`, which may be null.
+/// Returns a column whose row k is the element of list k at `index`.
 ///
-/// A negative index counts from the end. Row k is null if list k is null or the index is out of
-/// bounds for it. The result has the type of the child.
+/// A negative index counts from the end. Row k is null if the element is null, list k is null or
+/// the index is out of bounds for it. The result has the type of the child.
 ///
 /// # Errors
-/// `OutOfMemory` if an allocation fails; `SizeLimit` if the result exceeds a limit of its type.
+/// `OutOfMemory` if an allocation fails; `SizeLimit` if the result exceeds a limit of
+/// `take_unchecked`.
 pub fn sublist_get(alloc: Global, arr: &ListArray<i64>, index: i64) -> PolarsResult<ArrayRef>
     ensures { SelectsFrom result (type_of arr.now.values.value)
         (list_get (rows (list_column arr.now)) index) }
@@ -54,7 +55,7 @@ pub fn sublist_get(alloc: Global, arr: &ListArray<i64>, index: i64) -> PolarsRes
     collect_one_plan(alloc, arr.values(), &plan)
 }
 
-/// Returns the child row of the element of each list at `index`, as gather indices.
+/// Returns indices into the child: row k is the position of the element of list k at `index`.
 ///
 /// A negative index counts from the end. Row k is null if list k is null or the index is out of
 /// bounds for it.
