@@ -63,6 +63,8 @@ pub record Parses (code : ℕ) (name row_text : List ℕ) (at_before at_after : 
   pub type_error : code ≡ type_syntax → IsFirstError is_type_notation name at_after
   pub row_error : code ≡ row_syntax → IsFirstError is_row_notation row_text at_after
   pub misfit : code ≡ row_type_mismatch → is_row_notation row_text ≡ true
+  pub type_limit : (shape : Shape) → IsTypeText shape name → ExceedsAlways shape →
+      IsOneOf code (out_of_memory ∷ text_limit ∷ [])
   pub type_read : code ≡ text_limit → is_type_notation name ≡ true
   pub fit : code ≡ text_limit → (shape : Shape) → IsTypeText shape name →
       ExceedsAlways shape ⊎ HasFittingRows shape row_text

@@ -1,17 +1,15 @@
 //! Columns over shared buffers, and the buffers of columns. Internal to the C library: its Arrow
 //! interface calls these functions, and no header for programs declares them.
 
-ghost use Rattle.std.specs.Prelude.{◌≡◌, ◌≢◌, map, take, drop, slice_index_or, []};
-ghost use Rattle.std.specs.Option.{option_map};
+ghost use Rattle.std.specs.Prelude.{◌≡◌, ◌≢◌, ◌≤◌, ◌<◌, ◌+◌, [], ◌∷◌, All, true, length, map, take, drop};
+ghost use Rattle.sel_arrow.specs.Depth.{depth, deepest};
 ghost use Rattle.sel_arrow.specs.Masked.{bool_rows};
 ghost use Rattle.sel_arrow.specs.Nested.{block_rows, struct_rows};
-ghost use Rattle.sel_arrow.specs.Nulls.{IsValidityOf};
 ghost use Rattle.sel_arrow.specs.Shape.{of_boolean, of_large_binary, of_binary_view, of_utf8_view, of_large_list, of_fixed_size_list, of_struct, shapes_of};
-ghost use Rattle.sel_ffi.specs.Layout.{held_buffers};
-ghost use Rattle.sel_ffi.specs.Status.{ok, held_rows, held_type};
-ghost use Rattle.sel_lent.specs.Buffers.{bitmap_of, bits_of, bytes_in, bytes_of, first_of, length_of, of_column, offsets_in, type_over, validity_over, values_in};
-ghost use Rattle.sel_lent.specs.ColumnsOver.{integer_rows_over, binary_rows_over, list_rows_over, view_rows_over, MakesColumn};
-ghost use Rattle.sel_lent.specs.declared.shared_buffer.SharedBuffer.TheVariants.{UInt8};
+ghost use Rattle.sel_ffi.specs.Status.{ok, no_column, unsupported_type, length_mismatch, too_deep, held_count, held_rows, held_type, HasColumn};
+ghost use Rattle.sel_lent.specs.Buffers.{bits_of, bytes_in, bytes_of, count_over, integers_of, of_column, offsets_in, type_over, validity_over, values_in, views_of};
+ghost use Rattle.sel_lent.specs.ColumnsOver.{is_bitmap, is_int64_buffer, is_integer_buffer, may_be_validity, flat_rules_over, integer_rows_over, binary_conditions, binary_rows_over, binary_rules_over, list_rows_over, list_rules_over, block_rules_over, struct_rules_over, view_conditions, view_rows_over, binary_view_rules_over, string_view_rules_over, MakesColumn};
+ghost use Rattle.sel_lent.specs.Parts.{SharesData, SharesPart, SharesValidity, ShowsBuffer};
 
 use sel_ffi::column_ref::ColumnRef;
 use sel_ffi::handle::Handle;
@@ -28,8 +26,9 @@ use std::alloc::Global;
 /// Stores in `out` the column of the integers of a buffer. Its validity is the bits of `validity`
 /// from bit `first` on.
 ///
-/// Errors: `UNSUPPORTED_TYPE` if the handle has no buffer of integers; `VALIDITY_LENGTH`;
-/// `TOO_MANY_ROWS`; `OUT_OF_MEMORY`. On error `out` is unchanged.
+/// Errors: `UNSUPPORTED_TYPE` if `values` is no buffer of integers, or `validity` has another
+/// buffer than a bitmap; `VALIDITY_LENGTH`; `TOO_MANY_ROWS`; `OUT_OF_MEMORY`. On error `out` is
+/// unchanged.
 #[unsafe(no_mangle)]
 pub extern "C" fn sel_integers_over(
     alloc: Global,
@@ -39,7 +38,10 @@ pub extern "C" fn sel_integers_over(
     out: &mut Handle,
 ) -> u32
     ensures { MakesColumn result out.old.tree out.new.tree (type_over values.now.buffer)
-        (integer_rows_over values.now.buffer validity.now.buffer first) }
+        (integer_rows_over values.now.buffer validity.now.buffer first)
+        ((unsupported_type, may_be_validity validity.now.buffer ≡ true)
+        ∷ (unsupported_type, is_integer_buffer values.now.buffer ≡ true) ∷ [])
+        (flat_rules_over (count_over values.now.buffer) validity.now.buffer first) }
 {
     integers_over(alloc, values, validity, first, out)
 }
@@ -47,9 +49,9 @@ pub extern "C" fn sel_integers_over(
 /// Stores in `out` the boolean column of `len` bits of a bitmap, from bit `start` on. Its validity
 /// is the bits of `validity` from bit `first` on.
 ///
-/// Errors: `UNSUPPORTED_TYPE` if the handle has no bitmap; `LENGTH_MISMATCH` if it has fewer than
-/// `start + len` bits; `VALIDITY_LENGTH`; `TOO_MANY_ROWS`; `OUT_OF_MEMORY`. On error `out`
-/// is unchanged.
+/// Errors: `UNSUPPORTED_TYPE` if `values` is no bitmap, or `validity` has another buffer than one;
+/// `LENGTH_MISMATCH` if `values` has fewer than `start + len` bits; `VALIDITY_LENGTH`;
+/// `TOO_MANY_ROWS`; `OUT_OF_MEMORY`. On error `out` is unchanged.
 #[unsafe(no_mangle)]
 pub extern "C" fn sel_booleans_over(
     alloc: Global,
@@ -62,7 +64,11 @@ pub extern "C" fn sel_booleans_over(
 ) -> u32
     ensures { MakesColumn result out.old.tree out.new.tree of_boolean
         (bool_rows (take len (drop start (bits_of values.now.buffer)))
-        (validity_over validity.now.buffer first len)) }
+        (validity_over validity.now.buffer first len))
+        ((unsupported_type, is_bitmap values.now.buffer ≡ true)
+        ∷ (unsupported_type, may_be_validity validity.now.buffer ≡ true)
+        ∷ (length_mismatch, start + len ≤ length (bits_of values.now.buffer)) ∷ [])
+        (flat_rules_over len validity.now.buffer first) }
 {
     booleans_over(alloc, values, start, len, validity, first, out)
 }
@@ -70,9 +76,9 @@ pub extern "C" fn sel_booleans_over(
 /// Stores in `out` the binary column of a buffer of offsets and a buffer of bytes. Its validity is
 /// the bits of `validity` from bit `first` on.
 ///
-/// Errors: `UNSUPPORTED_TYPE` if the handles have no such buffers; `NO_OFFSETS`, `NEGATIVE_OFFSET`,
-/// `DECREASING_OFFSET`; `VALIDITY_LENGTH`; `TOO_MANY_ROWS`, `OFFSET_RANGE`;
-/// `OUT_OF_MEMORY`. On error `out` is unchanged.
+/// Errors: `UNSUPPORTED_TYPE` if a handle has another buffer; `NO_OFFSETS`, `NEGATIVE_OFFSET`,
+/// `DECREASING_OFFSET`; `VALIDITY_LENGTH`; `TOO_MANY_ROWS`, `OFFSET_RANGE`; `OUT_OF_MEMORY`. On
+/// error `out` is unchanged.
 #[unsafe(no_mangle)]
 pub extern "C" fn sel_binary_over(
     alloc: Global,
@@ -83,7 +89,10 @@ pub extern "C" fn sel_binary_over(
     out: &mut Handle,
 ) -> u32
     ensures { MakesColumn result out.old.tree out.new.tree of_large_binary
-        (binary_rows_over offsets.now.buffer bytes.now.buffer validity.now.buffer first) }
+        (binary_rows_over offsets.now.buffer bytes.now.buffer validity.now.buffer first)
+        (binary_conditions offsets.now.buffer bytes.now.buffer validity.now.buffer)
+        (binary_rules_over (integers_of offsets.now.buffer) (bytes_of bytes.now.buffer)
+        validity.now.buffer first) }
 {
     binary_over(alloc, offsets, bytes, validity, first, out)
 }
@@ -92,9 +101,9 @@ pub extern "C" fn sel_binary_over(
 /// Its validity is the bits of `validity` from bit `first` on.
 ///
 /// Errors: `NO_COLUMN` if `child` is empty; `TOO_DEEP` if it has 128 levels; `UNSUPPORTED_TYPE` if
-/// the handle has no buffer of offsets; `NO_OFFSETS`, `NEGATIVE_OFFSET`, `DECREASING_OFFSET`;
-/// `VALIDITY_LENGTH`; `TOO_MANY_ROWS`, `OFFSET_RANGE`; `OUT_OF_MEMORY`. On error `out` is
-/// unchanged.
+/// `offsets` is no buffer of 64-bit integers, or `validity` has another buffer than a bitmap;
+/// `NO_OFFSETS`, `NEGATIVE_OFFSET`, `DECREASING_OFFSET`; `VALIDITY_LENGTH`; `TOO_MANY_ROWS`,
+/// `OFFSET_RANGE`; `OUT_OF_MEMORY`. On error `out` is unchanged.
 #[unsafe(no_mangle)]
 pub extern "C" fn sel_list_over(
     alloc: Global,
@@ -106,7 +115,13 @@ pub extern "C" fn sel_list_over(
 ) -> u32
     ensures { MakesColumn result out.old.tree out.new.tree
         (of_large_list (held_type child.now.tree))
-        (list_rows_over offsets.now.buffer (held_rows child.now.tree) validity.now.buffer first) }
+        (list_rows_over offsets.now.buffer (held_rows child.now.tree) validity.now.buffer first)
+        ((no_column, HasColumn child.now.tree)
+        ∷ (too_deep, depth (held_type child.now.tree) < 128)
+        ∷ (unsupported_type, is_int64_buffer offsets.now.buffer ≡ true)
+        ∷ (unsupported_type, may_be_validity validity.now.buffer ≡ true) ∷ [])
+        (list_rules_over (integers_of offsets.now.buffer) (held_count child.now.tree)
+        validity.now.buffer first) }
 {
     list_over(alloc, offsets, child, validity, first, out)
 }
@@ -114,8 +129,9 @@ pub extern "C" fn sel_list_over(
 /// Stores in `out` the column of `len` fixed-size lists of `width` rows over a column, whose
 /// buffers it shares. Its validity is the bits of `validity` from bit `first` on.
 ///
-/// Errors: `NO_COLUMN` if `child` is empty; `TOO_DEEP` if it has 128 levels; `VALIDITY_LENGTH`;
-/// `TOO_MANY_ROWS`, `LIST_SIZE`, `CHILD_LENGTH`; `OUT_OF_MEMORY`. On error `out` is unchanged.
+/// Errors: `NO_COLUMN` if `child` is empty; `TOO_DEEP` if it has 128 levels; `UNSUPPORTED_TYPE` if
+/// `validity` has another buffer than a bitmap; `VALIDITY_LENGTH`; `TOO_MANY_ROWS`, `LIST_SIZE`,
+/// `CHILD_LENGTH`; `OUT_OF_MEMORY`. On error `out` is unchanged.
 #[unsafe(no_mangle)]
 pub extern "C" fn sel_fixed_size_list_over(
     alloc: Global,
@@ -128,7 +144,11 @@ pub extern "C" fn sel_fixed_size_list_over(
 ) -> u32
     ensures { MakesColumn result out.old.tree out.new.tree
         (of_fixed_size_list (held_type child.now.tree) width) (block_rows width len
-        (held_rows child.now.tree) (validity_over validity.now.buffer first len)) }
+        (held_rows child.now.tree) (validity_over validity.now.buffer first len))
+        ((no_column, HasColumn child.now.tree)
+        ∷ (too_deep, depth (held_type child.now.tree) < 128)
+        ∷ (unsupported_type, may_be_validity validity.now.buffer ≡ true) ∷ [])
+        (block_rules_over width len (held_count child.now.tree) validity.now.buffer first) }
 {
     fixed_size_list_over(alloc, width, len, child, validity, first, out)
 }
@@ -136,8 +156,9 @@ pub extern "C" fn sel_fixed_size_list_over(
 /// Stores in `out` the struct column of `len` rows over columns, whose buffers it shares. Its
 /// validity is the bits of `validity` from bit `first` on.
 ///
-/// Errors: `NO_COLUMN` if a field is empty; `TOO_DEEP` if one has 128 levels; `VALIDITY_LENGTH`;
-/// `TOO_MANY_ROWS`, `FIELD_LENGTH`; `OUT_OF_MEMORY`. On error `out` is unchanged.
+/// Errors: `UNSUPPORTED_TYPE` if `validity` has another buffer than a bitmap; `NO_COLUMN` if a
+/// field is empty; `TOO_DEEP` if one has 128 levels; `VALIDITY_LENGTH`; `TOO_MANY_ROWS`,
+/// `FIELD_LENGTH`; `OUT_OF_MEMORY`. On error `out` is unchanged.
 #[unsafe(no_mangle)]
 pub extern "C" fn sel_struct_over(
     alloc: Global,
@@ -150,7 +171,15 @@ pub extern "C" fn sel_struct_over(
     ensures { MakesColumn result out.old.tree out.new.tree
         (of_struct (shapes_of (map (λ field. held_type field.tree) fields.now)))
         (struct_rows len (map (λ field. held_rows field.tree) fields.now)
-        (validity_over validity.now.buffer first len)) }
+        (validity_over validity.now.buffer first len))
+        ((unsupported_type, may_be_validity validity.now.buffer ≡ true)
+        ∷ (no_column, All (λ field. HasColumn field.tree) fields.now)
+        ∷ (
+          too_deep,
+          deepest (shapes_of (map (λ field. held_type field.tree) fields.now)) < 128,
+        ) ∷ [])
+        (struct_rules_over len (map (λ field. held_count field.tree) fields.now)
+        validity.now.buffer first) }
 {
     struct_over(alloc, len, fields, validity, first, out)
 }
@@ -158,9 +187,8 @@ pub extern "C" fn sel_struct_over(
 /// Stores in `out` the binary view column of a buffer of views and of data buffers. Its validity is
 /// the bits of `validity` from bit `first` on.
 ///
-/// Errors: `UNSUPPORTED_TYPE` if the handles have no such buffers; `VALIDITY_LENGTH`;
-/// `TOO_MANY_ROWS`, `TOO_MANY_BUFFERS`, `VIEW_RANGE`, `VIEW_PREFIX`; `OUT_OF_MEMORY`. On error
-/// `out` is unchanged.
+/// Errors: `UNSUPPORTED_TYPE` if a handle has another buffer; `VALIDITY_LENGTH`; `TOO_MANY_ROWS`,
+/// `TOO_MANY_BUFFERS`, `VIEW_RANGE`, `VIEW_PREFIX`; `OUT_OF_MEMORY`. On error `out` is unchanged.
 #[unsafe(no_mangle)]
 pub extern "C" fn sel_binary_views_over(
     alloc: Global,
@@ -172,7 +200,10 @@ pub extern "C" fn sel_binary_views_over(
 ) -> u32
     ensures { MakesColumn result out.old.tree out.new.tree of_binary_view
         (view_rows_over views.now.buffer (map (λ handle. bytes_of handle.buffer) buffers.now)
-        validity.now.buffer first) }
+        validity.now.buffer first)
+        (view_conditions views.now.buffer buffers.now validity.now.buffer)
+        (binary_view_rules_over (views_of views.now.buffer)
+        (map (λ handle. bytes_of handle.buffer) buffers.now) validity.now.buffer first) }
 {
     binary_views_over(alloc, views, buffers, validity, first, out)
 }
@@ -180,9 +211,9 @@ pub extern "C" fn sel_binary_views_over(
 /// Stores in `out` the string view column of a buffer of views and of data buffers. Its validity is
 /// the bits of `validity` from bit `first` on.
 ///
-/// Errors: `UNSUPPORTED_TYPE` if the handles have no such buffers; `VALIDITY_LENGTH`;
-/// `TOO_MANY_ROWS`, `TOO_MANY_BUFFERS`, `VIEW_RANGE`, `VIEW_PREFIX`, `INVALID_UTF8`;
-/// `OUT_OF_MEMORY`. On error `out` is unchanged.
+/// Errors: `UNSUPPORTED_TYPE` if a handle has another buffer; `VALIDITY_LENGTH`; `TOO_MANY_ROWS`,
+/// `TOO_MANY_BUFFERS`, `VIEW_RANGE`, `VIEW_PREFIX`, `INVALID_UTF8`; `OUT_OF_MEMORY`. On error `out`
+/// is unchanged.
 #[unsafe(no_mangle)]
 pub extern "C" fn sel_string_views_over(
     alloc: Global,
@@ -194,7 +225,10 @@ pub extern "C" fn sel_string_views_over(
 ) -> u32
     ensures { MakesColumn result out.old.tree out.new.tree of_utf8_view
         (view_rows_over views.now.buffer (map (λ handle. bytes_of handle.buffer) buffers.now)
-        validity.now.buffer first) }
+        validity.now.buffer first)
+        (view_conditions views.now.buffer buffers.now validity.now.buffer)
+        (string_view_rules_over (views_of views.now.buffer)
+        (map (λ handle. bytes_of handle.buffer) buffers.now) validity.now.buffer first) }
 {
     string_views_over(alloc, views, buffers, validity, first, out)
 }
@@ -204,9 +238,7 @@ pub extern "C" fn sel_string_views_over(
 /// Errors: `NO_COLUMN` if the handle has no column; `OUT_OF_MEMORY`. On error `out` is unchanged.
 #[unsafe(no_mangle)]
 pub extern "C" fn sel_validity_of(alloc: Global, of: &ColumnRef, out: &mut BufferHandle) -> u32
-    ensures validity { result ≡ ok → IsValidityOf (held_type of.now.tree)
-        (bitmap_of out.new.buffer) (held_rows of.now.tree) }
-    ensures unchanged { result ≢ ok → out.new.buffer ≡ out.old.buffer }
+    ensures { SharesValidity result of.now.tree out.old.buffer out.new.buffer }
 {
     validity_of(alloc, of, out)
 }
@@ -217,8 +249,8 @@ pub extern "C" fn sel_validity_of(alloc: Global, of: &ColumnRef, out: &mut Buffe
 /// buffer; `OUT_OF_MEMORY`. On error `out` is unchanged.
 #[unsafe(no_mangle)]
 pub extern "C" fn sel_values_of(alloc: Global, of: &ColumnRef, out: &mut BufferHandle) -> u32
-    ensures buffer { result ≡ ok → out.new.buffer ≡ of_column values_in of.now.tree }
-    ensures unchanged { result ≢ ok → out.new.buffer ≡ out.old.buffer }
+    ensures { SharesPart result of.now.tree (of_column values_in of.now.tree)
+        out.old.buffer out.new.buffer }
 {
     values_of(alloc, of, out)
 }
@@ -229,8 +261,8 @@ pub extern "C" fn sel_values_of(alloc: Global, of: &ColumnRef, out: &mut BufferH
 /// a list with 64-bit offsets; `OUT_OF_MEMORY`. On error `out` is unchanged.
 #[unsafe(no_mangle)]
 pub extern "C" fn sel_offsets_of(alloc: Global, of: &ColumnRef, out: &mut BufferHandle) -> u32
-    ensures buffer { result ≡ ok → out.new.buffer ≡ of_column offsets_in of.now.tree }
-    ensures unchanged { result ≢ ok → out.new.buffer ≡ out.old.buffer }
+    ensures { SharesPart result of.now.tree (of_column offsets_in of.now.tree)
+        out.old.buffer out.new.buffer }
 {
     offsets_of(alloc, of, out)
 }
@@ -241,8 +273,8 @@ pub extern "C" fn sel_offsets_of(alloc: Global, of: &ColumnRef, out: &mut Buffer
 /// 64-bit offsets; `OUT_OF_MEMORY`. On error `out` is unchanged.
 #[unsafe(no_mangle)]
 pub extern "C" fn sel_bytes_of(alloc: Global, of: &ColumnRef, out: &mut BufferHandle) -> u32
-    ensures buffer { result ≡ ok → out.new.buffer ≡ of_column bytes_in of.now.tree }
-    ensures unchanged { result ≢ ok → out.new.buffer ≡ out.old.buffer }
+    ensures { SharesPart result of.now.tree (of_column bytes_in of.now.tree)
+        out.old.buffer out.new.buffer }
 {
     bytes_of(alloc, of, out)
 }
@@ -259,9 +291,7 @@ pub extern "C" fn sel_data_of(
     i: usize,
     out: &mut BufferHandle,
 ) -> u32
-    ensures buffer { result ≡ ok → out.new.buffer ≡
-        option_map (λ buffers. UInt8 (slice_index_or buffers i [])) (held_buffers of.now.tree) }
-    ensures unchanged { result ≢ ok → out.new.buffer ≡ out.old.buffer }
+    ensures { SharesData result of.now.tree i out.old.buffer out.new.buffer }
 {
     data_of(alloc, of, i, out)
 }
@@ -269,7 +299,8 @@ pub extern "C" fn sel_data_of(
 /// Writes the address of the buffer, the number of its values, and the index of the first bit of a
 /// bitmap in its first byte. The values are there, unchanged, as long as a handle shares them.
 ///
-/// Errors: `NO_COLUMN` if the handle has no buffer.
+/// Errors: `NO_COLUMN` if the handle has no buffer; `UNSUPPORTED_TYPE` if the buffer is a
+/// placeholder. On error nothing is written.
 #[unsafe(no_mangle)]
 pub extern "C" fn sel_buffer_show(
     of: &BufferRef,
@@ -277,8 +308,8 @@ pub extern "C" fn sel_buffer_show(
     len: &mut usize,
     first: &mut usize,
 ) -> u32
-    ensures len { result ≡ ok → len.new ≡ length_of of.now.buffer }
-    ensures first { result ≡ ok → first.new ≡ first_of of.now.buffer }
+    ensures { ShowsBuffer result of.now.buffer len.old len.new first.old first.new }
+    ensures at { result ≢ ok → at.new ≡ at.old }
 {
     show(of, at, len, first)
 }

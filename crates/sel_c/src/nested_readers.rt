@@ -29,7 +29,7 @@ pub extern "C" fn sel_offsets(of: &ColumnRef, out: &mut [i64]) -> u32
 /// SEL_TYPE_BINARY. Never returns SEL_ERROR_OUT_OF_MEMORY.
 #[unsafe(no_mangle)]
 pub extern "C" fn sel_bytes_len(of: &ColumnRef, len: &mut usize) -> u32
-    ensures { CountsBytes result of.now.tree len.new }
+    ensures { CountsBytes result of.now.tree len.old len.new }
 {
     let Some(column) = of.column() else {
         return NO_COLUMN;

@@ -21,6 +21,7 @@ use std::alloc::Global;
 pub extern "C" fn sel_equal_rows(of: &ColumnRef, other: &ColumnRef, equal: &mut bool) -> u32
     ensures told { result ≡ ok →
         (IsTrue equal.new ↔ (held_rows of.now.tree ≡ held_rows other.now.tree)) }
+    ensures unchanged { result ≢ ok → equal.new ≡ equal.old }
     ensures checks { ReturnsFirst result
         ((no_column, HasColumn of.now.tree × HasColumn other.now.tree) ∷ []) (result ≡ ok) }
     ensures memory { result ≢ out_of_memory }
@@ -42,7 +43,8 @@ pub extern "C" fn sel_equal_rows(of: &ColumnRef, other: &ColumnRef, equal: &mut 
 /// Errors: SEL_ERROR_NO_COLUMN: `of` is empty.
 #[unsafe(no_mangle)]
 pub extern "C" fn sel_print(alloc: Global, of: &ColumnRef, out: &mut [u8], len: &mut usize) -> u32
-    ensures { Prints result of.now.tree (held_text of.now.tree) out.old out.new len.new }
+    ensures { Prints result of.now.tree (held_text of.now.tree)
+        out.old out.new len.old len.new }
 {
     let Some(column) = of.column() else {
         return NO_COLUMN;
@@ -62,7 +64,8 @@ pub extern "C" fn sel_print_type(
     out: &mut [u8],
     len: &mut usize,
 ) -> u32
-    ensures { Prints result of.now.tree (held_type_text of.now.tree) out.old out.new len.new }
+    ensures { Prints result of.now.tree (held_type_text of.now.tree)
+        out.old out.new len.old len.new }
 {
     let Some(column) = of.column() else {
         return NO_COLUMN;

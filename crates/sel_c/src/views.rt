@@ -93,7 +93,7 @@ pub extern "C" fn sel_views(of: &ColumnRef, out: &mut [ViewWords]) -> u32
 /// SEL_TYPE_BINARY_VIEW or SEL_TYPE_STRING_VIEW. Never returns SEL_ERROR_OUT_OF_MEMORY.
 #[unsafe(no_mangle)]
 pub extern "C" fn sel_buffer_count(of: &ColumnRef, count: &mut usize) -> u32
-    ensures { CountsBuffers result of.now.tree count.new }
+    ensures { CountsBuffers result of.now.tree count.old count.new }
 {
     let Some(column) = of.column() else {
         return NO_COLUMN;
@@ -108,7 +108,7 @@ pub extern "C" fn sel_buffer_count(of: &ColumnRef, count: &mut usize) -> u32
 /// buffer `i`. Never returns SEL_ERROR_OUT_OF_MEMORY.
 #[unsafe(no_mangle)]
 pub extern "C" fn sel_buffer_len(of: &ColumnRef, i: usize, len: &mut usize) -> u32
-    ensures { CountsBuffer result of.now.tree i len.new }
+    ensures { CountsBuffer result of.now.tree i len.old len.new }
 {
     let Some(column) = of.column() else {
         return NO_COLUMN;

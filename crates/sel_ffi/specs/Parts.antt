@@ -9,45 +9,48 @@ use Rattle.sel_ffi.specs.Status.{ok, out_of_memory, no_column, unsupported_type,
 use Rattle.sel_ffi.specs.Status.{index_out_of_bounds, HasColumn, ReturnsFirst}
 use Rattle.sel_ffi.specs.declared.views.ViewWords.{ViewWords}
 
--- A part that columns of some types have is copied, if there is room for exactly that many items.
--- Nothing is allocated.
-pub record CopiesPart {A : Type 0} (code : ℕ) (held : Held) (part : Option (List A)) (room : ℕ)
-    (copied : List A) : Type 0 where
-  pub values : code ≡ ok → Some copied ≡ part
+-- A part that columns of some types have is copied, if there is room for exactly that many items:
+-- what is written is read as the part. Nothing is allocated, and on error nothing is written.
+pub record CopiesPart {A B : Type 0} (code : ℕ) (held : Held) (part : Option (List A))
+    (read : List B → List A) (before after : List B) : Type 0 where
+  pub values : code ≡ ok → Some (read after) ≡ part
+  pub unchanged : code ≢ ok → after ≡ before
   pub checks : ReturnsFirst code
       ((no_column, HasColumn held) ∷ (unsupported_type, part ≢ None)
-      ∷ (length_mismatch, Some room ≡ option_map length part) ∷ []) (code ≡ ok)
+      ∷ (length_mismatch, Some (length before) ≡ option_map length part) ∷ []) (code ≡ ok)
   pub memory : code ≢ out_of_memory
 
--- The length of such a part is written.
-pub record CountsPart {A : Type 0} (code : ℕ) (held : Held) (part : Option (List A)) (count : ℕ) :
-    Type 0 where
-  pub counted : code ≡ ok → Some count ≡ option_map length part
+-- The length of such a part is written, on error nothing.
+pub record CountsPart {A : Type 0} (code : ℕ) (held : Held) (part : Option (List A))
+    (before after : ℕ) : Type 0 where
+  pub counted : code ≡ ok → Some after ≡ option_map length part
+  pub unchanged : code ≢ ok → after ≡ before
   pub checks : ReturnsFirst code
       ((no_column, HasColumn held) ∷ (unsupported_type, part ≢ None) ∷ []) (code ≡ ok)
   pub memory : code ≢ out_of_memory
 
 abbrev pub CopiesOffsets : ℕ → Held → List ℤ → List ℤ → Type 0
 CopiesOffsets code held before after =
-    CopiesPart code held (held_offsets held) (length before) (positions after)
+    CopiesPart code held (held_offsets held) positions before after
 
 abbrev pub CopiesBytes : ℕ → Held → List ℕ → List ℕ → Type 0
-CopiesBytes code held before after = CopiesPart code held (held_bytes held) (length before) after
+CopiesBytes code held before after =
+    CopiesPart code held (held_bytes held) (λ bytes. bytes) before after
 
 abbrev pub CopiesViews : ℕ → Held → List ViewWords → List ViewWords → Type 0
-CopiesViews code held before after =
-    CopiesPart code held (held_views held) (length before) (views_in after)
+CopiesViews code held before after = CopiesPart code held (held_views held) views_in before after
 
-abbrev pub CountsBytes : ℕ → Held → ℕ → Type 0
-CountsBytes code held count = CountsPart code held (held_bytes held) count
+abbrev pub CountsBytes : ℕ → Held → ℕ → ℕ → Type 0
+CountsBytes code held before after = CountsPart code held (held_bytes held) before after
 
-abbrev pub CountsBuffers : ℕ → Held → ℕ → Type 0
-CountsBuffers code held count = CountsPart code held (held_buffers held) count
+abbrev pub CountsBuffers : ℕ → Held → ℕ → ℕ → Type 0
+CountsBuffers code held before after = CountsPart code held (held_buffers held) before after
 
--- The length of data buffer i of a view column is written.
-pub record CountsBuffer (code : ℕ) (held : Held) (i count : ℕ) : Type 0 where
+-- The length of data buffer i of a view column is written, on error nothing.
+pub record CountsBuffer (code : ℕ) (held : Held) (i before after : ℕ) : Type 0 where
   pub counted : code ≡ ok → option_map (λ buffers. option_map length (slice_get buffers i))
-      (held_buffers held) ≡ Some (Some count)
+      (held_buffers held) ≡ Some (Some after)
+  pub unchanged : code ≢ ok → after ≡ before
   pub checks : ReturnsFirst code
       ((no_column, HasColumn held) ∷ (unsupported_type, held_buffers held ≢ None)
       ∷ (index_out_of_bounds, IfSome (held_buffers held) (λ buffers. i < length buffers)) ∷ [])
@@ -55,9 +58,11 @@ pub record CountsBuffer (code : ℕ) (held : Held) (i count : ℕ) : Type 0 wher
   pub memory : code ≢ out_of_memory
 
 -- The bytes of data buffer i of a view column are copied, if there is room for exactly that many.
+-- On error nothing is written.
 pub record CopiesBuffer (code : ℕ) (held : Held) (i : ℕ) (before after : List ℕ) : Type 0 where
   pub values : code ≡ ok →
       option_map (λ buffers. slice_get buffers i) (held_buffers held) ≡ Some (Some after)
+  pub unchanged : code ≢ ok → after ≡ before
   pub checks : ReturnsFirst code
       ((no_column, HasColumn held) ∷ (unsupported_type, held_buffers held ≢ None)
       ∷ (index_out_of_bounds, IfSome (held_buffers held) (λ buffers. i < length buffers))

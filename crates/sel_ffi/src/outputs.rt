@@ -49,6 +49,7 @@ pub fn numbers_into<T: ArrowPrimitive>(alloc: Global, column: &ArrayRef, out: &m
 pub fn bits_into(alloc: Global, bits: &Bitmap, out: &mut [u8]) -> u32
     ensures bits { result ≡ ok → bits_from out.new 0 (length bits.now.bits) ≡
         bits.now.bits }
+    ensures unchanged { result ≢ ok → out.new ≡ out.old }
     ensures checks { ReturnsFirst result
         ((length_mismatch, length out.old ≡ (length bits.now.bits + 7) / 8) ∷ []) (result ≡ ok) }
 {

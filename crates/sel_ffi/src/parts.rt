@@ -71,7 +71,7 @@ pub fn bytes_into(column: &ArrayRef, out: &mut [u8]) -> u32
 ///
 /// Errors: `UNSUPPORTED_TYPE` if the column is not binary with 64-bit offsets.
 pub fn bytes_len_into(column: &ArrayRef, out: &mut usize) -> u32
-    ensures { CountsBytes result (Some column.now) out.new }
+    ensures { CountsBytes result (Some column.now) out.old out.new }
 {
     let Some(bytes) = bytes_of_column(column.as_column()) else {
         return UNSUPPORTED_TYPE;

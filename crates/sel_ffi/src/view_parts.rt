@@ -63,7 +63,7 @@ fn write_views(views: &[View], out: &mut [ViewWords])
 ///
 /// Errors: `UNSUPPORTED_TYPE` if the column is not a view column.
 pub fn buffer_count_into(column: &ArrayRef, count: &mut usize) -> u32
-    ensures { CountsBuffers result (Some column.now) count.new }
+    ensures { CountsBuffers result (Some column.now) count.old count.new }
 {
     let Some(array) = view_array_in(column.as_column()) else {
         return UNSUPPORTED_TYPE;
@@ -77,7 +77,7 @@ pub fn buffer_count_into(column: &ArrayRef, count: &mut usize) -> u32
 /// Errors: `UNSUPPORTED_TYPE` if the column is not a view column; `INDEX_OUT_OF_BOUNDS` if there is
 /// no data buffer `i`.
 pub fn buffer_len_into(column: &ArrayRef, i: usize, len: &mut usize) -> u32
-    ensures { CountsBuffer result (Some column.now) i len.new }
+    ensures { CountsBuffer result (Some column.now) i len.old len.new }
 {
     let Some(array) = view_array_in(column.as_column()) else {
         return UNSUPPORTED_TYPE;

@@ -1,3 +1,4 @@
+pub mod Counts
 pub mod Handles
 pub mod MemoryMoves
 pub mod MemoryStructs

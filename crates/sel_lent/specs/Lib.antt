@@ -1,3 +1,4 @@
 pub mod Buffers
 pub mod ColumnsOver
 pub mod Held
+pub mod Parts

@@ -1,11 +1,9 @@
 //! The buffers of columns, shared without a copy.
 
-ghost use Rattle.std.specs.Prelude.{◌≡◌, ◌≢◌, ◌≤◌, Some, slice_index_or, [], map, pos};
-ghost use Rattle.std.specs.Option.{option_map};
-ghost use Rattle.sel_arrow.specs.Nulls.{IsValidityOf};
-ghost use Rattle.sel_ffi.specs.Layout.{held_buffers};
-ghost use Rattle.sel_ffi.specs.Status.{ok, held_rows, held_type};
-ghost use Rattle.sel_lent.specs.Buffers.{bitmap_of, bytes_in, of_column, offsets_in, values_in};
+ghost use Rattle.std.specs.Prelude.{◌≡◌, ◌≢◌, ◌≤◌, ◌<◌, Some, slice_index_or, [], ◌∷◌, length, map, pos};
+ghost use Rattle.sel_ffi.specs.Status.{ok, out_of_memory, index_out_of_bounds, ReturnsFirst};
+ghost use Rattle.sel_lent.specs.Buffers.{bytes_in, of_column, offsets_in, values_in};
+ghost use Rattle.sel_lent.specs.Parts.{SharesData, SharesPart, SharesValidity};
 ghost use Rattle.sel_lent.specs.declared.shared_buffer.SharedBuffer.TheVariants.{Bits, Int64, UInt8};
 
 use crate::buffer_handle::BufferHandle;
@@ -26,6 +24,7 @@ use std::alloc::Global;
 fn put_buffer(alloc: Global, buffer: SharedBuffer, out: &mut BufferHandle) -> u32
     ensures buffer { result ≡ ok → out.new.buffer ≡ Some buffer }
     ensures unchanged { result ≢ ok → out.new.buffer ≡ out.old.buffer }
+    ensures status { result ≤ out_of_memory }
 {
     match Box::new(alloc, buffer) {
         Ok(boxed) => {
@@ -40,6 +39,7 @@ fn put_buffer(alloc: Global, buffer: SharedBuffer, out: &mut BufferHandle) -> u3
 fn put_values<T: Lendable>(alloc: Global, values: &Buffer<T>, out: &mut BufferHandle) -> u32
     ensures buffer { result ≡ ok → out.new.buffer ≡ Some (T.shared values.now) }
     ensures unchanged { result ≢ ok → out.new.buffer ≡ out.old.buffer }
+    ensures status { result ≤ out_of_memory }
 {
     match values.try_clone() {
         Ok(values) => put_buffer(alloc, T::share(values), out),
@@ -51,6 +51,7 @@ fn put_values<T: Lendable>(alloc: Global, values: &Buffer<T>, out: &mut BufferHa
 fn put_bits(alloc: Global, bits: &Bitmap, out: &mut BufferHandle) -> u32
     ensures buffer { result ≡ ok → out.new.buffer ≡ Some (Bits bits.now) }
     ensures unchanged { result ≢ ok → out.new.buffer ≡ out.old.buffer }
+    ensures status { result ≤ out_of_memory }
 {
     match bits.try_clone() {
         Ok(bits) => put_buffer(alloc, SharedBuffer::Bits(bits), out),
@@ -62,6 +63,7 @@ fn put_bits(alloc: Global, bits: &Bitmap, out: &mut BufferHandle) -> u32
 fn put_offsets(alloc: Global, offsets: &OffsetsBuffer<i64>, out: &mut BufferHandle) -> u32
     ensures buffer { result ≡ ok → out.new.buffer ≡ Some (Int64 (map pos offsets.now)) }
     ensures unchanged { result ≢ ok → out.new.buffer ≡ out.old.buffer }
+    ensures status { result ≤ out_of_memory }
 {
     match offsets.to_buffer() {
         Ok(values) => put_buffer(alloc, SharedBuffer::Int64(values), out),
@@ -73,9 +75,7 @@ fn put_offsets(alloc: Global, offsets: &OffsetsBuffer<i64>, out: &mut BufferHand
 ///
 /// Errors: `NO_COLUMN` if the handle has no column; `OUT_OF_MEMORY`. On error `out` is unchanged.
 pub fn validity_of(alloc: Global, of: &ColumnRef, out: &mut BufferHandle) -> u32
-    ensures validity { result ≡ ok → IsValidityOf (held_type of.now.tree)
-        (bitmap_of out.new.buffer) (held_rows of.now.tree) }
-    ensures unchanged { result ≢ ok → out.new.buffer ≡ out.old.buffer }
+    ensures { SharesValidity result of.now.tree out.old.buffer out.new.buffer }
 {
     let Some(column) = of.column() else {
         return NO_COLUMN;
@@ -94,8 +94,8 @@ pub fn validity_of(alloc: Global, of: &ColumnRef, out: &mut BufferHandle) -> u32
 /// Errors: `NO_COLUMN` if the handle has no column; `UNSUPPORTED_TYPE` if the type has no such
 /// buffer; `OUT_OF_MEMORY`. On error `out` is unchanged.
 pub fn values_of(alloc: Global, of: &ColumnRef, out: &mut BufferHandle) -> u32
-    ensures buffer { result ≡ ok → out.new.buffer ≡ of_column values_in of.now.tree }
-    ensures unchanged { result ≢ ok → out.new.buffer ≡ out.old.buffer }
+    ensures { SharesPart result of.now.tree (of_column values_in of.now.tree)
+        out.old.buffer out.new.buffer }
 {
     let Some(column) = of.column() else {
         return NO_COLUMN;
@@ -121,8 +121,8 @@ pub fn values_of(alloc: Global, of: &ColumnRef, out: &mut BufferHandle) -> u32
 /// Errors: `NO_COLUMN` if the handle has no column; `UNSUPPORTED_TYPE` if it is neither binary nor
 /// a list with 64-bit offsets; `OUT_OF_MEMORY`. On error `out` is unchanged.
 pub fn offsets_of(alloc: Global, of: &ColumnRef, out: &mut BufferHandle) -> u32
-    ensures buffer { result ≡ ok → out.new.buffer ≡ of_column offsets_in of.now.tree }
-    ensures unchanged { result ≢ ok → out.new.buffer ≡ out.old.buffer }
+    ensures { SharesPart result of.now.tree (of_column offsets_in of.now.tree)
+        out.old.buffer out.new.buffer }
 {
     let Some(column) = of.column() else {
         return NO_COLUMN;
@@ -139,8 +139,8 @@ pub fn offsets_of(alloc: Global, of: &ColumnRef, out: &mut BufferHandle) -> u32
 /// Errors: `NO_COLUMN` if the handle has no column; `UNSUPPORTED_TYPE` if it is not binary with
 /// 64-bit offsets; `OUT_OF_MEMORY`. On error `out` is unchanged.
 pub fn bytes_of(alloc: Global, of: &ColumnRef, out: &mut BufferHandle) -> u32
-    ensures buffer { result ≡ ok → out.new.buffer ≡ of_column bytes_in of.now.tree }
-    ensures unchanged { result ≢ ok → out.new.buffer ≡ out.old.buffer }
+    ensures { SharesPart result of.now.tree (of_column bytes_in of.now.tree)
+        out.old.buffer out.new.buffer }
 {
     let Some(column) = of.column() else {
         return NO_COLUMN;
@@ -156,6 +156,8 @@ fn put_data(alloc: Global, buffers: &[Buffer<u8>], i: usize, out: &mut BufferHan
     ensures buffer { result ≡ ok →
         out.new.buffer ≡ Some (UInt8 (slice_index_or buffers.now i [])) }
     ensures unchanged { result ≢ ok → out.new.buffer ≡ out.old.buffer }
+    ensures checks { ReturnsFirst result
+        ((index_out_of_bounds, i < length buffers.now) ∷ []) (result ≡ ok) }
 {
     if i >= buffers.len() {
         return INDEX_OUT_OF_BOUNDS;
@@ -169,9 +171,7 @@ fn put_data(alloc: Global, buffers: &[Buffer<u8>], i: usize, out: &mut BufferHan
 /// `INDEX_OUT_OF_BOUNDS` if it has at most `i` data buffers; `OUT_OF_MEMORY`. On error `out` is
 /// unchanged.
 pub fn data_of(alloc: Global, of: &ColumnRef, i: usize, out: &mut BufferHandle) -> u32
-    ensures buffer { result ≡ ok → out.new.buffer ≡
-        option_map (λ buffers. UInt8 (slice_index_or buffers i [])) (held_buffers of.now.tree) }
-    ensures unchanged { result ≢ ok → out.new.buffer ≡ out.old.buffer }
+    ensures { SharesData result of.now.tree i out.old.buffer out.new.buffer }
 {
     let Some(column) = of.column() else {
         return NO_COLUMN;

@@ -69,8 +69,8 @@ pub fn choose_handles(
     choose_shared(alloc, by, first, second, true_column, false_column, out)
 }
 
-// Stores the if-then-else in `out`; shares a side if all rows come from it. A mask of one row has as
-// many rows as a scalar.
+// Stores the if-then-else in `out`; shares a side if all rows come from it. A mask of one row has
+// as many rows as a scalar.
 fn choose_shared(
     alloc: Global,
     mask: &ArrayRef,
@@ -92,8 +92,8 @@ fn choose_shared(
     choose_into(alloc, mask, trues, falses, true_column, false_column, out)
 }
 
-// Returns whether a side that fits has as many rows as the mask: it is a column, or a scalar for one
-// row.
+// Returns whether a side that fits has as many rows as the mask: it is a column, or a scalar for
+// one row.
 fn has_all_rows(is_column: bool, mask: &ArrayRef) -> bool
     ensures { result ≡ true → is_column ≡ true ⊎ length (rows mask.now.column) ≡ 1 }
 {

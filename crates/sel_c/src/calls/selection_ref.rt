@@ -13,9 +13,9 @@ use std::marker::Model;
 
 /// Read access to the selection of a handle, or to none if the pointer is null.
 ///
-/// It has the layout of [`SelectionHandle`](crate::calls::selection_handle::SelectionHandle): C passes the
-/// address of a handle as a pointer to const. Any number of calls, on any threads, may read a
-/// handle at the same time, as long as no call writes to it.
+/// It has the layout of [`SelectionHandle`](crate::calls::selection_handle::SelectionHandle): C
+/// passes the address of a handle as a pointer to const. Any number of calls, on any threads, may
+/// read a handle at the same time, as long as no call writes to it.
 #[repr(C)]
 pub struct SelectionRef {
     at: *const u8,

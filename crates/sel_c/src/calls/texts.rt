@@ -1,7 +1,7 @@
 //! Columns printed as row text and parsed from it.
 
 ghost use Rattle.std.specs.Prelude.{◌≡◌, ◌≢◌, ◌≤◌, ◌⊎◌, ℕ, List, [], ◌∷◌, Some, true, false, length, IfOk, IfErr, IfSome, IsTrue};
-ghost use Rattle.sel_arrow.specs.DataType.{shape_of};
+ghost use Rattle.sel_arrow.specs.DataType.{shape_of, widths_fit};
 ghost use Rattle.sel_arrow.specs.Depth.{depth};
 ghost use Rattle.sel_arrow.specs.Rows.{rows, type_of};
 ghost use Rattle.sel_arrow.specs.Shape.{Shape};
@@ -39,7 +39,8 @@ use std::str;
 /// Errors: `OUT_OF_MEMORY`.
 pub fn print_into(alloc: Global, column: &ArrayRef, out: &mut [u8], len: &mut usize) -> u32
     ensures { Prints result (Some column.now)
-        (text_of (type_of column.now.column) (rows column.now.column)) out.old out.new len.new }
+        (text_of (type_of column.now.column) (rows column.now.column))
+        out.old out.new len.old len.new }
 {
     let Ok(text) = print_rows(alloc, column.as_column()) else {
         return OUT_OF_MEMORY;
@@ -56,7 +57,7 @@ pub fn print_into(alloc: Global, column: &ArrayRef, out: &mut [u8], len: &mut us
 /// Errors: `OUT_OF_MEMORY`.
 pub fn print_type_into(alloc: Global, column: &ArrayRef, out: &mut [u8], len: &mut usize) -> u32
     ensures { Prints result (Some column.now) (type_text (type_of column.now.column))
-        out.old out.new len.new }
+        out.old out.new len.old len.new }
 {
     let Ok(dtype) = column.as_column().dtype(alloc) else {
         return OUT_OF_MEMORY;
@@ -110,6 +111,7 @@ fn read_dtype(alloc: Global, bytes: &[u8]) -> Result<ArrowDataType, TextError>
     ensures text { IfOk result (λ dtype. spelled bytes.now ≡ Some (type_text (shape_of dtype))) }
     ensures narrow { IfOk result (λ dtype. IsTrue (widths_written (shape_of dtype))) }
     ensures levels { IfOk result (λ dtype. depth (shape_of dtype) ≤ 64) }
+    ensures fit { IfOk result (λ dtype. widths_fit dtype ≡ true) }
     ensures notation { IfOk result (λ _. is_type_notation bytes.now ≡ true) }
     ensures refused { IfErr result (λ error. (shape : Shape) →
         IsTypeText shape bytes.now → IsLimitOrMemoryError error) }

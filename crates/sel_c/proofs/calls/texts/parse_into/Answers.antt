@@ -4,7 +4,8 @@ use Rattle.sel_ffi.specs.Status.{text_limit}
 use Rattle.std.proofs.Common.{List, rules, ◌≡◌, ◌≤◌, inl, true, false, length, sym, arith, subst, nat_lt}
 use Rattle.std.proofs.lemmas.Bool.{or_from, or_right}
 use Rattle.sel_c.proofs.Common.{shape_of, Shape, exceeds_limit, depth, nat_tests}
-use Rattle.sel_c.specs.Parsed.{IsRowsText}
+use Rattle.sel_c.specs.Parsed.{ExceedsAlways, IsRowsText}
+use Rattle.sel_c.proofs.WideTypes.{exceeds_not_always}
 use Rattle.sel_text.{specs.TextErrors.HasFittingRows, specs.declared.build.NullSlots.TheVariants.Zeros, proofs.OneType.one_spelled}
 use Rattle.sel_c.proofs.calls.texts.parse_into.Goals as goal
 
@@ -22,6 +23,7 @@ returns-in-Err c =
       row_error = search rules;
       misfit = search rules;
       type_read = search rules;
+      type_limit = λ shape named always. c.type_error_status.ensures.short (c.in-Err.ensures.refused shape named);
       fit = λ limit shape named. inl (λ values. c.in-Err.ensures.limit (c.type_error_status.ensures.limit limit) shape values named);
       type_place = λ is. c.type_error_status.ensures.place (length c.args.name.now) c.in-Err.ensures.place is;
       place = search rules;
@@ -43,7 +45,9 @@ returns-in-Err-made c =
     (subst (λ s. IsRowsText s values c.args.text.now) (sym (same shape named)) texts))) in
     let fit = λ (limit : c.rows_error_status.result ≡ text_limit) (shape : Shape) (named : IsTypeText shape c.args.name.now).
     subst (λ s. HasFittingRows s c.args.text.now) (same shape named) (c.in-Err-made.ensures.fit (c.rows_error_status.ensures.limit limit)) in
-    search (rules, accepted, limit, fit, or_right, c.rows_error_status.ensures.place (length c.args.text.now) c.in-Err-made.ensures.place)
+    let type_limit = λ (shape : Shape) (named : IsTypeText shape c.args.name.now) (always : ExceedsAlways shape).
+    absurd (exceeds_not_always c.in-Ok.dtype c.in-Ok.ensures.fit c.in-Ok.ensures.levels (subst ExceedsAlways (sym (same shape named)) always)) in
+    search (rules, accepted, limit, fit, type_limit, or_right, c.rows_error_status.ensures.place (length c.args.text.now) c.in-Err-made.ensures.place)
 
 pub returns-in-Ok-made : goal.returns-in-Ok-made
 returns-in-Ok-made c =
@@ -55,7 +59,11 @@ returns-in-Ok-made c =
     let shallow : nat_lt 64 (depth shape) ≡ false = grind (arith, nat_tests, levels) in
     let fits = c.in-Ok-made.ensures.within values (subst (λ s. IsRowsText s values c.args.text.now) (sym same) texts) in
     or_from (nat_lt 64 (depth shape)) (exceeds_limit Zeros shape values) shallow (subst (λ s. exceeds_limit Zeros s values ≡ false) same fits) in
-    search (rules, within)
+    let type_limit = λ (shape : Shape) (named : IsTypeText shape c.args.name.now) (always : ExceedsAlways shape).
+    let same : shape_of c.in-Ok.dtype ≡ shape = one_spelled c.args.name.now
+    (shape_of c.in-Ok.dtype) shape c.in-Ok.ensures.narrow named.0 c.in-Ok.ensures.text named.2 in
+    absurd (exceeds_not_always c.in-Ok.dtype c.in-Ok.ensures.fit c.in-Ok.ensures.levels (subst ExceedsAlways (sym same) always)) in
+    search (rules, within, type_limit)
 
 pub put-requires : goal.put-requires
 put-requires c =
