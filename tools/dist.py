@@ -32,12 +32,10 @@ from typing import Dict, List, NamedTuple, Optional, Set, Tuple
 ROOT = pathlib.Path(__file__).resolve().parent.parent
 EXAMPLES = ROOT / "examples"
 WHEEL = ROOT / "bindings" / "python" / "build_backend" / "wheel_of_sel.py"
-CC = os.environ.get("CC", "cc")
-# Debian's packages are installed for the system's Python.
-PYTHON = os.environ.get("PYTHON", "/usr/bin/python3" if pathlib.Path("/usr/bin/python3").exists() else sys.executable)
 sys.dont_write_bytecode = True
 sys.path.insert(0, str(ROOT / "tools"))
 
+from commands import CC, PYTHON, has, left_out, run  # noqa: E402
 from package import BUILD, LEAST_CPU, NEWER_CPUS, SONAME, File, built_for, files, folder_of, functions, path_for, version  # noqa: E402
 from package import install, paths, report_newer_sources, require_built, staged, uninstall  # noqa: E402
 from verdicts import crates, sum_of_sources  # noqa: E402
@@ -152,24 +150,6 @@ def write_release(folder: pathlib.Path) -> List[pathlib.Path]:
 
 
 # The check
-
-
-def run(*words: object, cwd: Optional[pathlib.Path] = None, env: Optional[Dict[str, str]] = None) -> str:
-    """Runs a command and returns its output. Exits if it fails."""
-    done = subprocess.run([str(word) for word in words], cwd=cwd, env=env, stdout=subprocess.PIPE, text=True, check=False)
-    if done.returncode != 0:
-        print(done.stdout, end="")
-        sys.exit(f"failed: {' '.join(str(word) for word in words)}")
-    return done.stdout
-
-
-def has(need: str) -> bool:
-    """Returns whether a dependency is installed. tools/need reports the missing ones."""
-    return subprocess.run([ROOT / "tools" / "need", "--only-look", need], check=False).returncode == 0
-
-
-def left_out(what: str) -> None:
-    print(f"not run: {what}", file=sys.stderr)
 
 
 def expect(holds: bool, otherwise: str) -> None:
@@ -315,7 +295,7 @@ def check_c(top: pathlib.Path, folder: pathlib.Path) -> None:
     for name in examples():
         for kind, words in link.items():
             program = folder / f"{name}_{kind}"
-            run(CC, "-std=c11", "-Wall", "-Werror", *flags.compile, EXAMPLES / f"{name}.c", *words, "-o", program)
+            run(*CC, "-std=c11", "-Wall", "-Werror", *flags.compile, EXAMPLES / f"{name}.c", *words, "-o", program)
             runs_linked(program, name, kind == "shared", f"{kind}, {flags.source}")
 
 
@@ -328,7 +308,7 @@ def check_cmake(prefix: pathlib.Path, folder: pathlib.Path, where: str) -> None:
         project = project.replace(f"@{name}@", value)
     folder.mkdir()
     (folder / "CMakeLists.txt").write_text(project)
-    env = environment(CC=CC)
+    env = environment(CC=shlex.join(CC))
     run("cmake", "-S", folder, "-B", folder / "made", f"-DCMAKE_PREFIX_PATH={prefix}", "-DCMAKE_FIND_USE_PACKAGE_REGISTRY=OFF", env=env)
     used = f"sel_DIR:PATH={prefix}/lib/cmake/sel"
     expect(used in (folder / "made" / "CMakeCache.txt").read_text().splitlines(), f"cmake does not use the library of the {where}")
@@ -358,7 +338,7 @@ def check_loader(top: pathlib.Path, folder: pathlib.Path) -> None:
     copy = folder / "levels"
     shutil.copytree(top, copy, symlinks=True)
     program, plain = copy / name, copy / "lib" / SONAME
-    run(CC, "-std=c11", f"-I{copy}/include", EXAMPLES / f"{name}.c", f"-L{copy}/lib", "-lsel", f"-Wl,-rpath,{copy}/lib", "-o", program)
+    run(*CC, "-std=c11", f"-I{copy}/include", EXAMPLES / f"{name}.c", f"-L{copy}/lib", "-lsel", f"-Wl,-rpath,{copy}/lib", "-o", program)
     for cpu in NEWER_CPUS:
         newer = copy / path_for(cpu)
         if not newer.exists():

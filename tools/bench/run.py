@@ -25,8 +25,11 @@ if TYPE_CHECKING:
 
 HERE = pathlib.Path(__file__).resolve().parent
 ROOT = HERE.parent.parent
-SYSTEM_PYTHON = "/usr/bin/python3"
-CC = os.environ.get("CC", "cc")
+sys.dont_write_bytecode = True
+sys.path.insert(0, str(ROOT / "tools"))
+
+from commands import CC, INCLUDE, SYSTEM_PYTHON  # noqa: E402
+
 FLAGS = ["-O3", "-march=native", "-std=c11", "-Wall", "-Wextra", "-fPIC", "-shared"]
 ROUNDS, ROUND_NS = 21, 1_500_000
 LARGE, SMALL, MOST = 2 ** 20, 2 ** 14, 2 ** 26
@@ -50,7 +53,7 @@ def with_numpy() -> bool:
 def timers(folder: pathlib.Path) -> ctypes.CDLL:
     """Builds bench.c, linked with build/libsel.so, and loads it."""
     built = folder / "bench.so"
-    subprocess.run([CC, *FLAGS, "-I", ROOT / "include", HERE / "bench.c", f"-L{ROOT / 'build'}", "-lsel", f"-Wl,-rpath,{ROOT / 'build'}", "-o", built], check=True)
+    subprocess.run([*CC, *FLAGS, *INCLUDE, HERE / "bench.c", f"-L{ROOT / 'build'}", "-lsel", f"-Wl,-rpath,{ROOT / 'build'}", "-o", built], check=True)
     return ctypes.PyDLL(str(built))
 
 
@@ -130,7 +133,6 @@ def main() -> None:
     if not (ROOT / "build" / "libsel.so").exists():
         subprocess.run([ROOT / "tools" / "clib.py"], check=True)
     os.environ.setdefault("SEL_LIBRARY", str(ROOT / "build" / "libsel.so"))
-    sys.dont_write_bytecode = True
     sys.path[:0] = [str(ROOT / "bindings" / "python"), str(HERE)]
     import cases
     import lending
@@ -162,7 +164,7 @@ def main() -> None:
             scale.append((case.kernel, case.rows, case.varied, measured(lib, case)))
         load.append(os.getloadavg()[0])
         beside = upstream.section(*map(pathlib.Path, os.environ["UPSTREAM"].split())) if os.environ.get("UPSTREAM") else upstream.earlier(upstream.PAGE.read_text())
-        report.write(ROOT / "docs", results, scale, beside, [*of_threads, *tables.section(), *lending.section(), *words.section(of_words)], load, CC, FLAGS)
+        report.write(ROOT / "docs", results, scale, beside, [*of_threads, *tables.section(), *lending.section(), *words.section(of_words)], load, " ".join(CC), FLAGS)
     finally:
         shutil.rmtree(folder, ignore_errors=True)
 
