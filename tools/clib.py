@@ -195,11 +195,12 @@ def check_leases(folder: pathlib.Path) -> None:
 
 
 def check_depth(folder: pathlib.Path) -> None:
-    """Runs c/test_depth.c, which has to call every function of the headers."""
-    called = set(re.findall(r"\b(sel_\w+)\(", (TESTS / "test_depth.c").read_text()))
+    """Runs c/test_depth.c, whose tests have to call every function of the headers."""
+    sources = sorted(TESTS.glob("test_depth*.c"))
+    called = {name for path in sources for name in re.findall(r"\b(sel_\w+)\(", path.read_text())}
     if not functions() <= called:
-        sys.exit(f"c/test_depth.c does not call {', '.join(sorted(functions() - called))}")
-    run_printing(compiled(folder, "test_depth", ["test_depth", "test_memory"], "-pthread", *WRAPPED))
+        sys.exit(f"c/test_depth*.c do not call {', '.join(sorted(functions() - called))}")
+    run_printing(compiled(folder, "test_depth", [*(path.stem for path in sources), "test_memory"], "-pthread", *WRAPPED))
 
 
 def check(cpu: str) -> None:
