@@ -73,9 +73,7 @@ class Columns(unittest.TestCase):
     def test_random_columns_through_texts(self) -> None:
         rng = random.Random(10)
         for _ in range(CASES):
-            wanted = model.random_type(rng, 3)
-            rows = model.random_rows(rng, wanted, rng.randrange(12))
-            column = model.laid_out(rng, rows, wanted)
+            wanted, rows, column = model.random_column(rng, 3, range(12))
             again = Column.parse(wanted, str(column))
             self.assertEqual(again.to_pylist(), rows)
             self.assertEqual(again.type, wanted)
