@@ -21,22 +21,13 @@ ROOT = pathlib.Path(__file__).resolve().parent.parent
 sys.dont_write_bytecode = True
 sys.path.insert(0, str(ROOT / "tools"))
 
-from commands import CC, CXX, INCLUDE, MEMCHECK, PYTHON, SANITIZED, WARN, WRAPPED, has, left_out, run  # noqa: E402
+from commands import CC, CXX, EXAMPLES, INCLUDE, MEMCHECK, PYTHON, SANITIZED, WARN, WRAPPED, check_example, has, left_out, run  # noqa: E402
 from package import ARROW_SOURCES, BUILD  # noqa: E402
 
-EXAMPLES = ROOT / "examples"
 EXAMPLES_IN_C = ("filter.c", "arrow_roundtrip.c")
 # the tests of the Arrow interface, the file with `main` first
 ARROW_TESTS = [ROOT / "c" / "arrow_test.c", *sorted((ROOT / "c").glob("arrow_test_*.c"))]
 CFLAGS = ["-std=c11", "-g", *WARN, *INCLUDE]
-
-
-def prints(name: str, output: str) -> None:
-    """Compares the output of an example with the stored output next to it."""
-    wanted = (EXAMPLES / f"{name}.out").read_text()
-    if output != wanted:
-        sys.exit(f"examples/{name} prints\n{output}instead of\n{wanted}")
-    print(f"examples/{name}: ok")
 
 
 def built(source: pathlib.Path, folder: pathlib.Path, *flags: str | pathlib.Path) -> pathlib.Path:
@@ -81,7 +72,7 @@ def try_c(folder: pathlib.Path) -> None:
         left_out("arrow_test.c under AddressSanitizer and UndefinedBehaviorSanitizer")
     try_malformed(folder)
     for name in EXAMPLES_IN_C:
-        prints(name, run(built(EXAMPLES / name, folder)))
+        check_example(name, run(built(EXAMPLES / name, folder)))
 
 
 def try_valgrind(folder: pathlib.Path) -> None:
@@ -118,7 +109,7 @@ def try_rust(folder: pathlib.Path) -> None:
     crate, env = ROOT / "bindings" / "rust", rust_env()
     run("cargo", "test", "--offline", "--quiet", "--lib", "--tests", "--examples", cwd=crate, env=env)
     for name in ("filter", "threads"):
-        prints(f"{name}.rs", run("cargo", "run", "--offline", "--quiet", "--example", name, cwd=crate, env=env))
+        check_example(f"{name}.rs", run("cargo", "run", "--offline", "--quiet", "--example", name, cwd=crate, env=env))
     print("the Rust package: ok")
 
 
@@ -171,7 +162,7 @@ def try_python(folder: pathlib.Path) -> None:
         for running in [pool.submit(run, PYTHON, "-m", "unittest", *part, cwd=folder, env=unit) for part in parts]:
             running.result()
     for name in ("filter_take.py", "when_then.py"):
-        prints(name, run(PYTHON, EXAMPLES / name, env=env))
+        check_example(name, run(PYTHON, EXAMPLES / name, env=env))
     print("the Python package: ok")
 
 
@@ -205,7 +196,7 @@ def try_wheel(folder: pathlib.Path) -> None:
 def try_dask(folder: pathlib.Path) -> None:
     if not has("numpy", "dask"):
         return left_out("examples/partitions_dask.py")
-    prints("partitions_dask.py", run(PYTHON, EXAMPLES / "partitions_dask.py", cwd=folder, env=python_env(), timeout=300))
+    check_example("partitions_dask.py", run(PYTHON, EXAMPLES / "partitions_dask.py", cwd=folder, env=python_env(), timeout=300))
 
 
 def try_gdal(folder: pathlib.Path) -> None:

@@ -9,6 +9,9 @@ import subprocess
 import sys
 
 ROOT = pathlib.Path(__file__).resolve().parent.parent
+EXAMPLES = ROOT / "examples"
+# the sources of tests/ that read lines of the conformance suite and check results, without the calls
+CHECKER = [ROOT / "tests" / f"{name}.c" for name in ("check", "layout", "lines", "memory", "notation", "report")]
 
 # the compilers, each with the options that its variable names; a variable that is empty counts as not set, as in tools/need
 CC = shlex.split(os.environ.get("CC") or "cc")
@@ -54,6 +57,14 @@ def run(*words: object, cwd: str | pathlib.Path | None = None, env: dict[str, st
 def has(*needs: str) -> bool:
     """Returns whether these dependencies are installed or could be installed. tools/need reports the missing ones."""
     return subprocess.run([ROOT / "tools" / "need", *needs], env={**os.environ, "PYTHON": PYTHON}, check=False).returncode == 0
+
+
+def check_example(name: str, output: str, how: str = "") -> None:
+    """Compares the output of an example with the stored output next to it. Exits if they differ; `how` is how the example was run."""
+    wanted, label = (EXAMPLES / f"{name}.out").read_text(), f"examples/{name}{how and f', {how}'}"
+    if output != wanted:
+        sys.exit(f"failed: {label} prints\n{output}instead of\n{wanted}")
+    print(f"{label}: ok")
 
 
 def left_out(what: str) -> None:

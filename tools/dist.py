@@ -30,12 +30,11 @@ import zipfile
 from typing import Dict, List, NamedTuple, Optional, Set, Tuple
 
 ROOT = pathlib.Path(__file__).resolve().parent.parent
-EXAMPLES = ROOT / "examples"
 WHEEL = ROOT / "bindings" / "python" / "build_backend" / "wheel_of_sel.py"
 sys.dont_write_bytecode = True
 sys.path.insert(0, str(ROOT / "tools"))
 
-from commands import CC, PYTHON, has, left_out, run  # noqa: E402
+from commands import CC, EXAMPLES, PYTHON, check_example, has, left_out, run  # noqa: E402
 from package import BUILD, LEAST_CPU, NEWER_CPUS, SONAME, File, built_for, files, folder_of, functions, path_for, version  # noqa: E402
 from package import install, paths, report_newer_sources, require_built, staged, uninstall  # noqa: E402
 from verdicts import crates, sum_of_sources  # noqa: E402
@@ -163,13 +162,6 @@ def environment(**more: object) -> Dict[str, str]:
     return {**{name: value for name, value in os.environ.items() if name not in unset}, **{name: str(value) for name, value in more.items()}}
 
 
-def prints(name: str, output: str, how: str) -> None:
-    """Compares the output of an example with the stored output next to it."""
-    wanted = (EXAMPLES / f"{name}.out").read_text()
-    expect(output == wanted, f"examples/{name} ({how}) prints\n{output}instead of\n{wanted}")
-    print(f"examples/{name}, {how}: ok")
-
-
 def tree(folder: pathlib.Path) -> Set[str]:
     """Returns the paths of the files below a folder."""
     return {str(path.relative_to(folder)) for path in folder.rglob("*") if path.is_symlink() or not path.is_dir()}
@@ -261,7 +253,7 @@ def beside_library() -> Set[str]:
 def runs_linked(program: pathlib.Path, name: str, shared: bool, how: str) -> None:
     """Runs an example, and checks that it loads the shared library, or that it does not."""
     expect((SONAME in dynamic(program, "NEEDED")) == shared, f"examples/{name}.c ({how}) is not linked as it should be")
-    prints(f"{name}.c", run(program, env=environment()), how)
+    check_example(f"{name}.c", run(program, env=environment()), how)
 
 
 class Flags(NamedTuple):
@@ -350,7 +342,7 @@ def check_loader(top: pathlib.Path, folder: pathlib.Path) -> None:
         if has_newer:
             # as if the processor had no AVX2
             expect(loaded(program, GLIBC_TUNABLES="glibc.cpu.hwcaps=-AVX2") == plain, f"the loader takes the library for {cpu} on every processor")
-        prints(f"{name}.c", run(program, env=environment()), f"with the library for {cpu if has_newer else LEAST_CPU} that the loader takes")
+        check_example(f"{name}.c", run(program, env=environment()), f"with the library for {cpu if has_newer else LEAST_CPU} that the loader takes")
 
 
 def libc_version() -> Tuple[int, ...]:
@@ -373,7 +365,7 @@ def check_rust(top: pathlib.Path, folder: pathlib.Path) -> None:
     crate = ROOT / "bindings" / "rust"
     env = environment(SEL_LIBRARY_DIR=top / "lib", CARGO_TARGET_DIR=folder / "rust")
     for name in ("filter", "threads"):
-        prints(f"{name}.rs", run("cargo", "run", "--offline", "--quiet", "--locked", "--example", name, cwd=crate, env=env), "over the archive")
+        check_example(f"{name}.rs", run("cargo", "run", "--offline", "--quiet", "--locked", "--example", name, cwd=crate, env=env), "over the archive")
 
 
 def check_python(top: pathlib.Path, wheel: pathlib.Path, folder: pathlib.Path) -> None:
@@ -384,7 +376,7 @@ def check_python(top: pathlib.Path, wheel: pathlib.Path, folder: pathlib.Path) -
     over_wheel.pop("SEL_LIBRARY", None)
     for env, where in ((over_archive, "over the archive"), (over_wheel, "over the wheel")):
         for name in ("filter_take.py", "when_then.py"):
-            prints(name, run(PYTHON, EXAMPLES / name, cwd=folder, env=env), where)
+            check_example(name, run(PYTHON, EXAMPLES / name, cwd=folder, env=env), where)
 
 
 def make(word: str, prefix: str, folder: pathlib.Path, build: pathlib.Path = BUILD) -> None:

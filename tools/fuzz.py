@@ -28,19 +28,18 @@ ROOT = pathlib.Path(__file__).resolve().parent.parent
 sys.dont_write_bytecode = True
 sys.path.insert(0, str(ROOT / "tools"))
 
-from commands import CLANG, INCLUDE, SANITIZED, WRAPPED, has, run_printing  # noqa: E402
+from commands import CHECKER, CLANG, INCLUDE, SANITIZED, WRAPPED, has, run_printing  # noqa: E402
 from package import SOURCES  # noqa: E402
 
 TESTS = ROOT / "tests"
 INPUTS = TESTS / "fuzz" / "inputs"
 BUILD = ROOT / "build"
 FLAGS = ["-std=c11", "-g", "-O1", "-Wall", "-Wextra", "-Werror", *SANITIZED, "-fsanitize=fuzzer", *INCLUDE]
-RUNNER = [TESTS / f"{name}.c" for name in ("check", "layout", "lines", "memory", "notation", "report")]
 RANDOM = [TESTS / "random" / f"{name}.c" for name in ("draw", "generate", "model", "steps")]
 # the sources of each target, and below the longest input of each in bytes
 TARGETS: Dict[str, List[pathlib.Path]] = {
     "arrow": [TESTS / "fuzz" / "arrow.c", TESTS / "fuzz" / "producer.c", TESTS / "random" / "draw.c", TESTS / "memory.c"],
-    "calls": [TESTS / "fuzz" / "calls.c", *RANDOM, *RUNNER],
+    "calls": [TESTS / "fuzz" / "calls.c", *RANDOM, *CHECKER],
     "text": [TESTS / "fuzz" / "text.c"],
 }
 # what the names of inputs that failed begin with

@@ -26,11 +26,11 @@ from typing import Dict, List, NamedTuple, Optional, Tuple
 
 ROOT = pathlib.Path(__file__).resolve().parent.parent
 TESTS = ROOT / "tests"
-BUILD = pathlib.Path(os.environ.get("SEL_BUILD") or ROOT / "build")
 sys.dont_write_bytecode = True
 sys.path.insert(0, str(ROOT / "tools"))
 
 from commands import CC, INCLUDE, MEMCHECK, SANITIZED, WARN, WRAPPED, has, left_out, run_printing, wrapped  # noqa: E402
+from package import BUILD  # noqa: E402
 
 FLAGS = ["-std=c11", "-g", *WARN, *INCLUDE]
 # the runner's options for a quick run

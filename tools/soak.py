@@ -23,17 +23,16 @@ BUILD = ROOT / "build"
 sys.dont_write_bytecode = True
 sys.path.insert(0, str(ROOT / "tools"))
 
-from commands import CC, INCLUDE, WARN, WRAPPED, run_printing  # noqa: E402
+from commands import CC, CHECKER, INCLUDE, WARN, WRAPPED, run_printing  # noqa: E402
 
 FLAGS = ["-std=c11", "-g", "-O2", *WARN, *INCLUDE, "-pthread"]
-RUNNER = [TESTS / f"{name}.c" for name in ("check", "layout", "lines", "memory", "notation", "report")]
 CALLS = 100_000
 
 
 def built() -> pathlib.Path:
     """Compiles the program. Exits if that fails."""
     program = BUILD / "soak"
-    sources = [*sorted((TESTS / "random").glob("*.c")), *RUNNER]
+    sources = [*sorted((TESTS / "random").glob("*.c")), *CHECKER]
     run_printing(*CC, *FLAGS, *sources, BUILD / "libsel.a", *WRAPPED, "-o", program)
     return program
 
