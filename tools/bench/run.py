@@ -17,7 +17,7 @@ import subprocess
 import sys
 import tempfile
 import time
-from collections.abc import Callable
+from collections.abc import Callable, Iterable
 from typing import TYPE_CHECKING
 
 if TYPE_CHECKING:
@@ -123,6 +123,35 @@ def compare(lib: ctypes.CDLL) -> None:
     words.compare()
 
 
+def results_of(lib: ctypes.CDLL, cases: Iterable[Case]) -> list[tuple[str, int, str, dict[str, tuple[float, float]]]]:
+    """Checks each case, and returns its kernel, its rows, what varies, and the times of its contenders."""
+    found = []
+    for case in cases:
+        case.check()
+        found.append((case.kernel, case.rows, case.varied, measured(lib, case)))
+    return found
+
+
+def write_page(lib: ctypes.CDLL, program: pathlib.Path | None, of_threads: list[str]) -> None:
+    """Measures all cases, and writes docs/BENCHMARKS.md and its charts. `program` is the one of words.py, if it is built."""
+    import cases
+    import lending
+    import report
+    import tables
+    import upstream
+    import words
+
+    load, results, of_words = [os.getloadavg()[0]], [], words.measured(program)
+    for rows in (SMALL, LARGE):
+        results += results_of(lib, cases.at_size(rows))
+        load.append(os.getloadavg()[0])
+    scale = results_of(lib, cases.at_scale(MOST))
+    load.append(os.getloadavg()[0])
+    beside = upstream.section(*map(pathlib.Path, os.environ["UPSTREAM"].split())) if os.environ.get("UPSTREAM") else upstream.earlier(upstream.PAGE.read_text())
+    sections = [*of_threads, *tables.section(), *lending.section(), *words.section(of_words)]
+    report.write(ROOT / "docs", results, scale, beside, sections, load, " ".join(CC), FLAGS)
+
+
 def main() -> None:
     quick = sys.argv[1:] == ["quick"]
     if sys.argv[1:] and not quick:
@@ -134,12 +163,7 @@ def main() -> None:
         subprocess.run([ROOT / "tools" / "clib.py"], check=True)
     os.environ.setdefault("SEL_LIBRARY", str(ROOT / "build" / "libsel.so"))
     sys.path[:0] = [str(ROOT / "bindings" / "python"), str(HERE)]
-    import cases
-    import lending
-    import report
     import scaling
-    import tables
-    import upstream
     import words
 
     folder = pathlib.Path(tempfile.mkdtemp())
@@ -151,20 +175,8 @@ def main() -> None:
             os.sched_setaffinity(0, {max(os.sched_getaffinity(0))})
         if quick:
             compare(lib)
-            return
-        load, results, of_words = [os.getloadavg()[0]], [], words.measured(program)
-        for rows in (SMALL, LARGE):
-            for case in cases.at_size(rows):
-                case.check()
-                results.append((case.kernel, case.rows, case.varied, measured(lib, case)))
-            load.append(os.getloadavg()[0])
-        scale = []
-        for case in cases.at_scale(MOST):
-            case.check()
-            scale.append((case.kernel, case.rows, case.varied, measured(lib, case)))
-        load.append(os.getloadavg()[0])
-        beside = upstream.section(*map(pathlib.Path, os.environ["UPSTREAM"].split())) if os.environ.get("UPSTREAM") else upstream.earlier(upstream.PAGE.read_text())
-        report.write(ROOT / "docs", results, scale, beside, [*of_threads, *tables.section(), *lending.section(), *words.section(of_words)], load, " ".join(CC), FLAGS)
+        else:
+            write_page(lib, program, of_threads)
     finally:
         shutil.rmtree(folder, ignore_errors=True)
 
