@@ -21,7 +21,7 @@ ROOT = pathlib.Path(__file__).resolve().parent.parent
 sys.dont_write_bytecode = True
 sys.path.insert(0, str(ROOT / "tools"))
 
-from commands import CC, CXX, EXAMPLES, INCLUDE, MEMCHECK, PYTHON, SANITIZED, WARN, WRAPPED, check_example, has, left_out, run  # noqa: E402
+from commands import CC, EXAMPLES, INCLUDE, MEMCHECK, PYTHON, SANITIZED, WARN, WRAPPED, check_example, check_header, has, left_out, run  # noqa: E402
 from package import ARROW_SOURCES, BUILD  # noqa: E402
 
 EXAMPLES_IN_C = ("filter.c", "arrow_roundtrip.c")
@@ -57,12 +57,7 @@ def try_malformed(folder: pathlib.Path) -> None:
 
 
 def try_c(folder: pathlib.Path) -> None:
-    header = ROOT / "include" / "sel_arrow.h"
-    run(*CC, *CFLAGS, "-fsyntax-only", "-x", "c", header)
-    if has("c++"):
-        run(*CXX, "-std=c++17", *WARN, "-fsyntax-only", "-x", "c++", header)
-    else:
-        left_out("include/sel_arrow.h as C++")
+    check_header("sel_arrow.h")
     print(run(built_arrow_test(folder)), end="")
     if has("sanitizers"):
         sources = [*ARROW_TESTS, *ARROW_SOURCES]

@@ -29,7 +29,7 @@ sys.dont_write_bytecode = True
 sys.path.insert(0, str(ROOT / "tools"))
 
 import verdicts  # noqa: E402
-from commands import CC, CXX, HELGRIND, INCLUDE, MEMCHECK, WARN, WRAPPED, has, left_out, run, run_printing  # noqa: E402
+from commands import CC, HELGRIND, INCLUDE, MEMCHECK, WARN, WRAPPED, check_header, has, left_out, run, run_printing  # noqa: E402
 from libraries import Build  # noqa: E402
 from package import ARROW_SOURCES, LEAST_CPU, SONAME, SOURCES, filled, folder_of, functions, hash_of_sources  # noqa: E402
 from prover import kit, words  # noqa: E402
@@ -205,14 +205,10 @@ def check_depth(folder: pathlib.Path) -> None:
 
 def check(cpu: str) -> None:
     """Checks the headers and what the built library exports, and runs the tests of c/ over it."""
-    header, folder = ROOT / "include" / "sel.h", folder_of(cpu)
+    folder = folder_of(cpu)
     if not (folder / "libsel.a").exists():
         sys.exit(f"{folder.relative_to(ROOT)}/libsel.a is not there: make lib builds it")
-    run_printing(*CC, "-std=c11", *WARN, "-fsyntax-only", "-x", "c", header)
-    if has("c++"):
-        run_printing(*CXX, "-std=c++17", *WARN, "-fsyntax-only", "-x", "c++", header)
-    else:
-        left_out("include/sel.h as C++")
+    check_header("sel.h")
     if foreign_symbols(folder):
         sys.exit(f"the shared library exports {', '.join(foreign_symbols(folder))}")
     test = compiled(folder, "test", ["test", "test_several", "test_empty", "test_memory"], *WRAPPED)

@@ -59,6 +59,16 @@ def has(*needs: str) -> bool:
     return subprocess.run([ROOT / "tools" / "need", *needs], env={**os.environ, "PYTHON": PYTHON}, check=False).returncode == 0
 
 
+def check_header(name: str) -> None:
+    """Compiles a header by itself, as C11 and as C++17."""
+    header = ROOT / "include" / name
+    run_printing(*CC, "-std=c11", *WARN, "-fsyntax-only", "-x", "c", header)
+    if has("c++"):
+        run_printing(*CXX, "-std=c++17", *WARN, "-fsyntax-only", "-x", "c++", header)
+    else:
+        left_out(f"include/{name} as C++")
+
+
 def check_example(name: str, output: str, how: str = "") -> None:
     """Compares the output of an example with the stored output next to it. Exits if they differ; `how` is how the example was run."""
     wanted, label = (EXAMPLES / f"{name}.out").read_text(), f"examples/{name}{how and f', {how}'}"
