@@ -7,7 +7,7 @@ from typing import Any
 
 from . import _arrays
 from ._arrow import Typed, imported_if_arrow
-from ._checks import ROW_INDEX, SIZE, integers_within, shown
+from ._checks import ROW_INDEX, SIZE, integers_within, listed, shown
 from ._logical import ArrowType, decoded
 from ._makers import made_of
 from ._memory import SIZE_CODE, Memory, validity_of, words
@@ -44,12 +44,12 @@ def _of_arrow(found: Typed, name: str) -> tuple[Any, Any]:
 
 
 def _array_or_list(values: Any, name: str, dimensions: int = 1) -> tuple[Any, Any]:
-    """Returns either a masked array of numpy's own types, or an iterable of Python values."""
+    """Returns either a masked array of numpy's own types, or a list of Python values."""
     found = imported_if_arrow(values) if dimensions == 1 else None
     if found is not None:
         return _of_arrow(found, name)
     if not _arrays.is_array(values):
-        return None, values
+        return None, listed(values, name)
     array = _arrays.opened(values, name, dimensions)
     return (None, array.tolist()) if _arrays.is_of_objects(array) else (array, None)
 
@@ -70,7 +70,7 @@ def mask_of(values: Any, name: str) -> Owner:
         return _plain(values, name)
     array, entries = _array_or_list(values, name)
     if array is None:
-        return made_of(list(entries), Type("bool"), name)
+        return made_of(entries, Type("bool"), name)
     return _arrays.made_of_array(_arrays.checked(array, name, "b"), name)
 
 

@@ -8,7 +8,7 @@ from __future__ import annotations
 import operator
 import reprlib
 import sys
-from collections.abc import Iterable
+from collections.abc import Iterable, Mapping
 from datetime import date, timedelta
 from typing import Any, NamedTuple
 
@@ -16,7 +16,7 @@ from ._errors import OutOfBounds
 from ._statuses import INDEX_OUT_OF_BOUNDS
 
 __all__ = ["FIELD_NUMBER", "LIST_INDEX", "LIST_SIZE", "ROW_INDEX", "ROW_OFFSET", "SIZE", "Limits",
-           "boolean", "booleans", "checked_name", "checked_text", "error_out_of_bounds", "error_outside", "integer", "integer_within", "integers_within", "is_boolean", "is_integer",
+           "boolean", "booleans", "checked_name", "checked_text", "error_out_of_bounds", "error_outside", "integer", "integer_within", "integers_within", "is_boolean", "is_integer", "listed",
            "position_of", "real", "shown", "utf8_of"]
 
 
@@ -47,6 +47,22 @@ def shown(value: object) -> str:
         return reprlib.repr(value)
     except Exception:
         return f"a value of type {type(value).__name__}"
+
+
+# Iterables whose items are no rows: characters, bytes, names, or values without an order.
+_NO_ROWS = (str, bytes, bytearray, set, frozenset, Mapping)
+
+
+def listed(values: Any, name: str) -> list[Any]:
+    """Returns the items of an iterable as a list. Raises TypeError for a text, bytes, a dict or a set: their items are no rows, or have no order."""
+    if not isinstance(values, _NO_ROWS):
+        try:
+            items = iter(values)
+        except TypeError:
+            pass
+        else:
+            return list(items)
+    raise TypeError(f"{name}: {shown(values)} is of type {type(values).__name__}, not a list or another iterable of rows")
 
 
 def _numpy() -> Any:

@@ -16,7 +16,7 @@ from ._types import KINDS, Type, name_in_text
 if TYPE_CHECKING:
     from typing_extensions import Self
 
-__all__ = ["ArrowType", "coded_type", "TypeOwner", "as_logical_of", "common_type", "decoded", "dictionary_of", "logical_type", "metadata_of", "nested_type", "nullable", "of_format",
+__all__ = ["ArrowType", "coded_type", "TypeOwner", "as_logical_of", "common_type", "decoded", "dictionary_of", "has_dictionary", "logical_type", "metadata_of", "nested_type", "nullable", "of_format",
            "storage_type", "type_parameter", "with_arrow_types"]
 
 # What the texts of nested types begin with, by their formats.
@@ -306,6 +306,11 @@ def dictionary_of(type: ArrowType) -> tuple[Owner, ArrowType | None]:
     values, owner = Owner(), TypeOwner()
     call("sel_type_dictionary", type._owner, byref(values._handle), byref(owner._handle))
     return values, ArrowType(owner)
+
+
+def has_dictionary(type: Type) -> bool:
+    """Returns whether the type, or one below it, has a dictionary, whose values its equality does not compare."""
+    return isinstance(type, ArrowType) and (type.is_dictionary or any(map(has_dictionary, type.fields)))
 
 
 def coded_type(format: str, values: Owner, value_type: ArrowType | None = None, is_ordered: bool = False) -> ArrowType:

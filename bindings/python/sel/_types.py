@@ -299,16 +299,26 @@ def type_of_values(values: Sequence[Any], level: int = 0) -> Type:
         return Type("binview")
     if isinstance(first, (tuple, list)):
         return _type_of_nested(there, level + 1)
-    raise TypeError(f"no type of column has values of type {type(first).__name__}")
+    raise TypeError(f"no type of column has values of type {type(first).__name__}{_hint(first)}")
+
+
+def _hint(value: object) -> str:
+    """Returns what else to do with values that do not say their type, for the message of an error."""
+    kind = type(value)
+    example = {"dict": "struct<id: int64, price: double>", "Decimal": "decimal128(9, 2)"}.get(kind.__name__)
+    if example is not None:
+        return f" on its own; give the type of the column, as in Column(values, {example!r})"
+    return "; Column.from_numpy makes a column of an array" if kind.__module__ == "numpy" else ""
 
 
 def _type_of_nested(values: Sequence[Any], level: int) -> Type:
-    """Returns the type of tuples or lists."""
+    """Returns the type of tuples or lists. Other values, which the column does not take, are left out."""
     from ._logical import nested_type
 
     first = values[0]
+    rows = [row for row in values if isinstance(row, list if isinstance(first, list) else tuple)]
     if isinstance(first, list):
-        return nested_type("list", [type_of_values([item for row in values for item in row], level)])
-    if any(isinstance(row, tuple) and len(row) != len(first) for row in values):
+        return nested_type("list", [type_of_values([item for row in rows for item in row], level)])
+    if any(len(row) != len(first) for row in rows):
         raise ValueError(f"values: some tuples have {len(first)} values, and some do not")
-    return nested_type("struct", [type_of_values([row[place] for row in values], level) for place in range(len(first))])
+    return nested_type("struct", [type_of_values([row[place] for row in rows], level) for place in range(len(first))])
