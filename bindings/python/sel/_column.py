@@ -20,7 +20,7 @@ from ._makers import made_of
 from ._memory import _NOTHING, NO_VALIDITY, unpacked
 from ._names import VALID_NAMES, short_names
 from ._owner import Owner, concatenated, derived, from_several
-from ._readers import printed, rows_of, text_of, validity_bits
+from ._readers import printed, rows_of, start_of_rows, text_of, validity_bits
 from ._selection import Selection
 from ._statuses import OK, ROW_SYNTAX, ROW_TYPE_MISMATCH, TYPE_MISMATCH, TYPE_SYNTAX
 from ._types import Type, check_levels, parse_type, type_of_values
@@ -337,11 +337,12 @@ class Column(Owner):
         return Column._owning(selected(self, place, "index"), nullable(self._logical))
 
     def __repr__(self) -> str:
-        """Returns the type and the first 12 rows as text."""
+        """Returns the type and the first 12 rows as text, of at most 1,000 characters."""
         most = 12
-        if len(self) <= most:
-            return f"Column({self.type}, {self})"
-        return f"Column({self.type}, {str(self.sliced(0, most))[:-1]}, ... {len(self) - most} more])"
+        text = start_of_rows(self.sliced(0, min(most, len(self))), self._logical, 1000)
+        if text.endswith("..."):
+            return f"Column({self.type}, {text} of {len(self)} rows)"
+        return f"Column({self.type}, {text})" if len(self) <= most else f"Column({self.type}, {text[:-1]}, ... {len(self) - most} more])"
 
     def __str__(self) -> str:
         """Returns the rows as text, as in `[1,null,-3]`: strings as in JSON, bytes as in `h"00ff"`, structs in parentheses.

@@ -15,7 +15,7 @@ from ._logical import ArrowType, as_logical_of, of_format
 from ._makers import nulls
 from ._memory import NO_VALIDITY
 from ._owner import Owner, derived, from_several
-from ._readers import text_of
+from ._readers import start_of_rows
 from ._selection import Selection
 from ._stream import stream_of
 
@@ -43,7 +43,8 @@ class Table:
     __slots__ = ("_columns", "_length", "_names")
 
     def __init__(self, columns: Mapping[str, Any]) -> None:
-        """Makes a table of columns, Arrow data of other libraries, arrays of numpy or lists of Python values.
+        """Makes a table of columns, Arrow data of other libraries, arrays of numpy or lists of Python values. Arrays of texts, of bytes or of
+        objects are read as lists.
 
         Raises ValueError for columns of several lengths and for a name with a zero character, and TypeError for a name that is no str and
         for what is no mapping: `Table.from_arrow` takes tables and data frames of other libraries. The columns of arrays read their memory,
@@ -174,7 +175,7 @@ class Table:
     __hash__ = None  # type: ignore[assignment]
 
     def __repr__(self) -> str:
-        """Returns the number of rows, and each column with its type and its first rows.
+        """Returns the number of rows, and each column with its type and its first rows, of at most 1,000 characters.
 
         >>> sel.Table({"id": [1, 2], "name": ["a", None]})
         Table of 2 rows
@@ -182,8 +183,10 @@ class Table:
         name: utf8 ["a",null]
         """
         most = 6
-        lines = [f"{name}: {column.type} {text_of(column.sliced(0, min(most, self._length)).to_pylist())[:-1]}{', ...' if self._length > most else ''}]"
-                 for name, column in zip(self._names, self._columns)]
+        lines = []
+        for name, column in zip(self._names, self._columns):
+            text = start_of_rows(column.sliced(0, min(most, self._length)), column._logical, 1000)
+            lines.append(f"{name}: {column.type} {text[:-1] + ', ...]' if self._length > most and text.endswith(']') else text}")
         return "\n".join([f"Table of {self._length} rows", *lines])
 
     def __reduce__(self) -> tuple[Any, ...]:
@@ -277,7 +280,10 @@ def _column_of(values: Any) -> Column:
     found = imported_if_arrow(values)
     if found is not None:
         return Column._owning(*found)
-    return Column.from_numpy(values) if _arrays.is_array(values) else Column(values)
+    if not _arrays.is_array(values):
+        return Column(values)
+    array = _arrays.opened(values, "values")
+    return Column(array.tolist()) if _arrays.is_of_values(array) else Column._owning(*_arrays.made_with_type(array, "values"))
 
 
 def _table_of(column: Owner, logical: ArrowType | None) -> Table:

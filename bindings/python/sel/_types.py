@@ -29,7 +29,8 @@ class Type:
     """The type of a column: its kind, the types of its children, and the list size of fixed-size lists.
 
     Types are compared by `==`, can be hashed, and print as in `list<fixed<2,i64>>`. A column of a type with a logical type below it has
-    the logical type that `parse_type` gives for it. Raises ValueError for a kind that there is not, and for another number of children.
+    the logical type that `parse_type` gives for it. Raises ValueError for a kind that there is not, for another number of children, and
+    for a list size where the kind is not `fixed`.
 
     >>> sel.Type("list", (sel.Type("i64"),)) == sel.parse_type("list<item: int64>")
     True
@@ -50,6 +51,8 @@ class Type:
         count = 1 if self.kind in ("list", "fixed") else 0
         if self.kind != "struct" and len(self.children) != count:
             raise ValueError(f"{self.kind} has {len(self.children)} child types, not {count}")
+        if self.kind != "fixed" and self.width != 0:
+            raise ValueError(f"{self.kind} has no list size, and width is {self.width}")
 
     def __str__(self) -> str:
         """Returns the short name of the type.
@@ -222,7 +225,8 @@ class _Reader:
         start, end = self.place, _end_of_word(self.text, self.place, ",")
         found = _NOT_NULL.search(self.text, start, end)
         self.place = end if found is None else found.start()
-        return _COMMA.sub(",", self.text[start : self.place]).strip(_SPACE)
+        before, sign, zone = self.text[start : self.place].partition("tz=")
+        return (_COMMA.sub(",", before) + sign + zone).strip(_SPACE)
 
     def type(self, level: int) -> Type:
         """Returns the type that comes next, below so many others."""

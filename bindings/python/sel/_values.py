@@ -222,7 +222,10 @@ def comparable_value(type: ArrowType | None, kind: str) -> Converter | None:
 
 def _number_of(format: str, value: Any, name: str) -> Any:
     plain, bits = _FLOATS[format]
-    return struct.unpack(bits, struct.pack(plain, real(value, name)))[0]
+    try:
+        return struct.unpack(bits, struct.pack(plain, real(value, name)))[0]
+    except OverflowError:
+        raise OverflowError(f"{name}: {shown(value)} is too large for a float of {8 * struct.calcsize(plain)} bits") from None
 
 
 def _counted(since: datetime.timedelta, nanos: int, unit: str, value: Any, name: str) -> int:
@@ -240,6 +243,7 @@ def _expected(value: Any, kinds: type | tuple[type, ...], name: str, what: str) 
 
 def _timestamp_of(format: str, value: Any, name: str) -> int:
     _expected(value, datetime.datetime, name, "a datetime")
+    _check_there(value, name)
     zone = _zone(format[4:])
     if (value.tzinfo is None) != (zone is None):
         raise ValueError(f"{name}: {shown(value)} {'needs a time zone' if zone else 'has a time zone'}")
@@ -283,6 +287,12 @@ def _count_of(type: ArrowType, value: Count, name: str) -> int:
     return count
 
 
+def _check_there(value: datetime.date, name: str) -> None:
+    """Raises ValueError for NaT of pandas, an instance of datetime that is not equal to itself."""
+    if value != value:
+        raise ValueError(f"{name}: {shown(value)} is no time; None is null")
+
+
 def _check_date(value: datetime.date, name: str) -> None:
     """Raises ValueError for a datetime that says more than its date."""
     if isinstance(value, datetime.datetime) and (value.tzinfo is not None or value.time() != datetime.time() or getattr(value, "nanosecond", 0) > 0):
@@ -317,6 +327,7 @@ def _storage_value(type: ArrowType, value: Any, name: str) -> Any:
         return _interval_of(format, value, name)
     if format in ("tdD", "tdm"):
         _expected(value, datetime.date, name, "a date")
+        _check_there(value, name)
         _check_date(value, name)
         days = (datetime.date(value.year, value.month, value.day) - _DAY).days
         return days if format == "tdD" else days * _MILLISECONDS_OF_DAY

@@ -25,7 +25,29 @@ class Nanoseconds(datetime.datetime):
     nanosecond = 1
 
 
+class Missing(datetime.datetime):
+    """Stands for NaT of pandas, which is an instance of datetime and not equal to itself."""
+
+    __hash__ = None  # type: ignore[assignment]
+
+    def __eq__(self, other: object) -> bool:
+        return False
+
+    def __ne__(self, other: object) -> bool:
+        return True
+
+
 class Times(unittest.TestCase):
+    def test_not_a_time(self) -> None:
+        for text in table(None, "timestamp[s]", "timestamp[ns]", "date32", "date64"):
+            with self.assertRaisesRegex(ValueError, r"values\[1\]: .* is no time"):
+                Column([None, Missing(2024, 2, 29)], text)
+
+    def test_floats_that_are_too_large(self) -> None:
+        for text, value in table(("float", 1e300), ("halffloat", 65520.0), ("double", 10**400)):
+            with self.assertRaisesRegex(OverflowError, r"values\[1\]: .* too large for a float of"):
+                Column([0.5, value], text)
+
     def test_a_datetime_is_a_date_only_at_midnight(self) -> None:
         """A datetime is an instance of date: its time of day must not be lost."""
         for text in ("date32", "date64"):
@@ -146,6 +168,18 @@ class Iterables(unittest.TestCase):
                 Column.parse(type, rows)
 
 
+class Representations(unittest.TestCase):
+    def test_rows_of_any_length_are_cut_off(self) -> None:
+        """`repr` has the first rows, and of their text at most 1,000 characters."""
+        digits = ",".join(["0"] * 2000)
+        for column, text in table((Column(["a" * 998]), '["' + "a" * 998 + "..."), (Column([[0] * 2000]), f"[[{digits}"[:1000] + "..."), (Column([[0.5] * 1000]), ("[[" + "0.5," * 1000)[:1000] + "..."),
+                                  (Column(["\u00e9" * 1000] * 20), '["' + "\u00e9" * 998 + "..."), (Column(["\U0001f600" * 2000]), '["' + "\U0001f600" * 998 + "...")):
+            self.assertEqual(repr(column), f"Column({column.type}, {text} of {len(column)} rows)")
+            self.assertEqual(repr(Table({"a": column})), f"Table of {len(column)} rows\na: {column.type} {text}")
+        for column, text in table((Column(["a" * 996]), '["' + "a" * 996 + '"]'), (Column([]), "[]"), (Column([0.5] * 13), "[" + "0.5," * 11 + "0.5, ... 1 more]"), (Column([1] * 13), "[" + "1," * 11 + "1, ... 1 more]")):
+            self.assertEqual(repr(column), f"Column({column.type}, {text})")
+
+
 class Nulls(unittest.TestCase):
     def test_where_the_type_has_none(self) -> None:
         """A null is refused when the column is made; the export would refuse it. What is below a null row does not count."""
@@ -171,6 +205,20 @@ class Tables(unittest.TestCase):
             self.assertNotIn(name, table_of_two)
         self.assertEqual(list(table_of_two), [{"a": 1, "b": "x"}, {"a": 2, "b": None}])
         self.assertEqual(list(Table({})), [])
+
+    @unittest.skipIf(numpy is None, "numpy is not installed: its arrays are not tested")
+    def test_arrays_of_values(self) -> None:
+        """Arrays of texts and of objects, such as those of a data frame, are read as lists; what is masked is null."""
+        for array, rows, text in table((numpy.array(["a", "bc"]), ["a", "bc"], "utf8"), (numpy.array([b"a", b"bc"]), [b"a", b"bc"], "binview"),
+                                       (numpy.array([None, 1.5], dtype=object), [None, 1.5], "double"), (numpy.ma.array(["a", "b"], mask=[True, False]), [None, "b"], "utf8"),
+                                       (numpy.array([], dtype="U1"), [], "null"), (numpy.array([1, 2], dtype="int16"), [1, 2], "i16")):
+            column = Table({"a": array})["a"]
+            self.assertEqual((column.to_pylist(), str(column.type)), (rows, text))
+        with self.assertRaisesRegex(TypeError, "one by one"):
+            Column.from_numpy(numpy.array(["a"]))
+        for array in table(numpy.array("a"), numpy.array([["a"]]), numpy.zeros((1, 1))):
+            with self.assertRaises(ValueError):
+                Table({"a": array})
 
     def test_what_is_no_table(self) -> None:
         for values in table([("a", [1])], [1], "a", None, Table({"a": [1]}), Column([1])):

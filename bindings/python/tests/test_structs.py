@@ -116,6 +116,9 @@ class Texts(unittest.TestCase):
         for text in ("decimal32(10, 2)", "decimal128(39, 0)", "decimal256(77, 1)", "decimal128(0, 0)"):
             with self.assertRaisesRegex(ValueError, "there is no type 'decimal"):
                 parse_type(text)
+        for zone in ("a, b", "a ,b", " UTC"):
+            wanted = of_format(f"tsm:{zone}")
+            self.assertEqual((str(wanted), parse_type(str(wanted))), (f"timestamp[ms, tz={zone}]", wanted))
         for text in ("fixed_size_binary[4294967296]", "fixed_size_binary[" + "9" * 10000 + "]"):
             with self.assertRaises(OverflowError):
                 parse_type(text)
@@ -149,7 +152,8 @@ class Types(unittest.TestCase):
             self.assertEqual((str(column.type), column.to_pylist()), (text, rows))
 
     def test_types_that_there_are_not(self) -> None:
-        makers: list[Any] = [lambda: Type("foo"), lambda: Type("list"), lambda: Type("fixed", (), 2), lambda: Type("i64", (Type("i64"),)), lambda: Type("list", (Type("i8"),) * 2)]
+        makers: list[Any] = [lambda: Type("foo"), lambda: Type("list"), lambda: Type("fixed", (), 2), lambda: Type("i64", (Type("i64"),)), lambda: Type("list", (Type("i8"),) * 2),
+                             lambda: Type("i64", (), 3), lambda: Type("list", (Type("i8"),), 2), lambda: Type("struct", (Type("i8"),), 1)]
         for make in makers:
             with self.assertRaises(ValueError):
                 make()
