@@ -8,7 +8,7 @@ from ctypes import byref, c_bool, c_size_t
 from typing import TYPE_CHECKING, Any, overload
 
 from . import _arrays
-from ._arguments import column_of, columns_of, indices_of, mask_of, picks_of, plain_column_of, sizes_of
+from ._arguments import column_of, column_of_kind, columns_of, indices_of, mask_of, picks_of, plain_column_of, sizes_of
 from ._arrow import Typed, imported_if_arrow
 from ._checks import FIELD_NUMBER, LIST_INDEX, ROW_OFFSET, SIZE, boolean, integer_within, is_integer, listed, position_of, shown, utf8_of
 from ._equality import has_equal_rows
@@ -428,7 +428,8 @@ class Column(Owner):
     def take(self, indices: Column | Iterable[SupportsIndex | None] | Array) -> Column:
         """Returns the rows at the indices, null where an index is null or masked.
 
-        Raises IndexError for an index that no row has; negative ones do not count from the end.
+        Raises IndexError for an index that no row has; negative ones do not count from the end. A column of indices has the type `u32`, or
+        WrongArgument, a TypeError, is raised; `column[indices]` takes integers of any type.
 
         >>> sel.Column(["a", "b", "c"]).take([2, None, 0, 2])
         Column(utf8, ["c",null,"a","c"])
@@ -466,8 +467,7 @@ class Column(Owner):
         """
         flag = boolean(null_on_oob, "null_on_oob")
         if isinstance(index, Column):
-            places = plain_column_of(index, index._logical, "index")
-            return self._new("sel_fixed_size_list_get_each", places, flag, logical=self._element_type())
+            return self._new("sel_fixed_size_list_get_each", column_of_kind(index, "i64", "index"), flag, logical=self._element_type())
         return self._new("sel_fixed_size_list_get", integer_within(index, "index", LIST_INDEX), flag, logical=self._element_type())
 
     def list_element(self, index: SupportsIndex) -> Column:
