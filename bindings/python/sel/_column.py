@@ -339,7 +339,7 @@ class Column(Owner):
     def __repr__(self) -> str:
         """Returns the type and the first 12 rows as text, of at most 1,000 characters."""
         most = 12
-        text = start_of_rows(self.sliced(0, min(most, len(self))), self._logical, 1000)
+        text = start_of_rows(self if len(self) <= most else self.sliced(0, most), self._logical, 1000)
         if text.endswith("..."):
             return f"Column({self.type}, {text} of {len(self)} rows)"
         return f"Column({self.type}, {text})" if len(self) <= most else f"Column({self.type}, {text[:-1]}, ... {len(self) - most} more])"

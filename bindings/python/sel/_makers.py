@@ -188,8 +188,8 @@ def _check_rows(values: Sequence[Any], name: str, kind: type[list[Any]] | type[t
             raise ValueError(f"{name}[{position}]: {shown(value)} has {len(value)} values, not {length}")
 
 
-def _check_nulls(values: Sequence[Any], wanted: Type, name: str) -> None:
-    """Raises ValueError for a null where a field of structs or an element of lists must not be null."""
+def _check_nulls(values: Iterable[Any], wanted: Type, name: str) -> None:
+    """Raises ValueError for a null where a field of structs or an element of lists must not be null. Other types do not read the values."""
     if isinstance(wanted, ArrowType) and not wanted.is_nullable and any(value is None for value in values):
         raise ValueError(f"{name}: a value is None, and the type says that they are not null")
 
@@ -216,7 +216,7 @@ def _fixed_list_items(values: Sequence[Any], wanted: Type, name: str) -> Owner:
 
 def _make_fixed_lists(values: Sequence[Any], wanted: Type, name: str, valid: Sequence[bool]) -> Owner:
     _check_rows(values, name, list, wanted.width)
-    _check_nulls([item for value in values for item in value or ()], wanted.children[0], f"elements of {name}")
+    _check_nulls((item for value in values for item in value or ()), wanted.children[0], f"elements of {name}")
     made, child = Owner(), _fixed_list_items(values, wanted, f"elements of {name}")
     call("sel_fixed_size_list_new", wanted.width, len(values), *validity_of(valid), child, byref(made._handle))
     return made
@@ -226,7 +226,7 @@ def _make_structs(values: Sequence[Any], wanted: Type, name: str, valid: Sequenc
     count = len(wanted.children)
     _check_rows(values, name, tuple, count)
     for number, child in enumerate(wanted.children):
-        _check_nulls([value[number] for value in values if value is not None], child, f"fields {number} of {name}")
+        _check_nulls((value[number] for value in values if value is not None), child, f"fields {number} of {name}")
     fields = [made_of([None if value is None else value[number] for value in values], child, f"fields {number} of {name}")
               for number, child in enumerate(wanted.children)]
     return from_several(fields, lambda handles, made: call(
