@@ -8,6 +8,7 @@ from ctypes import byref, c_size_t
 from typing import TYPE_CHECKING, Any, overload
 
 from ._checks import checked_name, checked_text
+from ._errors import LimitPassed
 from ._library import ArrowSchema, Handle, TypeHandle, call, lib
 from ._memory import room
 from ._owner import HandleOwner, Owner, derived
@@ -138,8 +139,11 @@ class ArrowType(Type):
             return NotImplemented
         if (self.kind, self.width, len(self.children)) != (other.kind, other.width, len(other.children)):
             return False
-        there = with_arrow_types(other)
-        same = there if isinstance(there, ArrowType) else _of_storage(there)
+        try:
+            there = with_arrow_types(other)
+            same = there if isinstance(there, ArrowType) else _of_storage(there)
+        except LimitPassed:  # a Type with more levels than a column has
+            return False
         return bool(lib.sel_type_equal(_without_name(self), _without_name(same)))
 
     # That of the storage: equal types have equal storages, and a Type may be equal to a logical type.

@@ -60,7 +60,7 @@ class Type:
         >>> str(sel.Type("fixed", (sel.Type("i64"),), 2))
         'fixed<2,i64>'
         """
-        inner = ",".join(map(str, self.children))
+        inner = ",".join(f"{child}{'' if getattr(child, 'is_nullable', True) else ' not null'}" for child in self.children)
         if self.kind == "fixed":
             return f"fixed<{self.width},{inner}>"
         return f"{self.kind}<{inner}>" if self.kind in ("list", "struct") else self.kind

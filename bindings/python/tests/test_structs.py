@@ -133,6 +133,10 @@ class Texts(unittest.TestCase):
             self.assertEqual(hash(found), hash(wanted))
             self.assertEqual(len({found, wanted}), 1)
             self.assertEqual(found.name, name)
+        deep = Type("i64")
+        for _ in range(200):
+            deep = Type("list", (deep,))
+        self.assertNotEqual(columns["list"].type, deep)
         for other in table(Type("u64"), parse_type("float"), parse_type("timestamp[s]"), Type("i32"), "i64", None):
             self.assertNotEqual(columns["id"].type, other)
         self.assertEqual(Type("list", (parse_type("double"),)), parse_type("list<double>"))
@@ -150,6 +154,13 @@ class Types(unittest.TestCase):
         ):
             column = Column(rows, wanted)
             self.assertEqual((str(column.type), column.to_pylist()), (text, rows))
+
+    def test_texts_of_types_with_logical_types_below(self) -> None:
+        double, whole = parse_type("double"), parse_type("struct<a: double not null>").children[0]
+        for wanted, text in table((Type("list", (double,)), "list<double>"), (Type("list", (whole,)), "list<double not null>"), (Type("fixed", (whole,), 2), "fixed<2,double not null>"),
+                                  (Type("struct", (whole, Type("i8"), double)), "struct<double not null,i8,double>"), (Type("list", (Type("list", (whole,)),)), "list<list<double not null>>")):
+            self.assertEqual((str(wanted), parse_type(text)), (text, wanted))
+        self.assertNotEqual(parse_type("list<double>"), Type("list", (whole,)))
 
     def test_types_that_there_are_not(self) -> None:
         makers: list[Any] = [lambda: Type("foo"), lambda: Type("list"), lambda: Type("fixed", (), 2), lambda: Type("i64", (Type("i64"),)), lambda: Type("list", (Type("i8"),) * 2),
