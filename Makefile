@@ -1,6 +1,6 @@
 # make test      runs every check; docs/TESTING.md says what is checked and how long it takes
 # make check     proves what has changed over cached proofs, then runs the fast checks: for everyday work
-# make setup     installs what the checks use besides the toolchain, and says what for
+# make setup     installs what the checks use besides the toolchain, and says what for; fails if something is missing afterwards
 # make tour      runs a short example for Rattle callers: a filter, a take, an if-then-else, lists, rows of several columns, an error
 # make run       runs the program on its stored input, or on a file: make run INPUT=file; make build proves and builds it
 # make lib       builds the C library into build/, and prints how far it is; for newer processors into build/x86-64-v3/: make lib CPU=x86-64-v3

@@ -6,18 +6,8 @@
 
 /* ---- keys */
 
-/* Writes keys as indices: a key that is negative, or has no 32-bit index, becomes the largest one. */
+/* Writes keys as indices: a key that is negative, which is a large number without its sign, or has no 32-bit index, becomes the largest one. */
 #define READ_KEYS(type, read)                                                                                          \
-    do {                                                                                                               \
-        type *narrow = malloc((len + 1) * sizeof *narrow);                                                             \
-        sel_status status = narrow ? read(keys, narrow, len) : SEL_ERROR_OUT_OF_MEMORY;                                \
-        for (size_t i = 0; status == SEL_OK && i < len; i++)                                                           \
-            out[i] = narrow[i] >= 0 && (uint64_t)narrow[i] < UINT32_MAX ? (uint32_t)narrow[i] : UINT32_MAX;            \
-        free(narrow);                                                                                                  \
-        return status;                                                                                                 \
-    } while (0)
-
-#define READ_UNSIGNED_KEYS(type, read)                                                                                 \
     do {                                                                                                               \
         type *narrow = malloc((len + 1) * sizeof *narrow);                                                             \
         sel_status status = narrow ? read(keys, narrow, len) : SEL_ERROR_OUT_OF_MEMORY;                                \
@@ -33,9 +23,9 @@ static sel_status read_keys(const sel_column *keys, uint32_t *out, size_t len) {
     case SEL_TYPE_INT16: READ_KEYS(int16_t, sel_int16_values);
     case SEL_TYPE_INT32: READ_KEYS(int32_t, sel_int32_values);
     case SEL_TYPE_INT64: READ_KEYS(int64_t, sel_int64_values);
-    case SEL_TYPE_UINT8: READ_UNSIGNED_KEYS(uint8_t, sel_uint8_values);
-    case SEL_TYPE_UINT16: READ_UNSIGNED_KEYS(uint16_t, sel_uint16_values);
-    case SEL_TYPE_UINT64: READ_UNSIGNED_KEYS(uint64_t, sel_uint64_values);
+    case SEL_TYPE_UINT8: READ_KEYS(uint8_t, sel_uint8_values);
+    case SEL_TYPE_UINT16: READ_KEYS(uint16_t, sel_uint16_values);
+    case SEL_TYPE_UINT64: READ_KEYS(uint64_t, sel_uint64_values);
     default: return sel_uint32_values(keys, out, len);
     }
 }

@@ -248,14 +248,18 @@ static void missing_pointers(specimen *it, const format *of) {
     it->child_schemas[0] = NULL;
     imports(it, has_child ? SEL_ERROR_ARROW_CHILDREN : SEL_OK, "no first child of the schema", 0);
     make(it, of);
+    it->schema.format = NULL;
+    imports(it, SEL_ERROR_ARROW_FORMAT, "no format", 0);
+}
+
+/* Structures that have a dictionary, and structures that are released. */
+static void dictionaries_and_releases(specimen *it, const format *of) {
+    make(it, of);
     it->array.dictionary = &it->child[0];
     imports(it, SEL_ERROR_ARROW_DICTIONARY, "a dictionary", 0);
     make(it, of);
     it->schema.dictionary = &it->child_schema[0];
     imports(it, SEL_ERROR_ARROW_DICTIONARY, "a dictionary of the schema", 0);
-    make(it, of);
-    it->schema.format = NULL;
-    imports(it, SEL_ERROR_ARROW_FORMAT, "no format", 0);
     make(it, of);
     it->schema.release = NULL;
     imports(it, SEL_ERROR_ARROW_RELEASED, "a released schema", 0);
@@ -264,7 +268,7 @@ static void missing_pointers(specimen *it, const format *of) {
     imports(it, SEL_ERROR_ARROW_RELEASED, "a released array", 0);
     make(it, of);
     it->child[0].release = NULL;
-    imports(it, has_child ? SEL_ERROR_ARROW_RELEASED : SEL_OK, "a released child", 0);
+    imports(it, of->children > 0 ? SEL_ERROR_ARROW_RELEASED : SEL_OK, "a released child", 0);
 }
 
 /* The status of offsets that rise past every buffer: they are past the child, a string is too long for a view, or the
@@ -383,6 +387,7 @@ int main(void) {
         counts_at_extremes(&it, of);
         lengths_that_fit(&it, of);
         missing_pointers(&it, of);
+        dictionaries_and_releases(&it, of);
         if (has_offsets(of)) offsets_at_extremes(&it, of);
         if (is_view(of)) views_at_extremes(&it, of);
     }

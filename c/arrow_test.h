@@ -45,6 +45,13 @@ piece piece_with(piece keys, piece dictionary);
 
 void forget_pieces(void);
 
+/* Imports a copy of an array, so that the array itself can be imported again. */
+sel_status import_piece(piece it, sel_column *out, sel_type *type);
+
+/* Tests whether the rows of a column, or a type, are printed as this text. Prints the text that is found if it is another one. */
+bool shows(const sel_column *column, const char *wanted);
+bool prints(const sel_type *type, const char *wanted);
+
 /* Writes a row of an array as text, read from its buffers alone: numbers as hexadecimal bytes, keys as the values that they name. */
 void write_row(const struct ArrowArray *array, const struct ArrowSchema *schema, int64_t row, char *out, size_t room);
 

@@ -27,29 +27,6 @@ static piece coded(size_t format, const uint8_t *bytes) {
     return piece_with(keys, words(bytes));
 }
 
-static sel_status import_piece(piece it, sel_column *out, sel_type *type) {
-    struct ArrowArray array = *it.array;
-    return sel_import(&array, it.schema, out, type);
-}
-
-static bool shows(const sel_column *column, const char *wanted) {
-    char out[ROOM];
-    size_t len = 0;
-    if (sel_print(column, (uint8_t *)out, sizeof out, &len) != SEL_OK) return false;
-    bool is_equal = len == strlen(wanted) && !memcmp(out, wanted, len);
-    if (!is_equal) printf("%.*s instead of %s\n", (int)len, out, wanted);
-    return is_equal;
-}
-
-static bool prints(const sel_type *type, const char *wanted) {
-    char out[ROOM];
-    size_t len = 0;
-    if (sel_type_format(type, (uint8_t *)out, sizeof out, &len) != SEL_OK) return false;
-    bool is_equal = len == strlen(wanted) && !memcmp(out, wanted, len);
-    if (!is_equal) printf("%.*s instead of %s\n", (int)len, out, wanted);
-    return is_equal;
-}
-
 static void keys_go_around(void) {
     for (size_t i = 0; i < 8; i++) {
         sel_column column = {0}, part = {0}, values = {0};

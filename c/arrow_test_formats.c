@@ -88,15 +88,6 @@ static void is_exported(const sel_column *column, const sel_type *type, piece fr
     schema.release(&schema);
 }
 
-static void prints_as(const sel_type *type, const char *name) {
-    uint8_t out[TEXT];
-    size_t len = 0;
-    CHECK(sel_type_format(type, out, sizeof out, &len) == SEL_OK && len < sizeof out);
-    bool is_equal = len == strlen(name) && memcmp(out, name, len) == 0;
-    if (!is_equal) printf("%.*s instead of %s\n", (int)len, (const char *)out, name);
-    CHECK(is_equal);
-}
-
 static sel_status import_and_export(void *of) {
     const piece *it = of;
     struct ArrowArray array = *it->array;
@@ -130,7 +121,7 @@ static void goes_around(piece from, const struct ArrowSchema *wanted, sel_type_i
     CHECK(status == SEL_OK && !array.release);
     if (status != SEL_OK) return;
     CHECK(sel_type_of(&column) == storage);
-    prints_as(&type, name);
+    CHECK(prints(&type, name));
     is_exported(&column, &type, from, wanted, same, ROWS);
     CHECK(sel_filter_bits(&column, mask, 1, ROWS, &part) == SEL_OK);
     is_exported(&part, &type, from, wanted, kept, 2);

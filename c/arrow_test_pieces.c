@@ -61,6 +61,33 @@ piece piece_with(piece keys, piece dictionary) {
     return keys;
 }
 
+sel_status import_piece(piece it, sel_column *out, sel_type *type) {
+    struct ArrowArray array = *it.array;
+    return sel_import(&array, it.schema, out, type);
+}
+
+/* ---- texts of columns and types */
+
+enum { TEXT_ROOM = 512 };
+
+static bool is_text(const char *text, size_t len, const char *wanted) {
+    bool is_equal = len == strlen(wanted) && !memcmp(text, wanted, len);
+    if (!is_equal) printf("%.*s instead of %s\n", (int)len, text, wanted);
+    return is_equal;
+}
+
+bool shows(const sel_column *column, const char *wanted) {
+    char text[TEXT_ROOM];
+    size_t len = 0;
+    return sel_print(column, (uint8_t *)text, sizeof text, &len) == SEL_OK && is_text(text, len, wanted);
+}
+
+bool prints(const sel_type *type, const char *wanted) {
+    char text[TEXT_ROOM];
+    size_t len = 0;
+    return sel_type_format(type, (uint8_t *)text, sizeof text, &len) == SEL_OK && is_text(text, len, wanted);
+}
+
 /* ---- an independent reader */
 
 typedef struct writer {

@@ -11,18 +11,13 @@ static const char uint128[] = "\1\0\0\0\x14\0\0\0" "ARROW:extension:name" "\x0b\
 static const char pair[] = "\1\0\0\0\3\0\0\0" "key" "\5\0\0\0" "value";
 static const int64_t numbers[4] = {1, 2, 3, 4};
 
-static sel_status import_piece(piece it, sel_column *out, sel_type *type) {
-    struct ArrowArray array = *it.array;
-    return sel_import(&array, it.schema, out, type);
-}
-
-static bool prints(const sel_type *type, const char *wanted) {
-    char out[200];
-    size_t len = 0;
-    if (sel_type_format(type, (uint8_t *)out, sizeof out, &len) != SEL_OK) return false;
-    bool is_equal = len == strlen(wanted) && !memcmp(out, wanted, len);
-    if (!is_equal) printf("%.*s instead of %s\n", (int)len, out, wanted);
-    return is_equal;
+/* Frees two columns, two others and two types. */
+static void free_pairs(sel_column *columns, sel_column *out, sel_type *types) {
+    for (int k = 0; k < 2; k++) {
+        sel_free(&columns[k]);
+        sel_free(&out[k]);
+        sel_type_free(&types[k]);
+    }
 }
 
 /* Checks that a column can be exported with its type, whose schema has these metadata. */
@@ -124,11 +119,7 @@ static void joined_maps_are_sorted_if_all_are(void) {
         for (int k = 0; k < 2; k++) CHECK(import_piece(map_with(i >> k & 1 ? ARROW_FLAG_MAP_KEYS_SORTED : 0), &columns[k], &types[k]) == SEL_OK);
         CHECK(sel_common_type(columns, types, 2, out, &common) == SEL_OK);
         CHECK(prints(&common, i == 3 ? "map<i64, i64, keys_sorted>" : "map<i64, i64>"));
-        for (int k = 0; k < 2; k++) {
-            sel_free(&columns[k]);
-            sel_free(&out[k]);
-            sel_type_free(&types[k]);
-        }
+        free_pairs(columns, out, types);
         sel_type_free(&common);
     }
 }
@@ -149,11 +140,7 @@ static void decimals_have_128_bits(void) {
         if (status == SEL_OK) status = sel_common_type(columns, types, 2, out, &common);
         CHECK(status == given[i].status);
     }
-    for (int k = 0; k < 2; k++) {
-        sel_free(&columns[k]);
-        sel_free(&out[k]);
-        sel_type_free(&types[k]);
-    }
+    free_pairs(columns, out, types);
     sel_type_free(&common);
 }
 

@@ -54,12 +54,6 @@ static struct ArrowArrayStream stream_of(producer *it, int fails_at) {
     return (struct ArrowArrayStream){get_schema, get_next, get_last_error, release_stream, it};
 }
 
-static bool shows(const sel_column *column, const char *wanted) {
-    char out[100];
-    size_t len = 0;
-    return sel_print(column, (uint8_t *)out, sizeof out, &len) == SEL_OK && len == strlen(wanted) && !memcmp(out, wanted, len);
-}
-
 static const char *const printed[BATCHES] = {"[(1),(2)]", "[(3),(4)]", "[(5),(6)]"};
 
 static void streams_are_read(void) {
@@ -142,8 +136,8 @@ static void free_batches(void *context) {
     sel_stream_free(&it->stream);
 }
 
-/* Passes batches through the library twice. Prints them with `prints`, which allocates memory. */
-static sel_status pass_batches(void *prints) {
+/* Passes batches through the library twice. Prints them if `printing` is not null, which allocates memory. */
+static sel_status pass_batches(void *printing) {
     producer from;
     batches between = {{0}, 0, 0, SEL_OK};
     struct ArrowArrayStream source = stream_of(&from, -1), out = {.release = NULL};
@@ -159,7 +153,7 @@ static sel_status pass_batches(void *prints) {
     for (int i = 0; status == SEL_OK && i < BATCHES; i++) {
         status = sel_stream_next(&again, &batch, &type);
         if (status == SEL_ERROR_ARROW_STREAM) CHECK(!strcmp(sel_stream_message(&again), "out of memory")), status = SEL_ERROR_OUT_OF_MEMORY;
-        if (status == SEL_OK) CHECK(sel_len(&batch) == ROWS && (!prints || shows(&batch, printed[i])));
+        if (status == SEL_OK) CHECK(sel_len(&batch) == ROWS && (!printing || shows(&batch, printed[i])));
     }
     if (status == SEL_OK) status = sel_stream_next(&again, &batch, &type);
     if (status == SEL_OK) CHECK(!batch.at && !type.at);

@@ -4,15 +4,6 @@
 #include <stdio.h>
 #include <string.h>
 
-static bool prints(const sel_type *type, const char *wanted) {
-    char out[400];
-    size_t len = 0;
-    if (sel_type_format(type, (uint8_t *)out, sizeof out, &len) != SEL_OK) return false;
-    bool is_equal = len == strlen(wanted) && !memcmp(out, wanted, len);
-    if (!is_equal) printf("%.*s instead of %s\n", (int)len, out, wanted);
-    return is_equal;
-}
-
 static void types_are_made(void) {
     sel_type leaf = {0}, list = {0}, both[2] = {{0}, {0}}, out = {0}, other = {0};
     CHECK(sel_type_new("tsu:UTC", NULL, 0, &leaf) == SEL_OK && prints(&leaf, "timestamp[us, tz=UTC]"));

@@ -179,9 +179,32 @@ static void test_filters(void) {
     sel_free(&out);
 }
 
+/* Filters tens by a selection of a mask, and by others that take its place. */
+static void filter_by_selections(const sel_column *column, sel_selection *by) {
+    const uint8_t values[1] = {13};
+    const int64_t kept[2] = {10, 40}, by_bits[3] = {10, 30, 40};
+    size_t len = 77, count = 77;
+    sel_column out = {0};
+    IS(sel_selection_len(by, &len) == SEL_OK && len == 4);
+    IS(sel_selection_count(by, &count) == SEL_OK && count == 2);
+    IS(sel_filter_selection(&out, by, &out) == SEL_ERROR_NO_COLUMN);
+    DONE(sel_filter_selection(column, by, &out));
+    IS(out.at == NULL || holds(&out, kept, 2));
+    /* the old selection is freed, or stays if there is no memory for the new one */
+    sel_status status = sel_selection_of_bits(values, 1, 3, by);
+    IS(done(status));
+    IS(sel_filter_selection(column, by, &out) == (status == SEL_OK ? SEL_ERROR_LENGTH_MISMATCH : SEL_OK));
+    status = sel_selection_of_bits(values, 1, 4, by);
+    IS(done(status));
+    if (status == SEL_OK) {
+        status = sel_filter_selection(column, by, &out);
+        IS(done(status) && (status != SEL_OK || holds(&out, by_bits, 3)));
+    }
+    sel_free(&out);
+}
+
 static void test_selections(void) {
     const uint8_t values[1] = {13}, bits[1] = {11};
-    const int64_t kept[2] = {10, 40}, by_bits[3] = {10, 30, 40};
     size_t len = 77, count = 77;
     sel_column column = tens(), mask = {0}, out = {0};
     sel_selection by = {0}, none = {0};
@@ -196,21 +219,7 @@ static void test_selections(void) {
         sel_status status = sel_selection_new(&mask, &by);
         IS(done(status));
         if (status == SEL_OK) {
-            IS(sel_selection_len(&by, &len) == SEL_OK && len == 4);
-            IS(sel_selection_count(&by, &count) == SEL_OK && count == 2);
-            IS(sel_filter_selection(&out, &by, &out) == SEL_ERROR_NO_COLUMN);
-            DONE(sel_filter_selection(&column, &by, &out));
-            IS(out.at == NULL || holds(&out, kept, 2));
-            /* the old selection is freed, or stays if there is no memory for the new one */
-            status = sel_selection_of_bits(values, 1, 3, &by);
-            IS(done(status));
-            IS(sel_filter_selection(&column, &by, &out) == (status == SEL_OK ? SEL_ERROR_LENGTH_MISMATCH : SEL_OK));
-            status = sel_selection_of_bits(values, 1, 4, &by);
-            IS(done(status));
-            if (status == SEL_OK) {
-                status = sel_filter_selection(&column, &by, &out);
-                IS(done(status) && (status != SEL_OK || holds(&out, by_bits, 3)));
-            }
+            filter_by_selections(&column, &by);
         }
     }
     sel_selection_free(&by);
@@ -382,7 +391,7 @@ static void test_bytes(void) {
 }
 
 /* An index for each of the lists 10 20, 30 40. */
-static void test_each(sel_column *lists) {
+static void test_each(const sel_column *lists) {
     const int64_t places[2] = {1, -2}, far[2] = {0, 2}, wanted[2] = {20, 30};
     sel_column at = {0}, out = {0}, flat = tens();
     IS(sel_fixed_size_list_get_each(lists, &at, false, &out) == SEL_ERROR_NO_COLUMN);
@@ -413,6 +422,29 @@ static void test_each(sel_column *lists) {
     sel_free(&out);
 }
 
+/* Reads lists of 10 and of 20, 30 and 40. */
+static void read_lists(const sel_column *lists) {
+    const int64_t offsets[3] = {0, 1, 4}, all[4] = {10, 20, 30, 40}, last[2] = {10, 40};
+    int64_t places[3];
+    size_t width = 7;
+    sel_column child = {0}, other = {0};
+    IS(sel_offsets(lists, places, 3) == SEL_OK && memcmp(places, offsets, sizeof offsets) == 0);
+    IS(sel_bytes_len(lists, &width) == SEL_ERROR_UNSUPPORTED_TYPE);
+    IS(sel_bytes(lists, (uint8_t *)places, 3) == SEL_ERROR_UNSUPPORTED_TYPE);
+    IS(sel_fixed_size_list_size(lists, &width) == SEL_ERROR_UNSUPPORTED_TYPE);
+    IS(sel_field_count(lists, &width) == SEL_ERROR_UNSUPPORTED_TYPE && width == 7);
+    IS(sel_field(lists, 0, &child) == SEL_ERROR_INDEX_OUT_OF_BOUNDS);
+    /* the last element of each list, then the second one, which the first list lacks */
+    sel_status status = sel_list_get(lists, -1, &child);
+    IS(done(status) && (status != SEL_OK || holds(&child, last, 2)));
+    status = sel_list_get(lists, 1, &child);
+    IS(done(status) && (status != SEL_OK || (sel_len(&child) == 2 && sel_null_count(&child) == 1)));
+    status = sel_child(lists, &child);
+    IS(done(status) && (status != SEL_OK || holds(&child, all, 4)));
+    IS(child.at == NULL || sel_child(&child, &other) == SEL_ERROR_UNSUPPORTED_TYPE);
+    sel_free(&child);
+}
+
 static void test_lists(void) {
     const int64_t offsets[3] = {0, 1, 4}, far[2] = {0, 5};
     sel_column child = {0}, lists = {0}, units = {0};
@@ -437,28 +469,35 @@ static void test_lists(void) {
         sel_free(&child);
         IS(lists.at == NULL || (sel_len(&lists) == 2 && sel_type_of(&lists) == SEL_TYPE_LIST));
         if (lists.at != NULL) {
-            const int64_t all[4] = {10, 20, 30, 40};
-            int64_t places[3];
-            size_t width = 7;
-            IS(sel_offsets(&lists, places, 3) == SEL_OK && memcmp(places, offsets, sizeof offsets) == 0);
-            IS(sel_bytes_len(&lists, &width) == SEL_ERROR_UNSUPPORTED_TYPE);
-            IS(sel_bytes(&lists, (uint8_t *)places, 3) == SEL_ERROR_UNSUPPORTED_TYPE);
-            IS(sel_fixed_size_list_size(&lists, &width) == SEL_ERROR_UNSUPPORTED_TYPE);
-            IS(sel_field_count(&lists, &width) == SEL_ERROR_UNSUPPORTED_TYPE && width == 7);
-            IS(sel_field(&lists, 0, &child) == SEL_ERROR_INDEX_OUT_OF_BOUNDS);
-            /* the last element of each list, then the second one, which the first list lacks */
-            const int64_t last[2] = {10, 40};
-            status = sel_list_get(&lists, -1, &child);
-            IS(done(status) && (status != SEL_OK || holds(&child, last, 2)));
-            status = sel_list_get(&lists, 1, &child);
-            IS(done(status) && (status != SEL_OK || (sel_len(&child) == 2 && sel_null_count(&child) == 1)));
-            status = sel_child(&lists, &child);
-            IS(done(status) && (status != SEL_OK || holds(&child, all, 4)));
-            IS(child.at == NULL || sel_child(&child, &units) == SEL_ERROR_UNSUPPORTED_TYPE);
-            sel_free(&child);
+            read_lists(&lists);
         }
     }
-    child = tens();
+    sel_free(&lists);
+    sel_free(&units);
+}
+
+/* Reads lists of 10 and 20 and of 30 and 40. */
+static void read_fixed_size_lists(const sel_column *lists) {
+    const int64_t last[2] = {20, 40};
+    size_t width = 0;
+    sel_column child = {0}, other = {0};
+    IS(sel_fixed_size_list_size(lists, &width) == SEL_OK && width == 2);
+    IS(sel_offsets(lists, (int64_t[3]){0, 0, 0}, 3) == SEL_ERROR_UNSUPPORTED_TYPE);
+    /* the last entry of each list, then one that lists of two have not */
+    sel_status status = sel_fixed_size_list_get(lists, -1, false, &child);
+    IS(done(status) && (status != SEL_OK || holds(&child, last, 2)));
+    IS(child.at == NULL || gives(sel_fixed_size_list_get(&child, 0, false, &other), SEL_ERROR_UNSUPPORTED_TYPE));
+    IS(gives(sel_fixed_size_list_get(lists, 2, false, &child), SEL_ERROR_LIST_INDEX_OUT_OF_BOUNDS));
+    status = sel_fixed_size_list_get(lists, 2, true, &child);
+    IS(done(status) && (status != SEL_OK || (sel_len(&child) == 2 && sel_null_count(&child) == 2)));
+    sel_free(&child);
+    IS(sel_fixed_size_list_get(&child, 0, false, &other) == SEL_ERROR_NO_COLUMN);
+    test_each(lists);
+}
+
+/* A column of lists takes the place of tens, which are freed. */
+static void test_fixed_size_lists(void) {
+    sel_column child = tens(), lists = tens();
     if (child.at != NULL) {
         IS(gives(sel_fixed_size_list_new(3, 2, SEL_ALL_VALID, &child, &lists), SEL_ERROR_CHILD_LENGTH));
         IS(is_tens(&child));
@@ -468,24 +507,10 @@ static void test_lists(void) {
         sel_free(&child);
     }
     if (lists.at != NULL && sel_type_of(&lists) == SEL_TYPE_FIXED_SIZE_LIST) {
-        size_t width = 0;
-        IS(sel_fixed_size_list_size(&lists, &width) == SEL_OK && width == 2);
-        IS(sel_offsets(&lists, (int64_t[3]){0, 0, 0}, 3) == SEL_ERROR_UNSUPPORTED_TYPE);
-        /* the last entry of each list, then one that lists of two have not */
-        const int64_t last[2] = {20, 40};
-        sel_status status = sel_fixed_size_list_get(&lists, -1, false, &child);
-        IS(done(status) && (status != SEL_OK || holds(&child, last, 2)));
-        IS(child.at == NULL || gives(sel_fixed_size_list_get(&child, 0, false, &units), SEL_ERROR_UNSUPPORTED_TYPE));
-        IS(gives(sel_fixed_size_list_get(&lists, 2, false, &child), SEL_ERROR_LIST_INDEX_OUT_OF_BOUNDS));
-        status = sel_fixed_size_list_get(&lists, 2, true, &child);
-        IS(done(status) && (status != SEL_OK || (sel_len(&child) == 2 && sel_null_count(&child) == 2)));
-        sel_free(&child);
-        IS(sel_fixed_size_list_get(&child, 0, false, &units) == SEL_ERROR_NO_COLUMN);
-        test_each(&lists);
+        read_fixed_size_lists(&lists);
     }
     IS(sel_fixed_size_list_new(2, 2, SEL_ALL_VALID, &child, &lists) == SEL_ERROR_NO_COLUMN);
     sel_free(&lists);
-    sel_free(&units);
 }
 
 static void test_structs(void) {
@@ -579,7 +604,7 @@ static void test_short_validities(void) {
 static void (*const tests[])(void) = {
     test_nulls, test_booleans, test_int8, test_int16, test_int32, test_int64, test_uint8, test_uint16, test_uint32,
     test_uint64, test_int128, test_uint128, test_whole, test_filters, test_selections, test_filters_of_all_rows, test_choices_of_one_side, test_calls_on_one_row, test_takes, test_reverse, test_bytes,
-    test_lists, test_structs, test_views, test_choices, test_broadcasts, test_chosen_kinds, test_flattens, test_collected_rows, test_dictionaries, test_equal_rows, test_prints, test_prints_types,
+    test_lists, test_fixed_size_lists, test_structs, test_views, test_choices, test_broadcasts, test_chosen_kinds, test_flattens, test_collected_rows, test_dictionaries, test_equal_rows, test_prints, test_prints_types,
     test_parses, test_misread_texts, test_parse_memory, test_flatten_limits, test_list_limits, test_empty_inputs, test_empty_outputs, test_strings,
     test_short_validities,
 };

@@ -215,6 +215,17 @@ static sel_status copy_strings(const node *it, size_t from, size_t len, const ui
     return status;
 }
 
+static sel_status copy_integers(const node *it, size_t from, size_t len, const uint8_t *bits, sel_column *out) {
+    const bool has = it->bits != NULL;
+    const size_t bytes = len / 8 + 1;
+    switch (it->width) {
+    case 1: return sel_uint8_new((const uint8_t *)it->values + from, len, bits, bytes, has, out);
+    case 2: return sel_int16_new((const int16_t *)it->values + from, len, bits, bytes, has, out);
+    case 4: return sel_uint32_new((const uint32_t *)it->values + from, len, bits, bytes, has, out);
+    default: return sel_int64_new((const int64_t *)it->values + from, len, bits, bytes, has, out);
+    }
+}
+
 static sel_status copy_values(const node *it, size_t from, size_t len, const uint8_t *bits, sel_column *out) {
     const bool has = it->bits != NULL;
     const size_t bytes = len / 8 + 1;
@@ -224,12 +235,7 @@ static sel_status copy_values(const node *it, size_t from, size_t len, const uin
     sel_status status = SEL_OK;
     for (size_t i = 0; it->offsets && it->kind != VIEWS && i <= len; i++) offsets[i] = offset_at(it, from + i);
     switch (it->kind) {
-    case INTEGERS:
-        status = it->width == 1   ? sel_uint8_new((const uint8_t *)it->values + from, len, bits, bytes, has, out)
-                 : it->width == 2 ? sel_int16_new((const int16_t *)it->values + from, len, bits, bytes, has, out)
-                 : it->width == 4 ? sel_uint32_new((const uint32_t *)it->values + from, len, bits, bytes, has, out)
-                                  : sel_int64_new((const int64_t *)it->values + from, len, bits, bytes, has, out);
-        break;
+    case INTEGERS: status = copy_integers(it, from, len, bits, out); break;
     case BOOLEANS: status = sel_boolean_new(truths = packed(it->values, from, len), bytes, len, bits, bytes, has, out); break;
     case BINARY: status = sel_binary_new(offsets, len + 1, it->values, (size_t)offset_at(it, it->rows), bits, bytes, has, out); break;
     case STRINGS: status = copy_strings(it, from, len, bits, out); break;

@@ -21,49 +21,18 @@ ROOT = pathlib.Path(__file__).resolve().parent.parent
 sys.dont_write_bytecode = True
 sys.path.insert(0, str(ROOT / "tools"))
 
+from commands import CC, EXAMPLES, INCLUDE, MEMCHECK, PYTHON, SANITIZED, WARN, WRAPPED, check_example, check_header, has, left_out, run  # noqa: E402
 from package import ARROW_SOURCES, BUILD  # noqa: E402
 
-EXAMPLES = ROOT / "examples"
 EXAMPLES_IN_C = ("filter.c", "arrow_roundtrip.c")
 # the tests of the Arrow interface, the file with `main` first
 ARROW_TESTS = [ROOT / "c" / "arrow_test.c", *sorted((ROOT / "c").glob("arrow_test_*.c"))]
-CC = os.environ.get("CC", "cc")
-CFLAGS = ["-std=c11", "-g", "-Wall", "-Wextra", "-pedantic", "-Werror", "-I", str(ROOT / "include")]
-SANITIZED = ["-fsanitize=address,undefined", "-fno-sanitize-recover=all", "-fno-omit-frame-pointer"]
-WRAPPED = [f"-Wl,--wrap={name}" for name in ("malloc", "calloc", "realloc", "free")]
-# Debian's packages are installed for the system's Python.
-PYTHON = os.environ.get("PYTHON", "/usr/bin/python3" if pathlib.Path("/usr/bin/python3").exists() else sys.executable)
-
-
-def run(*words: object, **more: object) -> str:
-    """Runs a command and returns its output. Exits if it fails."""
-    done = subprocess.run([str(word) for word in words], stdout=subprocess.PIPE, text=True, **more)  # type: ignore[call-overload]
-    if done.returncode != 0:
-        print(done.stdout, end="")
-        sys.exit(f"failed: {' '.join(str(word) for word in words)}")
-    return str(done.stdout)
-
-
-def has(*needs: str) -> bool:
-    """Returns whether these dependencies are installed or could be installed. tools/need reports the missing ones."""
-    return subprocess.run([ROOT / "tools" / "need", *needs], env={**os.environ, "PYTHON": PYTHON}, check=False).returncode == 0
-
-
-def left_out(what: str) -> None:
-    print(f"not run: {what}", file=sys.stderr)
-
-
-def prints(name: str, output: str) -> None:
-    """Compares the output of an example with the stored output next to it."""
-    wanted = (EXAMPLES / f"{name}.out").read_text()
-    if output != wanted:
-        sys.exit(f"examples/{name} prints\n{output}instead of\n{wanted}")
-    print(f"examples/{name}: ok")
+CFLAGS = ["-std=c11", "-g", *WARN, *INCLUDE]
 
 
 def built(source: pathlib.Path, folder: pathlib.Path, *flags: str | pathlib.Path) -> pathlib.Path:
     program = folder / source.stem
-    run(CC, *CFLAGS, source, *(flag for flag in flags if isinstance(flag, pathlib.Path)), BUILD / "libsel.a",
+    run(*CC, *CFLAGS, source, *(flag for flag in flags if isinstance(flag, pathlib.Path)), BUILD / "libsel.a",
         *(flag for flag in flags if not isinstance(flag, pathlib.Path)), "-o", program)
     return program
 
@@ -78,7 +47,7 @@ def try_malformed(folder: pathlib.Path) -> None:
     if not has("sanitizers"):
         return left_out("malformed arrays under AddressSanitizer and UndefinedBehaviorSanitizer")
     program = folder / "arrow_malformed"
-    run(CC, *CFLAGS, *SANITIZED, ROOT / "c" / "arrow_malformed.c", *ARROW_SOURCES, BUILD / "libsel.a", "-o", program)
+    run(*CC, *CFLAGS, *SANITIZED, ROOT / "c" / "arrow_malformed.c", *ARROW_SOURCES, BUILD / "libsel.a", "-o", program)
     # an allocation that exceeds memory must return null, so that the library returns an error and the test goes on
     env = {**os.environ, "ASAN_OPTIONS": "allocator_may_return_null=1:detect_leaks=1"}
     done = subprocess.run([program], env=env, capture_output=True, text=True, check=False)
@@ -88,22 +57,17 @@ def try_malformed(folder: pathlib.Path) -> None:
 
 
 def try_c(folder: pathlib.Path) -> None:
-    header = ROOT / "include" / "sel_arrow.h"
-    run(CC, *CFLAGS, "-fsyntax-only", "-x", "c", header)
-    if has("c++"):
-        run(os.environ.get("CXX", "c++"), "-std=c++17", "-Wall", "-Wextra", "-pedantic", "-Werror", "-fsyntax-only", "-x", "c++", header)
-    else:
-        left_out("include/sel_arrow.h as C++")
+    check_header("sel_arrow.h")
     print(run(built_arrow_test(folder)), end="")
     if has("sanitizers"):
         sources = [*ARROW_TESTS, *ARROW_SOURCES]
-        run(CC, *CFLAGS, *SANITIZED, *sources, BUILD / "libsel.a", *WRAPPED, "-o", folder / "arrow_test_sanitized")
+        run(*CC, *CFLAGS, *SANITIZED, *sources, BUILD / "libsel.a", *WRAPPED, "-o", folder / "arrow_test_sanitized")
         run(folder / "arrow_test_sanitized")
     else:
         left_out("arrow_test.c under AddressSanitizer and UndefinedBehaviorSanitizer")
     try_malformed(folder)
     for name in EXAMPLES_IN_C:
-        prints(name, run(built(EXAMPLES / name, folder)))
+        check_example(name, run(built(EXAMPLES / name, folder)))
 
 
 def try_valgrind(folder: pathlib.Path) -> None:
@@ -111,7 +75,7 @@ def try_valgrind(folder: pathlib.Path) -> None:
     if not has("valgrind"):
         return left_out("arrow_test.c and the examples under valgrind")
     for program in (built_arrow_test(folder), *(built(EXAMPLES / name, folder) for name in EXAMPLES_IN_C)):
-        run("valgrind", "--quiet", "--error-exitcode=3", "--leak-check=full", program)
+        run(*MEMCHECK, program)
     print("arrow_test.c and the examples under valgrind: ok")
 
 
@@ -140,7 +104,7 @@ def try_rust(folder: pathlib.Path) -> None:
     crate, env = ROOT / "bindings" / "rust", rust_env()
     run("cargo", "test", "--offline", "--quiet", "--lib", "--tests", "--examples", cwd=crate, env=env)
     for name in ("filter", "threads"):
-        prints(f"{name}.rs", run("cargo", "run", "--offline", "--quiet", "--example", name, cwd=crate, env=env))
+        check_example(f"{name}.rs", run("cargo", "run", "--offline", "--quiet", "--example", name, cwd=crate, env=env))
     print("the Rust package: ok")
 
 
@@ -155,7 +119,7 @@ def try_rust_docs(folder: pathlib.Path) -> None:
 def counting_library(folder: pathlib.Path) -> pathlib.Path:
     """Links the library with an allocator that counts the blocks in use and refuses allocations on demand."""
     library = folder / "libsel_counting.so"
-    run(CC, *CFLAGS, "-fPIC", "-shared", ROOT / "tests" / "memory.c", "-Wl,--whole-archive", BUILD / "libsel.a", "-Wl,--no-whole-archive",
+    run(*CC, *CFLAGS, "-fPIC", "-shared", ROOT / "tests" / "memory.c", "-Wl,--whole-archive", BUILD / "libsel.a", "-Wl,--no-whole-archive",
         *WRAPPED, "-o", library)
     return library
 
@@ -193,7 +157,7 @@ def try_python(folder: pathlib.Path) -> None:
         for running in [pool.submit(run, PYTHON, "-m", "unittest", *part, cwd=folder, env=unit) for part in parts]:
             running.result()
     for name in ("filter_take.py", "when_then.py"):
-        prints(name, run(PYTHON, EXAMPLES / name, env=env))
+        check_example(name, run(PYTHON, EXAMPLES / name, env=env))
     print("the Python package: ok")
 
 
@@ -227,7 +191,7 @@ def try_wheel(folder: pathlib.Path) -> None:
 def try_dask(folder: pathlib.Path) -> None:
     if not has("numpy", "dask"):
         return left_out("examples/partitions_dask.py")
-    prints("partitions_dask.py", run(PYTHON, EXAMPLES / "partitions_dask.py", cwd=folder, env=python_env(), timeout=300))
+    check_example("partitions_dask.py", run(PYTHON, EXAMPLES / "partitions_dask.py", cwd=folder, env=python_env(), timeout=300))
 
 
 def try_gdal(folder: pathlib.Path) -> None:
@@ -236,7 +200,7 @@ def try_gdal(folder: pathlib.Path) -> None:
         return left_out("Arrow streams of GDAL")
     library = run("gdal-config", "--libs").split()
     program = folder / "test_gdal"
-    run(CC, *CFLAGS, "-isystem", "/usr/include/gdal", ROOT / "c" / "test_gdal.c", ROOT / "c" / "arrow_test_pieces.c", BUILD / "libsel.a", *library, "-o", program)
+    run(*CC, *CFLAGS, "-isystem", "/usr/include/gdal", ROOT / "c" / "test_gdal.c", ROOT / "c" / "arrow_test_pieces.c", BUILD / "libsel.a", *library, "-o", program)
     print(run(program, folder), end="")
 
 

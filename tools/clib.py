@@ -20,32 +20,19 @@ import re
 import subprocess
 import sys
 import tempfile
-from typing import Any
 
 ROOT = pathlib.Path(__file__).resolve().parent.parent
-CC = os.environ.get("CC", "cc")
-CXX = os.environ.get("CXX", "c++")
-WARN = ["-Wall", "-Wextra", "-pedantic", "-Werror"]
 TESTS = ROOT / "c"
 # the toolchain's options for its own compiler: it only inlines and simplifies
 OWN_COMPILER = ["--backend", "rattle", "--opt-level", "1"]
-# the allocator of c/test_memory.c
-WRAPPED = [f"-Wl,--wrap={name}" for name in ("malloc", "calloc", "realloc", "free")]
 sys.dont_write_bytecode = True
 sys.path.insert(0, str(ROOT / "tools"))
 
 import verdicts  # noqa: E402
+from commands import CC, HELGRIND, INCLUDE, MEMCHECK, WARN, WRAPPED, check_header, has, left_out, run, run_printing  # noqa: E402
 from libraries import Build  # noqa: E402
-from package import ARROW_SOURCES, BUILD, LEAST_CPU, SONAME, SOURCES, filled, folder_of, functions, hash_of_sources  # noqa: E402
+from package import ARROW_SOURCES, LEAST_CPU, SONAME, SOURCES, filled, folder_of, functions, hash_of_sources  # noqa: E402
 from prover import kit, words  # noqa: E402
-
-
-def run(*words: object, **more: Any) -> subprocess.CompletedProcess[Any]:
-    """Runs a command. Exits with its words if it fails."""
-    done = subprocess.run([str(word) for word in words], **more)
-    if done.returncode != 0:
-        sys.exit(f"failed: {' '.join(str(word) for word in words)}")
-    return done
 
 
 def hide_proved_calls(objects: list[pathlib.Path]) -> None:
@@ -56,13 +43,13 @@ def hide_proved_calls(objects: list[pathlib.Path]) -> None:
         pairs.write("".join(f"sel_{name} sel_proved_{name}\n" for name in names))
         pairs.flush()
         for path in objects:
-            run("objcopy", f"--redefine-syms={pairs.name}", path)
+            run_printing("objcopy", f"--redefine-syms={pairs.name}", path)
 
 
 def use_library_memory(objects: list[pathlib.Path]) -> None:
     """Lets the allocator of the proved functions call c/memory.c in place of malloc, realloc and free."""
     for path in objects:
-        run("objcopy", *(word for name in ("malloc", "realloc", "free") for word in ("--redefine-sym", f"{name}=sel_memory_{name}")), path)
+        run_printing("objcopy", *(word for name in ("malloc", "realloc", "free") for word in ("--redefine-sym", f"{name}=sel_memory_{name}")), path)
 
 
 def proved(over_gate: bool, cpu: str, compiler: list[str]) -> pathlib.Path:
@@ -100,18 +87,18 @@ def build(over_gate: bool, cpu: str, is_fast: bool, before: str) -> None:
     archive, shared = folder / "libsel.a", folder / SONAME
     with tempfile.TemporaryDirectory() as work:
         for part in (made, kit() / "c" / "liblibc_c.a"):
-            run("ar", "x", part, cwd=work)
+            run_printing("ar", "x", part, cwd=work)
         hide_proved_calls(sorted(pathlib.Path(work).iterdir()))
         use_library_memory(sorted(pathlib.Path(work).iterdir()))
         for source in SOURCES:
-            run(CC, "-std=c11", "-O2", "-fPIC", f"-ffile-prefix-map={ROOT}/=", *WARN, "-I", ROOT / "include", "-c", source, "-o",
+            run_printing(*CC, "-std=c11", "-O2", "-fPIC", f"-ffile-prefix-map={ROOT}/=", *WARN, *INCLUDE, "-c", source, "-o",
                 pathlib.Path(work) / f"libsel_{source.stem}.o")
         objects = sorted(pathlib.Path(work).iterdir())
         archive.unlink(missing_ok=True)
-        run("ar", "rcsD", archive, *objects)
+        run_printing("ar", "rcsD", archive, *objects)
         exports = pathlib.Path(work) / "exports"
         exports.write_text(f"{{ global: {' '.join(f'{name};' for name in sorted(functions()))} local: *; }};\n")
-        run(CC, "-shared", f"-Wl,-soname,{shared.name}", f"-Wl,--version-script={exports}", "-Wl,-z,defs", "-o", shared, *objects)
+        run_printing(*CC, "-shared", f"-Wl,-soname,{shared.name}", f"-Wl,--version-script={exports}", "-Wl,-z,defs", "-o", shared, *objects)
     # a hard link: `rt ci` rejects a tree with symbolic links
     link = folder / "libsel.so"
     link.unlink(missing_ok=True)
@@ -123,23 +110,14 @@ def build(over_gate: bool, cpu: str, is_fast: bool, before: str) -> None:
 
 def foreign_symbols(folder: pathlib.Path) -> list[str]:
     """Returns the exported symbols of the shared library that its headers do not declare."""
-    names = run("nm", "-D", "--defined-only", folder / "libsel.so", capture_output=True, text=True).stdout.split("\n")
+    names = run("nm", "-D", "--defined-only", folder / "libsel.so").split("\n")
     return sorted({line.split()[-1] for line in names if line.strip()} - functions())
-
-
-def has(need: str) -> bool:
-    """Returns whether a dependency is installed or could be installed. tools/need reports the missing ones."""
-    return subprocess.run([ROOT / "tools" / "need", need], check=False).returncode == 0
-
-
-def left_out(what: str) -> None:
-    print(f"not run: {what}", file=sys.stderr)
 
 
 def compiled(folder: pathlib.Path, name: str, sources: list[str], *flags: str) -> pathlib.Path:
     """Compiles a test, linked with the archive. Returns the program."""
     program = folder / name
-    run(CC, "-std=c11", "-g", *WARN, "-I", ROOT / "include", *(TESTS / f"{source}.c" for source in sources), folder / "libsel.a", *flags, "-o", program)
+    run_printing(*CC, "-std=c11", "-g", *WARN, *INCLUDE, *(TESTS / f"{source}.c" for source in sources), folder / "libsel.a", *flags, "-o", program)
     return program
 
 
@@ -153,12 +131,11 @@ def finds_race(under: list[str], program: pathlib.Path, function: str, env: dict
 def check_threads(folder: pathlib.Path) -> None:
     """Runs c/test_threads.c plainly, under valgrind's memcheck and helgrind, and with ThreadSanitizer."""
     program = compiled(folder, "test_threads", ["test_threads"], "-pthread")
-    run(program, "60")
+    run_printing(program, "60")
     if has("valgrind"):
-        run("valgrind", "--quiet", "--error-exitcode=3", "--leak-check=full", program, "1")
-        helgrind = ["valgrind", "--tool=helgrind", "--quiet", "--error-exitcode=3"]
-        run(*helgrind, program, "2")
-        finds_race(helgrind, program, "sel_proved_print")
+        run_printing(*MEMCHECK, program, "1")
+        run_printing(*HELGRIND, program, "2")
+        finds_race(HELGRIND, program, "sel_proved_print")
     else:
         left_out("c/test_threads.c under memcheck and helgrind")
     if not has("tsan"):
@@ -167,12 +144,12 @@ def check_threads(folder: pathlib.Path) -> None:
     # would not be seen. It exports all of them. The tests and the files c/arrow_*.c of the library are instrumented.
     env = {**os.environ, "TSAN_OPTIONS": "ignore_noninstrumented_modules=1:exitcode=3"}
     with tempfile.TemporaryDirectory() as work:
-        run(CC, "-shared", "-Wl,--whole-archive", folder / "libsel.a", "-Wl,--no-whole-archive", "-pthread", "-o", f"{work}/libsel_all.so")
+        run_printing(*CC, "-shared", "-Wl,--whole-archive", folder / "libsel.a", "-Wl,--no-whole-archive", "-pthread", "-o", f"{work}/libsel_all.so")
         for name, rounds in (("test_threads", "5"), ("test_lease_threads", "200")):
             program = pathlib.Path(work) / name
-            run(CC, "-std=c11", "-g", "-O1", "-fsanitize=thread", *WARN, "-I", ROOT / "include", TESTS / f"{name}.c", *ARROW_SOURCES,
+            run_printing(*CC, "-std=c11", "-g", "-O1", "-fsanitize=thread", *WARN, *INCLUDE, TESTS / f"{name}.c", *ARROW_SOURCES,
                 f"-L{work}", "-lsel_all", f"-Wl,-rpath,{work}", "-pthread", "-o", program)
-            run(program, rounds, env=env)
+            run_printing(program, rounds, env=env)
             if name == "test_threads":
                 finds_race([], program, "write_unguarded", env)
 
@@ -195,7 +172,7 @@ def finds_lease_faults(folder: pathlib.Path) -> None:
         with tempfile.TemporaryDirectory() as work:
             changed, program = pathlib.Path(work) / name, pathlib.Path(work) / "test_lease"
             changed.write_text(text.replace(old, new))
-            run(CC, "-std=c11", "-g", "-I", ROOT / "include", "-I", TESTS, TESTS / "test_lease.c", TESTS / "test_memory.c", changed,
+            run_printing(*CC, "-std=c11", "-g", *INCLUDE, "-I", TESTS, TESTS / "test_lease.c", TESTS / "test_memory.c", changed,
                 folder / "libsel.a", *WRAPPED, "-pthread", "-o", program)
             if subprocess.run([program], stdout=subprocess.DEVNULL, stderr=subprocess.DEVNULL, timeout=100, check=False).returncode == 0:
                 sys.exit(f"failed: c/test_lease.c passes although {what}")
@@ -207,41 +184,37 @@ def check_leases(folder: pathlib.Path) -> None:
     lent = compiled(folder, "test_lease", ["test_lease", "test_memory"], *WRAPPED, "-pthread")
     threads = compiled(folder, "test_lease_threads", ["test_lease_threads"], "-pthread")
     random = compiled(folder, "test_lease_random", ["test_lease_random"], "-pthread")
-    run(lent)
-    run(random, "100000")
-    run(threads, "2000")
+    run_printing(lent)
+    run_printing(random, "100000")
+    run_printing(threads, "2000")
     if not has("valgrind"):
         return left_out("c/test_lease.c under memcheck, and c/test_lease_threads.c under helgrind")
-    memcheck = ["valgrind", "--quiet", "--error-exitcode=3", "--leak-check=full"]
-    run(*memcheck, lent)
-    run(*memcheck, random, "200")
-    run("valgrind", "--tool=helgrind", "--quiet", "--error-exitcode=3", threads, "20")
+    run_printing(*MEMCHECK, lent)
+    run_printing(*MEMCHECK, random, "200")
+    run_printing(*HELGRIND, threads, "20")
 
 
 def check_depth(folder: pathlib.Path) -> None:
-    """Runs c/test_depth.c, which has to call every function of the headers."""
-    called = set(re.findall(r"\b(sel_\w+)\(", (TESTS / "test_depth.c").read_text()))
+    """Runs c/test_depth.c, whose tests have to call every function of the headers."""
+    sources = sorted(TESTS.glob("test_depth*.c"))
+    called = {name for path in sources for name in re.findall(r"\b(sel_\w+)\(", path.read_text())}
     if not functions() <= called:
-        sys.exit(f"c/test_depth.c does not call {', '.join(sorted(functions() - called))}")
-    run(compiled(folder, "test_depth", ["test_depth", "test_memory"], "-pthread", *WRAPPED))
+        sys.exit(f"c/test_depth*.c do not call {', '.join(sorted(functions() - called))}")
+    run_printing(compiled(folder, "test_depth", [*(path.stem for path in sources), "test_memory"], "-pthread", *WRAPPED))
 
 
 def check(cpu: str) -> None:
     """Checks the headers and what the built library exports, and runs the tests of c/ over it."""
-    header, folder = ROOT / "include" / "sel.h", folder_of(cpu)
+    folder = folder_of(cpu)
     if not (folder / "libsel.a").exists():
         sys.exit(f"{folder.relative_to(ROOT)}/libsel.a is not there: make lib builds it")
-    run(CC, "-std=c11", *WARN, "-fsyntax-only", "-x", "c", header)
-    if has("c++"):
-        run(CXX, "-std=c++17", *WARN, "-fsyntax-only", "-x", "c++", header)
-    else:
-        left_out("include/sel.h as C++")
+    check_header("sel.h")
     if foreign_symbols(folder):
         sys.exit(f"the shared library exports {', '.join(foreign_symbols(folder))}")
     test = compiled(folder, "test", ["test", "test_several", "test_empty", "test_memory"], *WRAPPED)
-    run(test)
+    run_printing(test)
     if has("valgrind"):
-        run("valgrind", "--quiet", "--error-exitcode=3", "--leak-check=full", test)
+        run_printing(*MEMCHECK, test)
     else:
         left_out("c/test.c under valgrind")
     check_depth(folder)

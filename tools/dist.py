@@ -30,14 +30,11 @@ import zipfile
 from typing import Dict, List, NamedTuple, Optional, Set, Tuple
 
 ROOT = pathlib.Path(__file__).resolve().parent.parent
-EXAMPLES = ROOT / "examples"
 WHEEL = ROOT / "bindings" / "python" / "build_backend" / "wheel_of_sel.py"
-CC = os.environ.get("CC", "cc")
-# Debian's packages are installed for the system's Python.
-PYTHON = os.environ.get("PYTHON", "/usr/bin/python3" if pathlib.Path("/usr/bin/python3").exists() else sys.executable)
 sys.dont_write_bytecode = True
 sys.path.insert(0, str(ROOT / "tools"))
 
+from commands import CC, EXAMPLES, PYTHON, check_example, has, left_out, run  # noqa: E402
 from package import BUILD, LEAST_CPU, NEWER_CPUS, SONAME, File, built_for, files, folder_of, functions, path_for, version  # noqa: E402
 from package import install, paths, report_newer_sources, require_built, staged, uninstall  # noqa: E402
 from verdicts import crates, sum_of_sources  # noqa: E402
@@ -154,24 +151,6 @@ def write_release(folder: pathlib.Path) -> List[pathlib.Path]:
 # The check
 
 
-def run(*words: object, cwd: Optional[pathlib.Path] = None, env: Optional[Dict[str, str]] = None) -> str:
-    """Runs a command and returns its output. Exits if it fails."""
-    done = subprocess.run([str(word) for word in words], cwd=cwd, env=env, stdout=subprocess.PIPE, text=True, check=False)
-    if done.returncode != 0:
-        print(done.stdout, end="")
-        sys.exit(f"failed: {' '.join(str(word) for word in words)}")
-    return done.stdout
-
-
-def has(need: str) -> bool:
-    """Returns whether a dependency is installed. tools/need reports the missing ones."""
-    return subprocess.run([ROOT / "tools" / "need", "--only-look", need], check=False).returncode == 0
-
-
-def left_out(what: str) -> None:
-    print(f"not run: {what}", file=sys.stderr)
-
-
 def expect(holds: bool, otherwise: str) -> None:
     if not holds:
         sys.exit(f"failed: {otherwise}")
@@ -181,13 +160,6 @@ def environment(**more: object) -> Dict[str, str]:
     """Returns the environment without the variables that make and the loader would take from a surrounding `make`."""
     unset = {"MAKEFLAGS", "MFLAGS", "MAKELEVEL", "PREFIX", "DESTDIR", "CPU", "LD_LIBRARY_PATH", "PKG_CONFIG_PATH", "PKG_CONFIG_SYSROOT_DIR"}
     return {**{name: value for name, value in os.environ.items() if name not in unset}, **{name: str(value) for name, value in more.items()}}
-
-
-def prints(name: str, output: str, how: str) -> None:
-    """Compares the output of an example with the stored output next to it."""
-    wanted = (EXAMPLES / f"{name}.out").read_text()
-    expect(output == wanted, f"examples/{name} ({how}) prints\n{output}instead of\n{wanted}")
-    print(f"examples/{name}, {how}: ok")
 
 
 def tree(folder: pathlib.Path) -> Set[str]:
@@ -281,7 +253,7 @@ def beside_library() -> Set[str]:
 def runs_linked(program: pathlib.Path, name: str, shared: bool, how: str) -> None:
     """Runs an example, and checks that it loads the shared library, or that it does not."""
     expect((SONAME in dynamic(program, "NEEDED")) == shared, f"examples/{name}.c ({how}) is not linked as it should be")
-    prints(f"{name}.c", run(program, env=environment()), how)
+    check_example(f"{name}.c", run(program, env=environment()), how)
 
 
 class Flags(NamedTuple):
@@ -315,7 +287,7 @@ def check_c(top: pathlib.Path, folder: pathlib.Path) -> None:
     for name in examples():
         for kind, words in link.items():
             program = folder / f"{name}_{kind}"
-            run(CC, "-std=c11", "-Wall", "-Werror", *flags.compile, EXAMPLES / f"{name}.c", *words, "-o", program)
+            run(*CC, "-std=c11", "-Wall", "-Werror", *flags.compile, EXAMPLES / f"{name}.c", *words, "-o", program)
             runs_linked(program, name, kind == "shared", f"{kind}, {flags.source}")
 
 
@@ -328,7 +300,7 @@ def check_cmake(prefix: pathlib.Path, folder: pathlib.Path, where: str) -> None:
         project = project.replace(f"@{name}@", value)
     folder.mkdir()
     (folder / "CMakeLists.txt").write_text(project)
-    env = environment(CC=CC)
+    env = environment(CC=shlex.join(CC))
     run("cmake", "-S", folder, "-B", folder / "made", f"-DCMAKE_PREFIX_PATH={prefix}", "-DCMAKE_FIND_USE_PACKAGE_REGISTRY=OFF", env=env)
     used = f"sel_DIR:PATH={prefix}/lib/cmake/sel"
     expect(used in (folder / "made" / "CMakeCache.txt").read_text().splitlines(), f"cmake does not use the library of the {where}")
@@ -358,7 +330,7 @@ def check_loader(top: pathlib.Path, folder: pathlib.Path) -> None:
     copy = folder / "levels"
     shutil.copytree(top, copy, symlinks=True)
     program, plain = copy / name, copy / "lib" / SONAME
-    run(CC, "-std=c11", f"-I{copy}/include", EXAMPLES / f"{name}.c", f"-L{copy}/lib", "-lsel", f"-Wl,-rpath,{copy}/lib", "-o", program)
+    run(*CC, "-std=c11", f"-I{copy}/include", EXAMPLES / f"{name}.c", f"-L{copy}/lib", "-lsel", f"-Wl,-rpath,{copy}/lib", "-o", program)
     for cpu in NEWER_CPUS:
         newer = copy / path_for(cpu)
         if not newer.exists():
@@ -370,7 +342,7 @@ def check_loader(top: pathlib.Path, folder: pathlib.Path) -> None:
         if has_newer:
             # as if the processor had no AVX2
             expect(loaded(program, GLIBC_TUNABLES="glibc.cpu.hwcaps=-AVX2") == plain, f"the loader takes the library for {cpu} on every processor")
-        prints(f"{name}.c", run(program, env=environment()), f"with the library for {cpu if has_newer else LEAST_CPU} that the loader takes")
+        check_example(f"{name}.c", run(program, env=environment()), f"with the library for {cpu if has_newer else LEAST_CPU} that the loader takes")
 
 
 def libc_version() -> Tuple[int, ...]:
@@ -393,7 +365,7 @@ def check_rust(top: pathlib.Path, folder: pathlib.Path) -> None:
     crate = ROOT / "bindings" / "rust"
     env = environment(SEL_LIBRARY_DIR=top / "lib", CARGO_TARGET_DIR=folder / "rust")
     for name in ("filter", "threads"):
-        prints(f"{name}.rs", run("cargo", "run", "--offline", "--quiet", "--locked", "--example", name, cwd=crate, env=env), "over the archive")
+        check_example(f"{name}.rs", run("cargo", "run", "--offline", "--quiet", "--locked", "--example", name, cwd=crate, env=env), "over the archive")
 
 
 def check_python(top: pathlib.Path, wheel: pathlib.Path, folder: pathlib.Path) -> None:
@@ -404,7 +376,7 @@ def check_python(top: pathlib.Path, wheel: pathlib.Path, folder: pathlib.Path) -
     over_wheel.pop("SEL_LIBRARY", None)
     for env, where in ((over_archive, "over the archive"), (over_wheel, "over the wheel")):
         for name in ("filter_take.py", "when_then.py"):
-            prints(name, run(PYTHON, EXAMPLES / name, cwd=folder, env=env), where)
+            check_example(name, run(PYTHON, EXAMPLES / name, cwd=folder, env=env), where)
 
 
 def make(word: str, prefix: str, folder: pathlib.Path, build: pathlib.Path = BUILD) -> None:

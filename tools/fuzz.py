@@ -28,21 +28,18 @@ ROOT = pathlib.Path(__file__).resolve().parent.parent
 sys.dont_write_bytecode = True
 sys.path.insert(0, str(ROOT / "tools"))
 
+from commands import CHECKER, CLANG, INCLUDE, SANITIZED, WRAPPED, has, run_printing  # noqa: E402
 from package import SOURCES  # noqa: E402
 
 TESTS = ROOT / "tests"
 INPUTS = TESTS / "fuzz" / "inputs"
 BUILD = ROOT / "build"
-CLANG = os.environ.get("CLANG", "clang")
-FLAGS = ["-std=c11", "-g", "-O1", "-Wall", "-Wextra", "-Werror", "-fsanitize=fuzzer,address,undefined", "-fno-sanitize-recover=all",
-         "-fno-omit-frame-pointer", "-I", str(ROOT / "include")]
-WRAPPED = [f"-Wl,--wrap={name}" for name in ("malloc", "calloc", "realloc", "free")]
-RUNNER = [TESTS / f"{name}.c" for name in ("check", "layout", "lines", "memory", "notation", "report")]
+FLAGS = ["-std=c11", "-g", "-O1", "-Wall", "-Wextra", "-Werror", *SANITIZED, "-fsanitize=fuzzer", *INCLUDE]
 RANDOM = [TESTS / "random" / f"{name}.c" for name in ("draw", "generate", "model", "steps")]
 # the sources of each target, and below the longest input of each in bytes
 TARGETS: Dict[str, List[pathlib.Path]] = {
     "arrow": [TESTS / "fuzz" / "arrow.c", TESTS / "fuzz" / "producer.c", TESTS / "random" / "draw.c", TESTS / "memory.c"],
-    "calls": [TESTS / "fuzz" / "calls.c", *RANDOM, *RUNNER],
+    "calls": [TESTS / "fuzz" / "calls.c", *RANDOM, *CHECKER],
     "text": [TESTS / "fuzz" / "text.c"],
 }
 # what the names of inputs that failed begin with
@@ -54,9 +51,7 @@ def built(target: str, folder: pathlib.Path) -> pathlib.Path:
     """Compiles a target. Exits if that fails."""
     program = folder / target
     wrapped = WRAPPED if TESTS / "memory.c" in TARGETS[target] else []
-    command = [CLANG, *FLAGS, *map(str, TARGETS[target]), *map(str, SOURCES), str(BUILD / "libsel.a"), *wrapped, "-o", str(program)]
-    if subprocess.run(command, check=False).returncode != 0:
-        sys.exit(f"failed: {' '.join(command)}")
+    run_printing(*CLANG, *FLAGS, *TARGETS[target], *SOURCES, BUILD / "libsel.a", *wrapped, "-o", program)
     return program
 
 
@@ -158,7 +153,7 @@ def main() -> int:
     targets = given.targets or list(TARGETS)
     if any(target not in TARGETS for target in targets):
         parser.error(f"the targets are {', '.join(TARGETS)}")
-    if subprocess.run([ROOT / "tools" / "need", "fuzzer"], check=False).returncode != 0:
+    if not has("fuzzer"):
         print("not run: the fuzz targets, without clang and libFuzzer")
         return 0 if given.check else 1
     if not (BUILD / "libsel.a").exists():

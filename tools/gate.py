@@ -4,7 +4,7 @@
 tools/gate.py         every check: what `make test` runs. Proofs that `rt ci` has kept from an earlier run count
 tools/gate.py anew    the same as a clean build, to measure the time: what `make test ANEW=1` runs
 tools/gate.py check   proves what has changed over cached proofs and runs the fast checks: what `make check` runs
-tools/gate.py setup   installs the optional programs and libraries that the checks use: what `make setup` runs
+tools/gate.py setup   installs the optional programs and libraries that the checks use: what `make setup` runs. Exits with status 1 if one is missing then
 
 Checks that need only some of the proved libraries run while `rt ci` runs, as soon as those are proved, at a lower priority. (The C
 library is built at the same priority as the proofs, since its checks and those of the bindings wait for it.) The others run after `rt ci`. The table
@@ -405,21 +405,32 @@ def run_fast() -> int:
     return 0 if board.table() else 1
 
 
-def setup() -> int:
-    """Prints what is missing and what it is for, and installs it from the system's packages if possible."""
-    need = str(ROOT / "tools" / "need")
-    missing = [name for name in SETUP if subprocess.run([need, "--only-look", name], stderr=subprocess.DEVNULL, check=False).returncode]
-    for name in missing:
+def missing() -> list[str]:
+    """Returns which of the optional programs and libraries are missing."""
+    need = [str(ROOT / "tools" / "need"), "--only-look"]
+    return [name for name in SETUP if subprocess.run([*need, name], stderr=subprocess.DEVNULL, check=False).returncode]
+
+
+def setup(*options: str) -> int:
+    """Prints what is missing and what it is for, and installs it from the system's packages if possible.
+
+    Returns 1 if something is missing afterwards, and names it; tools/need, which gets the options, prints why it is missing.
+    """
+    before = missing()
+    for name in before:
         print(f"missing: {name}, which {SETUP[name]}; it is installed from the system's packages if that is possible", flush=True)
-    if missing:
-        subprocess.run([need, *missing], check=False)
-    return 0
+    if not before or subprocess.run([str(ROOT / "tools" / "need"), *options, *before], check=False).returncode == 0:
+        print("all that the checks use besides the toolchain is installed", flush=True)
+        return 0
+    print(f"still missing: {', '.join(missing())}; the checks leave out what needs them", flush=True)
+    return 1
 
 
 def main() -> int:
     CHILDREN.catch_signals()
     if sys.argv[1:] == ["setup"]:
-        return setup()
+        # what failed before is tried again, since its cause may be gone
+        return setup("--again")
     if sys.argv[1:] == ["check"]:
         return run_fast()
     if sys.argv[1:] not in ([], ["anew"]):

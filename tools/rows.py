@@ -17,25 +17,25 @@ import hashlib
 import os
 import pathlib
 import re
-import shutil
 import subprocess
 import sys
-import tempfile
 import time
+from collections.abc import Sequence
 from concurrent.futures import ThreadPoolExecutor
 from typing import Dict, List, NamedTuple, Optional, Tuple
 
 ROOT = pathlib.Path(__file__).resolve().parent.parent
 TESTS = ROOT / "tests"
-BUILD = pathlib.Path(os.environ.get("SEL_BUILD") or ROOT / "build")
-CC = os.environ.get("CC", "cc")
-FLAGS = ["-std=c11", "-g", "-Wall", "-Wextra", "-pedantic", "-Werror", "-I", str(ROOT / "include")]
-SANITIZERS = ["-fsanitize=address,undefined", "-fno-sanitize-recover=all", "-fno-omit-frame-pointer"]
+sys.dont_write_bytecode = True
+sys.path.insert(0, str(ROOT / "tools"))
+
+from commands import CC, INCLUDE, MEMCHECK, SANITIZED, WARN, WRAPPED, has, left_out, run_printing, wrapped  # noqa: E402
+from package import BUILD  # noqa: E402
+
+FLAGS = ["-std=c11", "-g", *WARN, *INCLUDE]
 # the runner's options for a quick run
 AT_ONE_OFFSET = ("--layout", "7", "--no-refusals")
-VALGRIND = ("valgrind", "--quiet", "--error-exitcode=3", "--leak-check=full")
-ALLOCATOR = ("malloc", "calloc", "realloc", "free")
-VERSION = subprocess.run([CC, "--version"], stdout=subprocess.PIPE, encoding="utf-8", errors="replace", check=False).stdout
+VERSION = subprocess.run([*CC, "--version"], stdout=subprocess.PIPE, encoding="utf-8", errors="replace", check=False).stdout
 COUNTS = re.compile(r"(\d+) lines, (\d+) cases, (\d+) allocations refused, (\d+) failed")
 
 
@@ -63,29 +63,14 @@ def sources() -> List[str]:
     return [str(path) for path in sorted(TESTS.glob("*.c")) if path.name != "faults.c"]
 
 
-def wrapped(names: Tuple[str, ...]) -> List[str]:
-    """Returns the linker's options that hand calls of these names to wrappers."""
-    return [f"-Wl,--wrap={name}" for name in names]
-
-
-def left_out(what: str) -> None:
-    print(f"not run: {what}", file=sys.stderr)
-
-
-def must_run(command: List[str]) -> None:
-    """Runs a command; ends the program if that fails."""
-    if subprocess.run(command, check=False).returncode != 0:
-        sys.exit(f"failed: {' '.join(command)}")
-
-
 def compiled(source: str, flags: List[str], folder: pathlib.Path) -> str:
     """Returns the object file of a source, which is compiled unless that was done before, by the same command and of the same files."""
     made, key = folder / f"{pathlib.Path(source).stem}.o", folder / f"{pathlib.Path(source).stem}.key"
     files = [pathlib.Path(source), *sorted(TESTS.glob("*.h")), ROOT / "c" / "wrapped.h", *sorted((ROOT / "include").glob("*.h"))]
-    said = repr([VERSION, source, flags, [hashlib.sha256(path.read_bytes()).hexdigest() for path in files]])
+    said = repr([CC, VERSION, source, flags, [hashlib.sha256(path.read_bytes()).hexdigest() for path in files]])
     if not (made.exists() and key.exists() and key.read_text() == said):
         key.unlink(missing_ok=True)
-        must_run([CC, *flags, "-c", source, "-o", str(made)])
+        run_printing(*CC, *flags, "-c", source, "-o", made)
         key.write_text(said)
     return str(made)
 
@@ -96,20 +81,11 @@ def build(library: pathlib.Path, name: str, more: List[str], files: List[str], w
     folder.mkdir(parents=True, exist_ok=True)
     with ThreadPoolExecutor(len(os.sched_getaffinity(0))) as pool:
         objects = list(pool.map(lambda source: compiled(source, flags, folder), files))
-    must_run([CC, *flags, *objects, str(library), *wrapped(ALLOCATOR + wraps), "-o", str(program)])
+    run_printing(*CC, *flags, *objects, library, *WRAPPED, *wrapped(*wraps), "-o", program)
     return program
 
 
-def has_sanitizers() -> bool:
-    """Returns whether the compiler can build and run a program with the sanitizers."""
-    with tempfile.TemporaryDirectory() as folder:
-        source, program = pathlib.Path(folder) / "empty.c", pathlib.Path(folder) / "empty"
-        source.write_text("int main(void) { return 0; }\n")
-        made = subprocess.run([CC, *SANITIZERS, str(source), "-o", str(program)], stderr=subprocess.DEVNULL, check=False)
-        return made.returncode == 0 and subprocess.run([str(program)], stderr=subprocess.DEVNULL, check=False).returncode == 0
-
-
-def run(program: pathlib.Path, *words: str, fault: Optional[str] = None, under: Tuple[str, ...] = ()) -> Counts:
+def run(program: pathlib.Path, *words: str, fault: Optional[str] = None, under: Sequence[str] = ()) -> Counts:
     """Runs the runner, under another program if one is named, prints what it says but its counts, and returns these."""
     # most of a run with sanitizers goes into the traces of allocations, which are kept short
     env: Dict[str, str] = {"ASAN_OPTIONS": "malloc_context_size=4", **os.environ}
@@ -129,10 +105,10 @@ def run(program: pathlib.Path, *words: str, fault: Optional[str] = None, under: 
 
 def run_sanitized(library: pathlib.Path, *options: str) -> Optional[Counts]:
     """Runs all files with sanitizers, the longest first, as many at once as there are processors. Returns the sums, or None without sanitizers."""
-    if not has_sanitizers():
+    if not has("sanitizers"):
         left_out("the rows with sanitizers")
         return None
-    program = build(library, "rows_sanitized", ["-O1", *SANITIZERS], sources())
+    program = build(library, "rows_sanitized", ["-O1", *SANITIZED], sources())
     files = sorted((TESTS / "rows").glob("*.txt"), key=lambda path: -path.stat().st_size)
     with ThreadPoolExecutor(len(os.sched_getaffinity(0))) as pool:
         return Counts(*map(sum, zip(*pool.map(lambda path: run(program, *options, str(path)), files))))
@@ -140,10 +116,10 @@ def run_sanitized(library: pathlib.Path, *options: str) -> Optional[Counts]:
 
 def run_under_valgrind(plain: pathlib.Path) -> Tuple[bool, str]:
     """Runs all files at one offset under valgrind. Returns whether nothing failed, and what was run."""
-    if shutil.which("valgrind") is None:
+    if not has("valgrind"):
         left_out("the rows under valgrind")
         return True, "not run under valgrind, which is missing"
-    under = run(plain, *AT_ONE_OFFSET, under=VALGRIND)
+    under = run(plain, *AT_ONE_OFFSET, under=MEMCHECK)
     return under.status == 0, f"{under.cases} cases under valgrind" if under.status == 0 else "FAILED under valgrind"
 
 
@@ -191,7 +167,7 @@ def read_arguments() -> Tuple[bool, pathlib.Path]:
     library = pathlib.Path(words[0]).resolve() if words else BUILD / "libsel.a"
     if not library.exists():
         sys.exit(f"{library} is not there: make lib builds it")
-    return is_fast and has_sanitizers(), library
+    return is_fast and has("sanitizers"), library
 
 
 def main() -> None:

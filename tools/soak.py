@@ -11,7 +11,6 @@ chance, and printed.
 from __future__ import annotations
 
 import argparse
-import os
 import pathlib
 import random
 import subprocess
@@ -21,20 +20,20 @@ from typing import List
 ROOT = pathlib.Path(__file__).resolve().parent.parent
 TESTS = ROOT / "tests"
 BUILD = ROOT / "build"
-CC = os.environ.get("CC", "cc")
-FLAGS = ["-std=c11", "-g", "-O2", "-Wall", "-Wextra", "-pedantic", "-Werror", "-I", str(ROOT / "include"), "-pthread"]
-RUNNER = [TESTS / f"{name}.c" for name in ("check", "layout", "lines", "memory", "notation", "report")]
-WRAPPED = [f"-Wl,--wrap={name}" for name in ("malloc", "calloc", "realloc", "free")]
+sys.dont_write_bytecode = True
+sys.path.insert(0, str(ROOT / "tools"))
+
+from commands import CC, CHECKER, INCLUDE, WARN, WRAPPED, run_printing  # noqa: E402
+
+FLAGS = ["-std=c11", "-g", "-O2", *WARN, *INCLUDE, "-pthread"]
 CALLS = 100_000
 
 
 def built() -> pathlib.Path:
     """Compiles the program. Exits if that fails."""
     program = BUILD / "soak"
-    sources = [*sorted((TESTS / "random").glob("*.c")), *RUNNER]
-    command = [CC, *FLAGS, *map(str, sources), str(BUILD / "libsel.a"), *WRAPPED, "-o", str(program)]
-    if subprocess.run(command, check=False).returncode != 0:
-        sys.exit(f"failed: {' '.join(command)}")
+    sources = [*sorted((TESTS / "random").glob("*.c")), *CHECKER]
+    run_printing(*CC, *FLAGS, *sources, BUILD / "libsel.a", *WRAPPED, "-o", program)
     return program
 
 

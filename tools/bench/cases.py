@@ -346,7 +346,7 @@ def choices(rows: int) -> Iterator[Case]:
 # ---- lists and several columns
 
 
-def lists_and_several(rows: int) -> Iterator[Case]:
+def list_elements(rows: int) -> Iterator[Case]:
     lengths, offsets, values = list_data(rows)
     column = lists(offsets, values)
 
@@ -361,6 +361,9 @@ def lists_and_several(rows: int) -> Iterator[Case]:
     fixed = blocks(4, numbers)
     yield Case("fixed_get", rows, "index 1 of four", ("fixed_get", "loop_fixed_get"), lambda: equal(fixed.fixed_get(1).to_numpy(), numbers[1::4], "list elements"),
                lambda: numbers[1::4].copy(), made=rows, width=4, read=rows * 8, written=rows * 8, index=1, values=numbers, first=fixed)
+
+
+def several_columns(rows: int) -> Iterator[Case]:
     one, two, high = RNG.integers(0, 2 ** 62, rows), RNG.integers(0, 2 ** 62, rows), rows // 4
     pair = [Column.from_numpy(one), Column.from_numpy(two)]
     handles, shares = several(pair)
@@ -378,19 +381,22 @@ def lists_and_several(rows: int) -> Iterator[Case]:
 
     yield Case("collect_rows", rows, "random, of two", ("collect_rows", "loop_collect_rows"), check_picks, lambda: both[picks[:, 0], picks[:, 1]],
                keep=shares, made=rows, read=rows * 16, written=rows * 8, values=picks, others=one, offsets=two, first=handles)
+
+
+def dictionary(rows: int) -> Iterator[Case]:
     count = max(64, rows // 16)
     there, views, keys = random_mask(count, .9), views_of(count), RNG.integers(0, count, rows, dtype=np.uint32)
-    dictionary, named = texts(views, there), Column.from_numpy(keys)
+    values, named = texts(views, there), Column.from_numpy(keys)
 
     def check_dictionary() -> None:
-        new_keys, new_values = sel.propagate_dictionary(named, dictionary)
+        new_keys, new_values = sel.propagate_dictionary(named, values)
         found = new_keys.to_numpy()
         equal(~nulls_of(found), there[keys], "validity of the keys")
         equal(data_of(found)[there[keys]], (np.cumsum(there) - 1)[keys[there[keys]]], "the keys")
         equal(read_views(new_values), views[there], "the values")
 
     yield Case("propagate_dictionary", rows, ".9 of the values valid", ("propagate", "loop_propagate"), check_dictionary, made=rows, height=count, read=rows * 4 + count * 16, written=rows * 4 + rows // 8 + count * 16,
-               mask=packed(there), values=views, indices=keys, first=named, second=dictionary)
+               mask=packed(there), values=views, indices=keys, first=named, second=values)
 
 
 # ---- all of them
@@ -416,7 +422,9 @@ def at_size(rows: int) -> Iterator[Case]:
     yield take_of_numbers(rows, 8, "random", nulls=True)
     yield from take_of_others(rows)
     yield from choices(rows)
-    yield from lists_and_several(rows)
+    yield from list_elements(rows)
+    yield from several_columns(rows)
+    yield from dictionary(rows)
 
 
 def at_scale(most: int) -> Iterator[Case]:

@@ -18,7 +18,11 @@ from typing import Dict, List, Tuple
 
 ROOT = pathlib.Path(__file__).resolve().parent.parent.parent
 PAGE = ROOT / "docs" / "BENCHMARKS.md"
-CC = os.environ.get("CC", "cc")
+sys.dont_write_bytecode = True
+sys.path.insert(0, str(ROOT / "tools"))
+
+from commands import CC, INCLUDE  # noqa: E402
+
 FLAGS = ["-std=c11", "-O2", "-Wall", "-Wextra"]
 ROWS, LONGER, ROUNDS = 10_000_000, 1_000, 41
 HEADING, NEXT_HEADING = "## Lent memory", "## Words and bits"
@@ -37,7 +41,7 @@ def measured(rows: int = ROWS, longer: int = LONGER, rounds: int = ROUNDS) -> Ti
     """Builds and runs lending.c."""
     with tempfile.TemporaryDirectory() as folder:
         program = pathlib.Path(folder) / "lending"
-        subprocess.run([CC, *FLAGS, "-I", ROOT / "include", pathlib.Path(__file__).with_suffix(".c"), ROOT / "build" / "libsel.a", "-o", program], check=True)
+        subprocess.run([*CC, *FLAGS, *INCLUDE, pathlib.Path(__file__).with_suffix(".c"), ROOT / "build" / "libsel.a", "-o", program], check=True)
         output = subprocess.run([program, str(rows), str(longer), str(rounds)], stdout=subprocess.PIPE, text=True, check=True).stdout
     found: Times = {}
     for line in output.splitlines():

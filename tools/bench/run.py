@@ -17,7 +17,7 @@ import subprocess
 import sys
 import tempfile
 import time
-from collections.abc import Callable
+from collections.abc import Callable, Iterable
 from typing import TYPE_CHECKING
 
 if TYPE_CHECKING:
@@ -25,8 +25,11 @@ if TYPE_CHECKING:
 
 HERE = pathlib.Path(__file__).resolve().parent
 ROOT = HERE.parent.parent
-SYSTEM_PYTHON = "/usr/bin/python3"
-CC = os.environ.get("CC", "cc")
+sys.dont_write_bytecode = True
+sys.path.insert(0, str(ROOT / "tools"))
+
+from commands import CC, INCLUDE, SYSTEM_PYTHON  # noqa: E402
+
 FLAGS = ["-O3", "-march=native", "-std=c11", "-Wall", "-Wextra", "-fPIC", "-shared"]
 ROUNDS, ROUND_NS = 21, 1_500_000
 LARGE, SMALL, MOST = 2 ** 20, 2 ** 14, 2 ** 26
@@ -50,7 +53,7 @@ def with_numpy() -> bool:
 def timers(folder: pathlib.Path) -> ctypes.CDLL:
     """Builds bench.c, linked with build/libsel.so, and loads it."""
     built = folder / "bench.so"
-    subprocess.run([CC, *FLAGS, "-I", ROOT / "include", HERE / "bench.c", f"-L{ROOT / 'build'}", "-lsel", f"-Wl,-rpath,{ROOT / 'build'}", "-o", built], check=True)
+    subprocess.run([*CC, *FLAGS, *INCLUDE, HERE / "bench.c", f"-L{ROOT / 'build'}", "-lsel", f"-Wl,-rpath,{ROOT / 'build'}", "-o", built], check=True)
     return ctypes.PyDLL(str(built))
 
 
@@ -120,6 +123,35 @@ def compare(lib: ctypes.CDLL) -> None:
     words.compare()
 
 
+def results_of(lib: ctypes.CDLL, cases: Iterable[Case]) -> list[tuple[str, int, str, dict[str, tuple[float, float]]]]:
+    """Checks each case, and returns its kernel, its rows, what varies, and the times of its contenders."""
+    found = []
+    for case in cases:
+        case.check()
+        found.append((case.kernel, case.rows, case.varied, measured(lib, case)))
+    return found
+
+
+def write_page(lib: ctypes.CDLL, program: pathlib.Path | None, of_threads: list[str]) -> None:
+    """Measures all cases, and writes docs/BENCHMARKS.md and its charts. `program` is the one of words.py, if it is built."""
+    import cases
+    import lending
+    import report
+    import tables
+    import upstream
+    import words
+
+    load, results, of_words = [os.getloadavg()[0]], [], words.measured(program)
+    for rows in (SMALL, LARGE):
+        results += results_of(lib, cases.at_size(rows))
+        load.append(os.getloadavg()[0])
+    scale = results_of(lib, cases.at_scale(MOST))
+    load.append(os.getloadavg()[0])
+    beside = upstream.section(*map(pathlib.Path, os.environ["UPSTREAM"].split())) if os.environ.get("UPSTREAM") else upstream.earlier(upstream.PAGE.read_text())
+    sections = [*of_threads, *tables.section(), *lending.section(), *words.section(of_words)]
+    report.write(ROOT / "docs", results, scale, beside, sections, load, " ".join(CC), FLAGS)
+
+
 def main() -> None:
     quick = sys.argv[1:] == ["quick"]
     if sys.argv[1:] and not quick:
@@ -130,14 +162,8 @@ def main() -> None:
     if not (ROOT / "build" / "libsel.so").exists():
         subprocess.run([ROOT / "tools" / "clib.py"], check=True)
     os.environ.setdefault("SEL_LIBRARY", str(ROOT / "build" / "libsel.so"))
-    sys.dont_write_bytecode = True
     sys.path[:0] = [str(ROOT / "bindings" / "python"), str(HERE)]
-    import cases
-    import lending
-    import report
     import scaling
-    import tables
-    import upstream
     import words
 
     folder = pathlib.Path(tempfile.mkdtemp())
@@ -149,20 +175,8 @@ def main() -> None:
             os.sched_setaffinity(0, {max(os.sched_getaffinity(0))})
         if quick:
             compare(lib)
-            return
-        load, results, of_words = [os.getloadavg()[0]], [], words.measured(program)
-        for rows in (SMALL, LARGE):
-            for case in cases.at_size(rows):
-                case.check()
-                results.append((case.kernel, case.rows, case.varied, measured(lib, case)))
-            load.append(os.getloadavg()[0])
-        scale = []
-        for case in cases.at_scale(MOST):
-            case.check()
-            scale.append((case.kernel, case.rows, case.varied, measured(lib, case)))
-        load.append(os.getloadavg()[0])
-        beside = upstream.section(*map(pathlib.Path, os.environ["UPSTREAM"].split())) if os.environ.get("UPSTREAM") else upstream.earlier(upstream.PAGE.read_text())
-        report.write(ROOT / "docs", results, scale, beside, [*of_threads, *tables.section(), *lending.section(), *words.section(of_words)], load, CC, FLAGS)
+        else:
+            write_page(lib, program, of_threads)
     finally:
         shutil.rmtree(folder, ignore_errors=True)
 

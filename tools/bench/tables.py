@@ -6,24 +6,26 @@ tools/bench/tables.py   prints the sections of docs/BENCHMARKS.md
 
 from __future__ import annotations
 
-import os
 import pathlib
 import subprocess
+import sys
 import tempfile
 from typing import List
 
 HERE = pathlib.Path(__file__).resolve().parent
 ROOT = HERE.parent.parent
-CC = os.environ.get("CC", "cc")
 FLAGS = ["-std=c11", "-O2", "-Wall", "-Wextra"]
-WRAPPED = [f"-Wl,--wrap={name}" for name in ("malloc", "calloc", "realloc", "free")]
+sys.dont_write_bytecode = True
+sys.path.insert(0, str(ROOT / "tools"))
+
+from commands import CC, INCLUDE, WRAPPED  # noqa: E402
 
 
 def lines_of(source: str, *flags: str) -> List[List[str]]:
     """Builds a program with the library for C, runs it, and returns the fields of each line that it prints."""
     with tempfile.TemporaryDirectory() as folder:
         made = pathlib.Path(folder) / "program"
-        subprocess.run([CC, *FLAGS, "-I", ROOT / "include", HERE / source, ROOT / "build" / "libsel.a", *flags, "-o", made], check=True)
+        subprocess.run([*CC, *FLAGS, *INCLUDE, HERE / source, ROOT / "build" / "libsel.a", *flags, "-o", made], check=True)
         return [line.split("|") for line in subprocess.run([made], stdout=subprocess.PIPE, text=True, check=True).stdout.splitlines()]
 
 

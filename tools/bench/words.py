@@ -22,13 +22,13 @@ from typing import Callable, Tuple
 HERE = pathlib.Path(__file__).resolve().parent
 ROOT = HERE.parent.parent
 CRATE = ROOT / "crates" / "bench_internals"
-CC = os.environ.get("CC", "cc")
 FLAGS = ["-O3", "-march=native", "-std=gnu11", "-Wall", "-Wextra"]
 SIZES = 2 ** 14, 2 ** 20
 ROUNDS, SECONDS, MOST_REPEATS = 5, .3, 2 ** 30
 sys.dont_write_bytecode = True
 sys.path.insert(0, str(HERE.parent))
 
+from commands import CC  # noqa: E402
 from prover import crates_below, lines  # noqa: E402
 
 # for each case: its title, its name in a line, its row, the first bits of the left and the right operand, and the loop's title and name
@@ -74,7 +74,7 @@ def built() -> pathlib.Path | None:
 def loops(folder: pathlib.Path) -> pathlib.Path:
     """Builds the loops. Returns their program."""
     made = folder / "words"
-    subprocess.run([CC, *FLAGS, HERE / "words.c", "-o", made], check=True)
+    subprocess.run([*CC, *FLAGS, HERE / "words.c", "-o", made], check=True)
     return made
 
 

@@ -40,6 +40,7 @@ sys.dont_write_bytecode = True
 sys.path.insert(0, str(TOP / "tools"))
 
 import prover  # noqa: E402
+from commands import CC  # noqa: E402
 
 # the report of a call: how it ended, its allocations, and how many of them failed
 Report = tuple[str, int, int]
@@ -60,13 +61,13 @@ class Wrong(Exception):
 
 
 def compilers() -> Iterator[list[str]]:
-    """Yields the commands that can build the shim: the toolchain's compiler, then cc."""
+    """Yields the commands that can build the shim: the toolchain's compiler, then the system's."""
     plain = ["-O2", "-Wall", "-Wextra", "-shared", "-fPIC"]
     rt = shutil.which("rt")
     if rt:
         folder = pathlib.Path(rt).resolve().parent.parent / "toolchain" / "bin"
         yield [str(folder / "clang"), *plain, "-nostdlib", f"--ld-path={folder}/ld.lld"]
-    yield ["cc", *plain]
+    yield [*CC, *plain]
 
 
 def built_shim(room: str) -> pathlib.Path:

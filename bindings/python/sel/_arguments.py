@@ -7,15 +7,17 @@ from typing import Any
 
 from . import _arrays
 from ._arrow import Typed, imported_if_arrow
-from ._checks import ROW_INDEX, SIZE, integers_within, shown
+from ._checks import ROW_INDEX, SIZE, integers_within, listed, shown
+from ._errors import WrongArgument
 from ._logical import ArrowType, decoded
 from ._makers import made_of
 from ._memory import SIZE_CODE, Memory, validity_of, words
 from ._owner import Owner
 from ._readers import rows_of
+from ._statuses import UNSUPPORTED_TYPE
 from ._types import NUMBERS, Type
 
-__all__ = ["column_of", "columns_of", "indices_of", "mask_of", "picks_of", "plain_column_of", "sizes_of"]
+__all__ = ["column_of", "column_of_kind", "columns_of", "indices_of", "mask_of", "picks_of", "plain_column_of", "sizes_of"]
 
 # The formats of booleans and of the integers that count: the storage of other types has other meanings.
 _PLAIN_FORMATS = ("b", "c", "C", "s", "S", "i", "I", "l", "L")
@@ -30,8 +32,17 @@ def plain_column_of(column: Owner, logical: ArrowType | None, name: str) -> Owne
     return column
 
 
-def _plain(values: Owner, name: str) -> Owner:
-    return plain_column_of(values, getattr(values, "_logical", None), name)
+_HINTS = {"u32": "column[indices] takes integers of any type", "null": "without any value but None, give its type, as in Column(values, {!r})"}
+
+
+def column_of_kind(values: Owner, kind: str, name: str) -> Owner:
+    """Returns a column of indices or of booleans, decoded if it has a dictionary. Raises TypeError for a logical type, WrongArgument for another kind."""
+    column = plain_column_of(values, getattr(values, "_logical", None), name)
+    found = column._kind()
+    if found != kind:
+        hint = _HINTS["null"].format(kind) if found == "null" else _HINTS.get(kind, "") if found in NUMBERS else ""
+        raise WrongArgument(UNSUPPORTED_TYPE, f"{name}: a column of type {found}, where {kind} is needed{'; ' if hint else ''}{hint}")
+    return column
 
 
 def _of_arrow(found: Typed, name: str) -> tuple[Any, Any]:
@@ -44,12 +55,12 @@ def _of_arrow(found: Typed, name: str) -> tuple[Any, Any]:
 
 
 def _array_or_list(values: Any, name: str, dimensions: int = 1) -> tuple[Any, Any]:
-    """Returns either a masked array of numpy's own types, or an iterable of Python values."""
+    """Returns either a masked array of numpy's own types, or a list of Python values."""
     found = imported_if_arrow(values) if dimensions == 1 else None
     if found is not None:
         return _of_arrow(found, name)
     if not _arrays.is_array(values):
-        return None, values
+        return None, listed(values, name)
     array = _arrays.opened(values, name, dimensions)
     return (None, array.tolist()) if _arrays.is_of_objects(array) else (array, None)
 
@@ -57,7 +68,7 @@ def _array_or_list(values: Any, name: str, dimensions: int = 1) -> tuple[Any, An
 def indices_of(values: Any, name: str) -> Owner:
     """Returns the column of row indices; `None` and masked values are null."""
     if isinstance(values, Owner):
-        return _plain(values, name)
+        return column_of_kind(values, "u32", name)
     array, entries = _array_or_list(values, name)
     if array is None:
         return made_of(integers_within(entries, name, ROW_INDEX, nulls=True), Type("u32"), name)
@@ -67,10 +78,10 @@ def indices_of(values: Any, name: str) -> Owner:
 def mask_of(values: Any, name: str) -> Owner:
     """Returns the column of a mask of booleans; `None` and masked values are null."""
     if isinstance(values, Owner):
-        return _plain(values, name)
+        return column_of_kind(values, "bool", name)
     array, entries = _array_or_list(values, name)
     if array is None:
-        return made_of(list(entries), Type("bool"), name)
+        return made_of(entries, Type("bool"), name)
     return _arrays.made_of_array(_arrays.checked(array, name, "b"), name)
 
 

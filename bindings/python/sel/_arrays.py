@@ -16,7 +16,7 @@ from ._owner import Owner
 from ._readers import validity_bits
 from ._types import NUMBERS
 
-__all__ = ["array_of", "buffer_of", "can_be_array", "checked", "is_array", "is_of_objects", "made_of_array", "made_with_type", "opened", "picks_of_array", "plain_array_of", "positions_of_array"]
+__all__ = ["array_of", "buffer_of", "can_be_array", "checked", "is_array", "is_of_objects", "is_of_values", "made_of_array", "made_with_type", "opened", "picks_of_array", "plain_array_of", "positions_of_array"]
 
 
 def _numpy() -> Any:
@@ -109,6 +109,11 @@ def is_of_objects(values: Any) -> bool:
     return bool(values.dtype.kind == "O")
 
 
+def is_of_values(values: Any) -> bool:
+    """Returns whether an array holds Python objects, texts or bytes, which no column has in its memory as they are."""
+    return is_of_objects(values) or values.dtype.kind in "US"
+
+
 def _valid_flags(valid: Any, name: str, count: int) -> Any:
     """Returns as an array of booleans which rows are valid, of an array or an iterable with one boolean for each row."""
     numpy = _numpy()
@@ -141,7 +146,8 @@ def made_of_array(array: Any, name: str, valid: Any = None) -> Owner:
     numpy, made, count = _numpy(), Owner(), len(array)
     kind, is_boolean = array.dtype, array.dtype.kind == "b"
     if not is_boolean and not (kind.kind in "iu" and kind.name in CODES):
-        raise TypeError(f"{name}: no column has values of type {kind}")
+        hint = "; Column(values) takes the values of such an array one by one" if is_of_values(array) else ""
+        raise TypeError(f"{name}: no column has values of type {kind}{hint}")
     flags = ~numpy.ma.getmaskarray(array)
     if valid is not None:
         flags &= _valid_flags(valid, "valid", count)

@@ -8,7 +8,7 @@ from __future__ import annotations
 import operator
 import reprlib
 import sys
-from collections.abc import Iterable
+from collections.abc import Iterable, Mapping
 from datetime import date, timedelta
 from typing import Any, NamedTuple
 
@@ -16,8 +16,8 @@ from ._errors import OutOfBounds
 from ._statuses import INDEX_OUT_OF_BOUNDS
 
 __all__ = ["FIELD_NUMBER", "LIST_INDEX", "LIST_SIZE", "ROW_INDEX", "ROW_OFFSET", "SIZE", "Limits",
-           "boolean", "booleans", "checked_name", "error_out_of_bounds", "error_outside", "integer", "integer_within", "integers_within", "is_boolean", "is_integer",
-           "position_of", "real", "shown"]
+           "boolean", "booleans", "checked_name", "checked_text", "error_out_of_bounds", "error_outside", "integer", "integer_within", "integers_within", "is_boolean", "is_integer", "listed",
+           "position_of", "real", "shown", "utf8_of"]
 
 
 class Limits(NamedTuple):
@@ -49,6 +49,22 @@ def shown(value: object) -> str:
         return f"a value of type {type(value).__name__}"
 
 
+# Iterables whose items are no rows: characters, bytes, names, or values without an order.
+_NO_ROWS = (str, bytes, bytearray, set, frozenset, Mapping)
+
+
+def listed(values: Any, name: str) -> list[Any]:
+    """Returns the items of an iterable as a list. Raises TypeError for a text, bytes, a dict or a set: their items are no rows, or have no order."""
+    if not isinstance(values, _NO_ROWS):
+        try:
+            items = iter(values)
+        except TypeError:
+            pass
+        else:
+            return list(items)
+    raise TypeError(f"{name}: {shown(values)} is of type {type(values).__name__}, not a list or another iterable of rows")
+
+
 def _numpy() -> Any:
     """Returns numpy if some module has imported it. If none has, no value is of a type of numpy."""
     return sys.modules.get("numpy")
@@ -58,9 +74,22 @@ def checked_name(value: object, what: str) -> bytes:
     """Returns a name as UTF-8. Raises TypeError if it is not a str, and ValueError if Arrow cannot have it: for a zero, where C's texts end."""
     if not isinstance(value, str):
         raise TypeError(f"{what}: the name {shown(value)} is of type {type(value).__name__}, not str")
+    return checked_text(value, what, "the name ")
+
+
+def checked_text(value: str, name: str, what: str = "") -> bytes:
+    """Returns a text as UTF-8. Raises ValueError if Arrow cannot have it: for a zero, where C's texts end, and for half a surrogate pair."""
     if "\0" in value:
-        raise ValueError(f"{what}: the name {shown(value)} has a zero character")
-    return value.encode()
+        raise ValueError(f"{name}: {what}{shown(value)} has a zero character")
+    return utf8_of(value, name, what)
+
+
+def utf8_of(value: str, name: str, what: str = "") -> bytes:
+    """Returns a text as UTF-8. Raises ValueError for half a surrogate pair, which is no character."""
+    try:
+        return value.encode()
+    except UnicodeEncodeError as error:
+        raise ValueError(f"{name}: {what}{shown(value)} has half a surrogate pair at character {error.start}, which UTF-8 cannot have") from None
 
 
 def is_boolean(value: object) -> bool:

@@ -8,22 +8,23 @@ from ctypes import byref, c_bool, c_size_t
 from typing import TYPE_CHECKING, Any, overload
 
 from . import _arrays
-from ._arguments import column_of, columns_of, indices_of, mask_of, picks_of, plain_column_of, sizes_of
+from ._arguments import column_of, column_of_kind, columns_of, indices_of, mask_of, picks_of, plain_column_of, sizes_of
 from ._arrow import Typed, imported_if_arrow
-from ._checks import FIELD_NUMBER, LIST_INDEX, ROW_OFFSET, SIZE, boolean, integer_within, is_integer, position_of, shown
+from ._checks import FIELD_NUMBER, LIST_INDEX, ROW_OFFSET, SIZE, boolean, integer_within, is_integer, listed, position_of, shown, utf8_of
 from ._equality import has_equal_rows
 from ._errors import BrokenText, WrongArgument, error_of
 from ._indexing import selected
 from ._library import attempt, call, lib, status_of
-from ._logical import ArrowType, as_logical_of, common_type, decoded, nullable, of_format, storage_type, with_arrow_types
+from ._logical import ArrowType, as_logical_of, common_type, decoded, has_dictionary, nullable, of_format, storage_type, with_arrow_types
 from ._makers import made_of
 from ._memory import _NOTHING, NO_VALIDITY, unpacked
 from ._names import VALID_NAMES, short_names
 from ._owner import Owner, concatenated, derived, from_several
-from ._readers import printed, rows_of, text_of, validity_bits
+from ._readers import printed, rows_of, start_of_rows, text_of, validity_bits
 from ._selection import Selection
 from ._statuses import OK, ROW_SYNTAX, ROW_TYPE_MISMATCH, TYPE_MISMATCH, TYPE_SYNTAX
 from ._types import Type, check_levels, parse_type, type_of_values
+from ._values import counted_value
 
 if TYPE_CHECKING:
     from typing import SupportsIndex, Union
@@ -77,9 +78,14 @@ class Column(Owner):
 
         Integers of numpy and other objects with `__index__` are integers, a numpy.bool_ is a boolean, and neither is the other. Floats are
         numbers with `__float__`, but no booleans, texts, arrays or complex numbers. Structs are tuples, or dicts if the type names the fields.
-        A column as the values, or Arrow data of another library, keeps its type if none is given. Raises TypeError for a value of another
-        type, OverflowError for an integer that the type cannot hold, ValueError for a dict with other keys than the names of the fields, and
-        LimitPassed, an OverflowError, for a type with more than 128 levels.
+        An integer for a date, a time, a timestamp or a duration is a count of its unit; a datetime is a date only if it says no more than that.
+
+        A column as the values, or Arrow data of another library, keeps its type if none is given. Times in another unit are converted, or
+        raise ValueError if the unit cannot hold them.
+
+        Raises TypeError for a value of another type, and for values that are a text, bytes, a dict or a set; OverflowError for an integer
+        that the type cannot hold, ValueError for a dict with other keys than the names of the fields and for a null where the type has none,
+        and LimitPassed, an OverflowError, for a type with more than 128 levels.
 
         >>> sel.Column([1, None], "uint8")
         Column(u8, [1,null])
@@ -91,13 +97,16 @@ class Column(Owner):
         found = _typed_if_column(values)
         if found is not None and type is None:
             return cls._owning(derived(found[0], "sel_share"), found[1])
-        rows = list(values) if found is None else rows_of(*found)
+        rows = listed(values, "values") if found is None else []
         wanted = type_of_values(rows) if type is None else parse_type(type) if isinstance(type, str) else type
         if not isinstance(wanted, Type):
             raise TypeError(f"type: {shown(type)} is neither a Type nor the text of one")
         check_levels(wanted)
         wanted = with_arrow_types(wanted)
-        return cls._owning(made_of(rows, wanted), wanted if isinstance(wanted, ArrowType) else None)
+        made = made_of(rows, wanted) if found is None else _converted(*found, wanted)
+        if isinstance(wanted, ArrowType) and not wanted.is_nullable and lib.sel_null_count(made) > 0:
+            raise ValueError("values: a row is None, and the type says that they are not null")
+        return cls._owning(made, wanted if isinstance(wanted, ArrowType) else None)
 
     @staticmethod
     def from_pylist(values: Iterable[Any], type: str | Type | None = None) -> Column:
@@ -112,7 +121,7 @@ class Column(Owner):
     def parse(type: str | Type, rows: str) -> Column:
         """Returns the column of a type with the rows of a text, both as `str` prints them, with JSON's white space and escapes.
 
-        The names of fields in the text of a type are left out. Raises BrokenText, a ValueError with the place of the first character with which
+        The names of fields in the text of a type are left out. Raises TypeError if the rows are no str, BrokenText, a ValueError with the place of the first character with which
         no such text goes on, or of the first value that does not fit the type, ValueError for a logical type, whose rows are not parsed, and
         LimitPassed, an OverflowError.
 
@@ -121,9 +130,13 @@ class Column(Owner):
         """
         if isinstance(type, Type) and isinstance(with_arrow_types(type), ArrowType):
             raise ValueError(f"type: rows of the logical type {type} are not parsed from text; Column(values, type) makes a column of it")
+        if not isinstance(type, (str, Type)):
+            raise TypeError(f"type: {shown(type)} is neither a Type nor the text of one")
+        if not isinstance(rows, str):
+            raise TypeError(f"rows: {shown(rows)} is of type {rows.__class__.__name__}, not str")
         made, place = Owner(), c_size_t()
         short, places = short_names(str(type))
-        name, text = short.encode(), rows.encode()
+        name, text = utf8_of(short, "type"), utf8_of(rows, "rows")
         status = attempt("sel_parse", name, len(name), text, len(text), byref(place), byref(made._handle))
         if status in (TYPE_SYNTAX, ROW_SYNTAX, ROW_TYPE_MISMATCH):
             before = len((name if status == TYPE_SYNTAX else text)[: place.value].decode(errors="ignore"))
@@ -324,11 +337,12 @@ class Column(Owner):
         return Column._owning(selected(self, place, "index"), nullable(self._logical))
 
     def __repr__(self) -> str:
-        """Returns the type and the first 12 rows as text."""
+        """Returns the type and the first 12 rows as text, of at most 1,000 characters."""
         most = 12
-        if len(self) <= most:
-            return f"Column({self.type}, {self})"
-        return f"Column({self.type}, {str(self.sliced(0, most))[:-1]}, ... {len(self) - most} more])"
+        text = start_of_rows(self if len(self) <= most else self.sliced(0, most), self._logical, 1000)
+        if text.endswith("..."):
+            return f"Column({self.type}, {text} of {len(self)} rows)"
+        return f"Column({self.type}, {text})" if len(self) <= most else f"Column({self.type}, {text[:-1]}, ... {len(self) - most} more])"
 
     def __str__(self) -> str:
         """Returns the rows as text, as in `[1,null,-3]`: strings as in JSON, bytes as in `h"00ff"`, structs in parentheses.
@@ -414,7 +428,8 @@ class Column(Owner):
     def take(self, indices: Column | Iterable[SupportsIndex | None] | Array) -> Column:
         """Returns the rows at the indices, null where an index is null or masked.
 
-        Raises IndexError for an index that no row has; negative ones do not count from the end.
+        Raises IndexError for an index that no row has; negative ones do not count from the end. A column of indices has the type `u32`, or
+        WrongArgument, a TypeError, is raised; `column[indices]` takes integers of any type.
 
         >>> sel.Column(["a", "b", "c"]).take([2, None, 0, 2])
         Column(utf8, ["c",null,"a","c"])
@@ -452,8 +467,7 @@ class Column(Owner):
         """
         flag = boolean(null_on_oob, "null_on_oob")
         if isinstance(index, Column):
-            places = plain_column_of(index, index._logical, "index")
-            return self._new("sel_fixed_size_list_get_each", places, flag, logical=self._element_type())
+            return self._new("sel_fixed_size_list_get_each", column_of_kind(index, "i64", "index"), flag, logical=self._element_type())
         return self._new("sel_fixed_size_list_get", integer_within(index, "index", LIST_INDEX), flag, logical=self._element_type())
 
     def list_element(self, index: SupportsIndex) -> Column:
@@ -619,6 +633,13 @@ class Column(Owner):
 def _typed_if_column(values: Any) -> Typed | None:
     """Returns a column, or Arrow data of another library as one, and its type; none for other values."""
     return (values, values._logical) if isinstance(values, Column) else imported_if_arrow(values)
+
+
+def _converted(column: Owner, logical: ArrowType | None, wanted: Type) -> Owner:
+    """Returns the rows of a column as a column of a type: shared if it has the type, else by their Python values."""
+    if wanted == (storage_type(column) if logical is None else logical) and not has_dictionary(wanted):
+        return derived(column, "sel_share")
+    return made_of(rows_of(column, logical, counted_value), wanted)
 
 
 def _with_type(rows: list[Any], storage: str, logical: ArrowType) -> Column:

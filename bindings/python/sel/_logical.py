@@ -7,17 +7,21 @@ from collections.abc import Sequence
 from ctypes import byref, c_size_t
 from typing import TYPE_CHECKING, Any, overload
 
-from ._checks import checked_name
+from ._checks import checked_name, checked_text
+from ._errors import LimitPassed
 from ._library import ArrowSchema, Handle, TypeHandle, call, lib
 from ._memory import room
 from ._owner import HandleOwner, Owner, derived
-from ._types import KINDS, Type
+from ._types import KINDS, Type, name_in_text
 
 if TYPE_CHECKING:
     from typing_extensions import Self
 
-__all__ = ["ArrowType", "coded_type", "TypeOwner", "as_logical_of", "common_type", "decoded", "dictionary_of", "logical_type", "metadata_of", "nested_type", "nullable", "of_format",
+__all__ = ["ArrowType", "coded_type", "TypeOwner", "as_logical_of", "common_type", "decoded", "dictionary_of", "has_dictionary", "logical_type", "metadata_of", "nested_type", "nullable", "of_format",
            "storage_type", "type_parameter", "with_arrow_types"]
+
+# What the texts of nested types begin with, by their formats.
+_OPENINGS = {"+l": "list<", "+L": "large_list<", "+s": "struct<"}
 
 # ARROW_FLAG_NULLABLE in include/sel_arrow.h.
 _NULLABLE = 2
@@ -59,8 +63,11 @@ def _made(name: str, *arguments: Any) -> TypeOwner:
 class ArrowType(Type):
     """The logical type of a column: an Arrow type, over the storage that `kind`, `children` and `width` describe.
 
-    It prints as pyarrow prints it, with short names of integers. Two logical types are equal if their formats, names, metadata and
-    flags are the same at each depth, and if their dictionaries have values of equal types.
+    It prints as pyarrow prints it, with short names of integers, and with quotes around names of fields that `parse_type` could not read
+    without them. Two logical types are equal if their formats, names, metadata and flags are the same at each depth, and if their
+    dictionaries have values of equal types. Only the name that a type itself has as a field does not count: a column of a table has a type
+    that is equal to the one which `parse_type` gives. A logical type that says what a `Type` says, such as that of a column of integers with
+    a name, is equal to it.
 
     >>> sel.parse_type("timestamp[ms, tz=UTC]").kind
     'i64'
@@ -115,20 +122,32 @@ class ArrowType(Type):
 
     def __str__(self) -> str:
         """Returns the text of the type."""
-        return _text_of(self._owner)
+        text, format = _text_of(self._owner), self.format
+        opening = "fixed_size_list<" if format.startswith("+w:") else _OPENINGS.get(format)
+        if opening is None or not text.startswith(opening):  # such as a map, or an extension type
+            return text
+        inner = ", ".join(f"{name_in_text(field.name, format == '+s')}: {field}{'' if field.is_nullable else ' not null'}" for field in self.fields)
+        return f"{opening}{inner}>" + (f"[{self.width}]" if format.startswith("+w:") else "")
 
     def __repr__(self) -> str:
         """Returns the text of the type in brackets."""
         return f"<ArrowType {self}>"
 
     def __eq__(self, other: object) -> bool:
-        """Returns whether both types have the same schema."""
-        if not isinstance(other, ArrowType):
+        """Returns whether both types have the same schema, whatever their own names are."""
+        if not isinstance(other, Type):
             return NotImplemented
-        return bool(lib.sel_type_equal(self._owner, other._owner))
+        if (self.kind, self.width, len(self.children)) != (other.kind, other.width, len(other.children)):
+            return False
+        try:
+            there = with_arrow_types(other)
+            same = there if isinstance(there, ArrowType) else _of_storage(there)
+        except LimitPassed:  # a Type with more levels than a column has
+            return False
+        return bool(lib.sel_type_equal(_without_name(self), _without_name(same)))
 
-    def __hash__(self) -> int:
-        return hash(str(self))
+    # That of the storage: equal types have equal storages, and a Type may be equal to a logical type.
+    __hash__ = Type.__hash__
 
     def __reduce__(self) -> tuple[Any, ...]:
         """Returns what `pickle` stores: a column without rows of this type."""
@@ -146,6 +165,11 @@ def _schema_of(owner: TypeOwner) -> ArrowSchema:
 def _release(schema: ArrowSchema) -> None:
     if schema.release:
         ctypes.CFUNCTYPE(None, ctypes.c_void_p)(schema.release)(ctypes.addressof(schema))
+
+
+def _without_name(type: ArrowType) -> TypeOwner:
+    """Returns a type without its name as a field."""
+    return _made("sel_type_as_field", type._owner, b"", type.is_nullable) if lib.sel_type_name(type._owner) != b"" else type._owner
 
 
 def metadata_of(schema: ArrowSchema) -> bytes | None:
@@ -226,7 +250,7 @@ def of_format(format: str, children: Sequence[Type] = (), names: Sequence[str] =
             name = names[number] if names else "item" if format != "+s" else str(number)
             is_nullable = not isinstance(child, ArrowType) or child.is_nullable
             call("sel_type_as_field", owner, checked_name(name, "field"), is_nullable, byref(handles[number]))
-        return ArrowType(_made("sel_type_new", format.encode(), handles, len(children)))
+        return ArrowType(_made("sel_type_new", checked_text(format, "format"), handles, len(children)))
     finally:
         for handle in handles:
             lib.sel_type_free(byref(handle))
@@ -286,6 +310,11 @@ def dictionary_of(type: ArrowType) -> tuple[Owner, ArrowType | None]:
     values, owner = Owner(), TypeOwner()
     call("sel_type_dictionary", type._owner, byref(values._handle), byref(owner._handle))
     return values, ArrowType(owner)
+
+
+def has_dictionary(type: Type) -> bool:
+    """Returns whether the type, or one below it, has a dictionary, whose values its equality does not compare."""
+    return isinstance(type, ArrowType) and (type.is_dictionary or any(map(has_dictionary, type.fields)))
 
 
 def coded_type(format: str, values: Owner, value_type: ArrowType | None = None, is_ordered: bool = False) -> ArrowType:

@@ -8,7 +8,7 @@ from itertools import accumulate
 from struct import unpack
 from typing import Any
 
-from ._checks import Limits, booleans, integer_within, integers_within, shown
+from ._checks import Limits, booleans, integer_within, integers_within, shown, utf8_of
 from ._library import Slice, call
 from ._logical import ArrowType, dictionary_of, storage_type
 from ._memory import Memory, packed, validity_of, words
@@ -132,7 +132,10 @@ def _pieces(values: Sequence[Any], wanted: Type, name: str) -> list[bytes]:
     for position, value in enumerate(values):
         if value is not None and not isinstance(value, str if is_text else (bytes, bytearray)):
             raise TypeError(f"{name}[{position}]: {shown(value)} is of type {type(value).__name__}, not {'str' if is_text else 'bytes'}")
-    return [b"" if value is None else value.encode() if is_text else bytes(value) for value in values]
+    try:
+        return [b"" if value is None else value.encode() if is_text else bytes(value) for value in values]
+    except UnicodeEncodeError:
+        return [b"" if value is None else utf8_of(value, f"{name}[{position}]") for position, value in enumerate(values)]
 
 
 def _offsets(lengths: Iterable[int]) -> Memory:
@@ -185,10 +188,18 @@ def _check_rows(values: Sequence[Any], name: str, kind: type[list[Any]] | type[t
             raise ValueError(f"{name}[{position}]: {shown(value)} has {len(value)} values, not {length}")
 
 
+def _check_nulls(values: Iterable[Any], wanted: Type, name: str) -> None:
+    """Raises ValueError for a null where a field of structs or an element of lists must not be null. Other types do not read the values."""
+    if isinstance(wanted, ArrowType) and not wanted.is_nullable and any(value is None for value in values):
+        raise ValueError(f"{name}: a value is None, and the type says that they are not null")
+
+
 def _make_lists(values: Sequence[Any], wanted: Type, name: str, valid: Sequence[bool]) -> Owner:
     _check_rows(values, name, list)
     made, offsets = Owner(), _offsets(len(value or ()) for value in values)
-    child = made_of([item for value in values for item in value or ()], wanted.children[0], f"elements of {name}")
+    items, inner = [item for value in values for item in value or ()], f"elements of {name}"
+    _check_nulls(items, wanted.children[0], inner)
+    child = made_of(items, wanted.children[0], inner)
     call("sel_list_new", offsets, len(values) + 1, *validity_of(valid), child, byref(made._handle))
     return made
 
@@ -205,6 +216,7 @@ def _fixed_list_items(values: Sequence[Any], wanted: Type, name: str) -> Owner:
 
 def _make_fixed_lists(values: Sequence[Any], wanted: Type, name: str, valid: Sequence[bool]) -> Owner:
     _check_rows(values, name, list, wanted.width)
+    _check_nulls((item for value in values for item in value or ()), wanted.children[0], f"elements of {name}")
     made, child = Owner(), _fixed_list_items(values, wanted, f"elements of {name}")
     call("sel_fixed_size_list_new", wanted.width, len(values), *validity_of(valid), child, byref(made._handle))
     return made
@@ -213,6 +225,8 @@ def _make_fixed_lists(values: Sequence[Any], wanted: Type, name: str, valid: Seq
 def _make_structs(values: Sequence[Any], wanted: Type, name: str, valid: Sequence[bool]) -> Owner:
     count = len(wanted.children)
     _check_rows(values, name, tuple, count)
+    for number, child in enumerate(wanted.children):
+        _check_nulls((value[number] for value in values if value is not None), child, f"fields {number} of {name}")
     fields = [made_of([None if value is None else value[number] for value in values], child, f"fields {number} of {name}")
               for number, child in enumerate(wanted.children)]
     return from_several(fields, lambda handles, made: call(

@@ -20,7 +20,7 @@ from ._owner import Owner, derived
 from ._types import NUMBERS
 from ._values import Converters, python_value
 
-__all__ = ["compacted", "is_mostly", "printed", "rows_of", "text_of", "validity_bits"]
+__all__ = ["compacted", "is_mostly", "printed", "rows_of", "start_of_rows", "text_of", "validity_bits"]
 
 # A buffer is read as a whole if it has at most so many times the bytes of the rows, or few bytes at all.
 _SPARE_FACTOR = 2
@@ -77,6 +77,18 @@ def printed(owner: Owner, bytes_expected: int = 0) -> str:
         text = room("B", count.value)
         call("sel_print", owner, text, text.size(), byref(count))
     return bytes(text.items[: count.value]).decode()
+
+
+def start_of_rows(owner: Owner, logical: ArrowType | None, most: int) -> str:
+    """Returns the rows as text, of which more than so many characters are cut off, and replaced by three points."""
+    if logical is None:
+        # room for the characters of UTF-8; the text is counted beyond it, and not written
+        count, room_of_text = c_size_t(), room("B", 4 * most)
+        call("sel_print", owner, room_of_text, room_of_text.size(), byref(count))
+        text, is_cut = bytes(room_of_text.items[: count.value]).decode(errors="ignore"), count.value > room_of_text.size()
+    else:
+        text, is_cut = text_of(rows_of(owner, logical)), False
+    return text[:most] + "..." if is_cut or len(text) > most else text
 
 
 def text_of(value: Any) -> str:

@@ -15,7 +15,7 @@ from ._logical import ArrowType, as_logical_of, of_format
 from ._makers import nulls
 from ._memory import NO_VALIDITY
 from ._owner import Owner, derived, from_several
-from ._readers import text_of
+from ._readers import start_of_rows
 from ._selection import Selection
 from ._stream import stream_of
 
@@ -43,11 +43,15 @@ class Table:
     __slots__ = ("_columns", "_length", "_names")
 
     def __init__(self, columns: Mapping[str, Any]) -> None:
-        """Makes a table of columns, Arrow data of other libraries, arrays of numpy or lists of Python values.
+        """Makes a table of columns, Arrow data of other libraries, arrays of numpy or lists of Python values. Arrays of texts, of bytes or of
+        objects are read as lists.
 
-        Raises ValueError for columns of several lengths and for a name with a zero character, and TypeError for a name that is no str. The
-        columns of arrays read their memory, as those of `Column.from_numpy` do: nobody may write to the arrays meanwhile.
+        Raises ValueError for columns of several lengths and for a name with a zero character, and TypeError for a name that is no str and
+        for what is no mapping: `Table.from_arrow` takes tables and data frames of other libraries. The columns of arrays read their memory,
+        as those of `Column.from_numpy` do: nobody may write to the arrays meanwhile.
         """
+        if not isinstance(columns, Mapping):
+            raise TypeError(f"columns: {shown(columns)} is of type {type(columns).__name__}, not a mapping from names to columns; Table.from_arrow takes tables")
         for name in columns:
             checked_name(name, "columns")
         made = [_column_of(values) for values in columns.values()]
@@ -129,6 +133,18 @@ class Table:
             return {name: column[place] for name, column in zip(self._names, self._columns)}
         return self._each([column[key] for column in self._columns], lambda: len(self._rows()[key]))
 
+    def __contains__(self, name: object) -> bool:
+        """Returns whether a column has this name.
+
+        >>> "a" in sel.Table({"a": [1]}), "b" in sel.Table({"a": [1]})
+        (True, False)
+        """
+        return isinstance(name, str) and name in self._names
+
+    def __iter__(self) -> Iterator[dict[str, Any]]:
+        """Returns an iterator over the rows as dicts, as `to_pylist` gives them."""
+        return iter(self.to_pylist())
+
     def _check_distinct(self) -> None:
         """Raises ValueError if some columns have one name: a dict has one value for it."""
         if len(set(self._names)) < len(self._names):
@@ -159,7 +175,7 @@ class Table:
     __hash__ = None  # type: ignore[assignment]
 
     def __repr__(self) -> str:
-        """Returns the number of rows, and each column with its type and its first rows.
+        """Returns the number of rows, and each column with its type and its first rows, of at most 1,000 characters.
 
         >>> sel.Table({"id": [1, 2], "name": ["a", None]})
         Table of 2 rows
@@ -167,8 +183,10 @@ class Table:
         name: utf8 ["a",null]
         """
         most = 6
-        lines = [f"{name}: {column.type} {text_of(column.sliced(0, min(most, self._length)).to_pylist())[:-1]}{', ...' if self._length > most else ''}]"
-                 for name, column in zip(self._names, self._columns)]
+        lines = []
+        for name, column in zip(self._names, self._columns):
+            text = start_of_rows(column.sliced(0, min(most, self._length)), column._logical, 1000)
+            lines.append(f"{name}: {column.type} {text[:-1] + ', ...]' if self._length > most and text.endswith(']') else text}")
         return "\n".join([f"Table of {self._length} rows", *lines])
 
     def __reduce__(self) -> tuple[Any, ...]:
@@ -201,6 +219,8 @@ class Table:
         >>> sel.Table({"a": [1, 2]}).if_else([True, False], sel.Table({"a": [8, 9]})).to_pydict()
         {'a': [1, 9]}
         """
+        if not isinstance(other, Table):
+            raise TypeError(f"other: {shown(other)} is of type {type(other).__name__}, not a table")
         if self._names != other._names:
             raise ValueError(f"other: the columns are {other._names}, and not {self._names}")
         prepared = Column._owning(derived(mask_of(mask, "mask"), "sel_share"))
@@ -247,13 +267,23 @@ def _table_again(names: list[str], columns: list[Column], length: int) -> Table:
     return made
 
 
+def _checked_table(value: Any) -> Table:
+    """Returns the value. Raises TypeError if it is no table."""
+    if not isinstance(value, Table):
+        raise TypeError(f"tables: {shown(value)} is of type {type(value).__name__}, not a table")
+    return value
+
+
 def _column_of(values: Any) -> Column:
     if isinstance(values, Column):
         return values
     found = imported_if_arrow(values)
     if found is not None:
         return Column._owning(*found)
-    return Column.from_numpy(values) if _arrays.is_array(values) else Column(values)
+    if not _arrays.is_array(values):
+        return Column(values)
+    array = _arrays.opened(values, "values")
+    return Column(array.tolist()) if _arrays.is_of_values(array) else Column._owning(*_arrays.made_with_type(array, "values"))
 
 
 def _table_of(column: Owner, logical: ArrowType | None) -> Table:
@@ -302,16 +332,16 @@ class Stream:
         """Returns a capsule with a stream of the tables. The first one gives the schema; raises ValueError if there is none.
 
         An exception of the iterator is an error of the stream: `Stream.from_arrow` raises KeyboardInterrupt and the like themselves, and
-        others as the cause of its own.
+        others as the cause of its own. So is a value that is no table.
         """
         first = next(self._tables, None)
         if first is None:
             raise ValueError("a stream without tables has no schema")
-        column, logical = first._struct()
+        column, logical = _checked_table(first)._struct()
 
         def rest() -> Iterator[Typed]:
             yield column, logical
             for table in self._tables:
-                yield table._struct()
+                yield _checked_table(table)._struct()
 
         return stream_of(rest(), logical)

@@ -13,10 +13,10 @@ from collections.abc import Callable, Sequence
 from decimal import Decimal
 from typing import Any, Optional
 
-from ._checks import real, shown
+from ._checks import Limits, integer, integer_within, is_integer, real, shown
 from ._logical import ArrowType
 
-__all__ = ["Converters", "comparable_value", "has_values", "python_value", "storage_values"]
+__all__ = ["Converters", "comparable_value", "counted_value", "has_values", "python_value", "storage_values"]
 
 _FLOATS = {"e": ("<e", "<H"), "f": ("<f", "<I"), "g": ("<d", "<Q")}
 _MICROSECONDS = {"s": 1_000_000, "m": 1_000, "u": 1}
@@ -148,6 +148,36 @@ def python_value(type: ArrowType | None, kind: str) -> Converter | None:
     return bytes if format.startswith("w:") and type.kind == "fixed" else None
 
 
+class Count:
+    """A count of a unit for which Python has no value: the integer of the storage, and its type."""
+
+    __slots__ = ("number", "type")
+
+    def __init__(self, number: int, type: ArrowType) -> None:
+        self.number, self.type = number, type
+
+    def __repr__(self) -> str:
+        return f"{self.number} of {self.type}"
+
+
+# The formats of dates, times, timestamps and durations.
+_COUNTED = ("td", "tt", "ts", "tD")
+
+
+def counted_value(type: ArrowType | None, kind: str) -> Converter | None:
+    """Returns the function from a value of the storage to its Python value, or to a `Count` where Python has none: it knows its unit."""
+    plain = python_value(type, kind)
+    if type is None or plain is None or type.format[:2] not in _COUNTED:
+        return plain
+    counts, convert = type, plain
+
+    def counted(value: int) -> Any:
+        found = convert(value)
+        return Count(found, counts) if isinstance(found, int) else found
+
+    return counted
+
+
 # The value in place of NaN, and those beside the numbers of times and of booleans, so that they are equal to their own sort alone.
 _NAN = object()
 _SORTS = {name: object() for name in ("boolean", "date", "duration", "time", "timestamp", "timestamp of a zone", "tiM", "tiD", "tin")}
@@ -192,7 +222,10 @@ def comparable_value(type: ArrowType | None, kind: str) -> Converter | None:
 
 def _number_of(format: str, value: Any, name: str) -> Any:
     plain, bits = _FLOATS[format]
-    return struct.unpack(bits, struct.pack(plain, real(value, name)))[0]
+    try:
+        return struct.unpack(bits, struct.pack(plain, real(value, name)))[0]
+    except OverflowError:
+        raise OverflowError(f"{name}: {shown(value)} is too large for a float of {8 * struct.calcsize(plain)} bits") from None
 
 
 def _counted(since: datetime.timedelta, nanos: int, unit: str, value: Any, name: str) -> int:
@@ -210,6 +243,7 @@ def _expected(value: Any, kinds: type | tuple[type, ...], name: str, what: str) 
 
 def _timestamp_of(format: str, value: Any, name: str) -> int:
     _expected(value, datetime.datetime, name, "a datetime")
+    _check_there(value, name)
     zone = _zone(format[4:])
     if (value.tzinfo is None) != (zone is None):
         raise ValueError(f"{name}: {shown(value)} {'needs a time zone' if zone else 'has a time zone'}")
@@ -219,8 +253,9 @@ def _timestamp_of(format: str, value: Any, name: str) -> int:
 
 
 def _decimal_of(type: ArrowType, value: Any, name: str) -> Any:
-    if isinstance(value, bool) or not isinstance(value, (int, Decimal)):
-        raise TypeError(f"{name}: {shown(value)} is not a Decimal or an int")
+    if not isinstance(value, Decimal) and not is_integer(value):
+        raise TypeError(f"{name}: {shown(value)} is not a Decimal or an integer")
+    value = value if isinstance(value, Decimal) else integer(value, name)
     precision, scale = int(type.format[2:].split(",")[0]), _scale(type.format)
     sign, digits, exponent = Decimal(value).as_tuple()
     if not isinstance(exponent, int):
@@ -237,18 +272,71 @@ def _decimal_of(type: ArrowType, value: Any, name: str) -> Any:
     return list(number.to_bytes(32, "little", signed=True)) if type.kind == "fixed" else number
 
 
+# The nanoseconds of the units of counts, by the last letters of their formats; a date of `tdD` is a number of days.
+_NANOSECONDS_OF_COUNT = {**_NANOSECONDS, "D": _MILLISECONDS_OF_DAY * 1_000_000}
+
+
+def _count_of(type: ArrowType, value: Count, name: str) -> int:
+    """Returns a count of another unit as one of the unit of a type. Raises ValueError if something is left over, TypeError for another sort of time."""
+    before, after = value.type.format, type.format
+    if before[:2] != after[:2] or (after[:2] == "ts" and bool(before[4:]) != bool(after[4:])):
+        raise TypeError(f"{name}: {value} is no value of {type}")
+    count, left = divmod(value.number * _NANOSECONDS_OF_COUNT[before[2]], _NANOSECONDS_OF_COUNT[after[2]])
+    if left:
+        raise ValueError(f"{name}: {value} is not a whole number of the unit of {type}")
+    return count
+
+
+def _check_there(value: datetime.date, name: str) -> None:
+    """Raises ValueError for NaT of pandas, an instance of datetime that is not equal to itself."""
+    if value != value:
+        raise ValueError(f"{name}: {shown(value)} is no time; None is null")
+
+
+def _check_date(value: datetime.date, name: str) -> None:
+    """Raises ValueError for a datetime that says more than its date."""
+    if isinstance(value, datetime.datetime) and (value.tzinfo is not None or value.time() != datetime.time() or getattr(value, "nanosecond", 0) > 0):
+        raise ValueError(f"{name}: {shown(value)} has a time of day or a time zone, which a date has not")
+
+
+# The bits of the parts of an interval, the lowest first.
+_INTERVALS = {"tiD": (32, 32), "tin": (32, 32, 64)}
+
+
+def _interval_of(format: str, value: Any, name: str) -> int:
+    """Returns an interval, the tuple of its parts, as the integer of the storage."""
+    sizes = _INTERVALS[format]
+    if not isinstance(value, tuple) or len(value) != len(sizes):
+        what = "days and milliseconds" if format == "tiD" else "months, days and nanoseconds"
+        raise TypeError(f"{name}: {shown(value)} is not a tuple of {what}")
+    number, start = 0, 0
+    for place, (part, bits) in enumerate(zip(value, sizes)):
+        most = 1 << (bits - 1)
+        number |= (integer_within(part, f"{name}[{place}]", Limits(-most, most - 1)) & ((1 << bits) - 1)) << start
+        start += bits
+    return _signed(number, 64) if format == "tiD" else number
+
+
 def _storage_value(type: ArrowType, value: Any, name: str) -> Any:
     format = type.format
     if format in _FLOATS:
         return _number_of(format, value, name)
+    if isinstance(value, Count) and format[:2] in _COUNTED:
+        return _count_of(type, value, name)
+    if format in _INTERVALS:
+        return _interval_of(format, value, name)
     if format in ("tdD", "tdm"):
         _expected(value, datetime.date, name, "a date")
+        _check_there(value, name)
+        _check_date(value, name)
         days = (datetime.date(value.year, value.month, value.day) - _DAY).days
         return days if format == "tdD" else days * _MILLISECONDS_OF_DAY
     if format.startswith("ts"):
         return _timestamp_of(format, value, name)
     if format.startswith("tt"):
         _expected(value, datetime.time, name, "a time")
+        if value.tzinfo is not None:
+            raise ValueError(f"{name}: {shown(value)} has a time zone, which a column of times has not")
         since = datetime.datetime.combine(_DAY, value.replace(tzinfo=None)) - _EPOCH
         return _counted(since, 0, format[2], value, name)
     if format.startswith("tD"):
@@ -268,9 +356,13 @@ def has_values(type: ArrowType) -> bool:
 
 
 def storage_values(values: Sequence[Any], type: ArrowType, name: str) -> list[Any]:
-    """Returns the values of the storage for Python values; an integer of a time or a date is one already."""
-    if type.format in ("tiM", "tiD", "tin") or not has_values(type):
+    """Returns the values of the storage for Python values; an integer of a time, a date or an interval is one already."""
+    if type.format == "tiM" or not has_values(type):
         return list(values)
     is_count = type.format.startswith("t")
-    return [value if value is None or (is_count and isinstance(value, int) and not isinstance(value, bool)) else _storage_value(type, value, f"{name}[{position}]")
+    return [value if value is None or (is_count and _is_count(value)) else _storage_value(type, value, f"{name}[{position}]")
             for position, value in enumerate(values)]
+
+
+def _is_count(value: Any) -> bool:
+    return type(value) is int or (not isinstance(value, (datetime.date, datetime.time, datetime.timedelta)) and is_integer(value))

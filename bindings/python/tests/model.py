@@ -132,6 +132,13 @@ def laid_out(rng: random.Random, rows: list[Any], wanted: Type) -> Column:
     return Layout(rng).column(rows, wanted)
 
 
+def random_column(rng: random.Random, depth: int, counts: range) -> tuple[Type, list[Any], Column]:
+    """Returns a type that is nested at most so deep, rows of it, as many as one of the counts, and a column with these rows."""
+    wanted = random_type(rng, depth)
+    rows = random_rows(rng, wanted, rng.choice(counts))
+    return wanted, rows, laid_out(rng, rows, wanted)
+
+
 def kept(rows: list[Any], mask: list[bool | None]) -> list[Any]:
     return [row for row, keep in zip(rows, mask) if keep]
 

@@ -9,7 +9,10 @@ from typing import Any, NamedTuple
 
 from sel import Type, parse_type
 
-__all__ = ["Line", "lines_of", "read_kinds", "read_rows", "read_typed_rows"]
+__all__ = ["KINDS", "Line", "lines_of", "read_kinds", "read_rows", "read_typed_rows", "rows_of_types"]
+
+# the types of the suite with values of each
+KINDS = Path(__file__).resolve().parents[3] / "tests" / "kinds.txt"
 
 _JSON = json.JSONDecoder()
 
@@ -36,6 +39,15 @@ def read_kinds(path: Path) -> dict[str, list[list[str]]]:
             for name in names:
                 kinds[name].append(fields)
     return kinds
+
+
+def rows_of_types() -> list[tuple[Type, list[Any]]]:
+    """Returns the types that `$T` stands for, each with its seven values and a null."""
+    found = []
+    for name, *texts in read_kinds(KINDS)["$T"]:
+        wanted = parse_type(name)
+        found.append((wanted, [*read_rows(f"[{','.join(texts)}]", wanted), None]))
+    return found
 
 
 def lines_of(path: Path, kinds: dict[str, list[list[str]]]) -> list[Line]:

@@ -25,22 +25,12 @@ from sel import Column, Table, parse_type
 from sel._library import lib
 from sel._logical import coded_type
 from sel._makers import made_of
-from streams import Stream
+from streams import Only, Stream
 from suite_calls import CALLS, Arguments
 
 lib.memory_refuse.argtypes, lib.memory_refuse.restype = [c_long, c_bool], None
 lib.memory_allow.argtypes, lib.memory_allow.restype = [], c_long
 lib.memory_in_use.argtypes, lib.memory_in_use.restype = [], c_long
-
-
-class Only:
-    """An object that offers only a stream."""
-
-    def __init__(self, source: Any) -> None:
-        self.source = source
-
-    def __arrow_c_stream__(self, requested_schema: object = None) -> object:
-        return self.source.__arrow_c_stream__(requested_schema)
 
 
 # The calls that take their children if they succeed.

@@ -1,4 +1,4 @@
-"""A producer of Arrow streams in ctypes, which counts the structures that it returns and those that are released."""
+"""Producers of Arrow streams: one in ctypes, which counts the structures that it returns and those that are released, and one that has nothing but a stream."""
 
 from __future__ import annotations
 
@@ -12,7 +12,7 @@ from sel import Column
 from sel._library import ArrowArray, ArrowArrayStream, ArrowSchema, call
 from sel._logical import type_parameter
 
-__all__ = ["Stream", "counted"]
+__all__ = ["Only", "Stream", "counted"]
 
 _new_capsule = ctypes.pythonapi.PyCapsule_New
 _new_capsule.restype, _new_capsule.argtypes = py_object, [c_void_p, c_char_p, c_void_p]
@@ -31,6 +31,16 @@ def counted(structure: Any, counts: Counter[str], name: str) -> Any:
     function = _Release(release)
     structure.release = cast(function, c_void_p)
     return function
+
+
+class Only:
+    """An object that offers only a stream."""
+
+    def __init__(self, source: Any) -> None:
+        self.source = source
+
+    def __arrow_c_stream__(self, requested_schema: object = None) -> object:
+        return self.source.__arrow_c_stream__(requested_schema)
 
 
 class Stream:

@@ -6,6 +6,9 @@ import copy
 import random
 import sys
 import unittest
+from collections.abc import Callable
+from functools import partial
+from typing import Any
 
 import model
 import sel
@@ -13,6 +16,8 @@ from cases import table
 from sel import Column, Type
 
 CASES = 1000
+# makes a column of rows of a type
+Make = Callable[[list[Any], Type], Column]
 
 
 class Columns(unittest.TestCase):
@@ -73,9 +78,7 @@ class Columns(unittest.TestCase):
     def test_random_columns_through_texts(self) -> None:
         rng = random.Random(10)
         for _ in range(CASES):
-            wanted = model.random_type(rng, 3)
-            rows = model.random_rows(rng, wanted, rng.randrange(12))
-            column = model.laid_out(rng, rows, wanted)
+            wanted, rows, column = model.random_column(rng, 3, range(12))
             again = Column.parse(wanted, str(column))
             self.assertEqual(again.to_pylist(), rows)
             self.assertEqual(again.type, wanted)
@@ -170,35 +173,6 @@ class Kernels(unittest.TestCase):
             self.assertEqual(answer.to_pylist(), model.chosen(mask, rows, other))
             self.assertEqual(column.unit_list().to_pylist(), [[row] for row in rows])
 
-    def test_getters(self) -> None:
-        rng = random.Random(4)
-        for _ in range(CASES):
-            below, index = model.random_type(rng, 2), rng.randrange(-4, 4)
-            rows = model.random_rows(rng, Type("list", (below,)), rng.randrange(1, 10))
-            lists = Column.from_pylist(rows, Type("list", (below,)))
-            self.assertEqual(lists.sublist_get(index).to_pylist(), [model.element(row, index) for row in rows])
-            self.assertEqual(lists.index_is_oob(index), model.is_outside(rows, index))
-            wanted = Type("fixed", (below,), rng.randrange(4))
-            rows = model.random_rows(rng, wanted, rng.randrange(1, 10))
-            blocks = Column.from_pylist(rows, wanted)
-            self.assertEqual(blocks.fixed_get(index).to_pylist(), [model.element(row, index) for row in rows])
-            each = [rng.choice((None, rng.randrange(-4, 4))) for _ in rows]
-            expected = [None if at is None else model.element(row, at) for row, at in zip(rows, each)]
-            self.assertEqual(blocks.fixed_get(Column.from_pylist(each, "i64")).to_pylist(), expected)
-
-    def test_several_columns(self) -> None:
-        rng = random.Random(5)
-        for _ in range(CASES // 4):
-            wanted, height = model.random_type(rng, 2), rng.randrange(1, 5)
-            widths = [rng.randrange(1, 4) for _ in range(rng.randrange(1, 4))]
-            rows = [model.random_rows(rng, wanted, width * rng.choice((1, height))) for width in widths]
-            columns = [Column.from_pylist(each, wanted) for each in rows]
-            self.assertEqual(sel.flatten(columns, widths, height).to_pylist(), model.side_by_side(rows, widths, height))
-            places = [(source, row) for source, each in enumerate(rows) for row in range(len(each))]
-            picks = [rng.choice((None, rng.choice(places))) for _ in range(rng.randrange(9))]
-            expected = [None if pick is None else rows[pick[0]][pick[1]] for pick in picks]
-            self.assertEqual(sel.collect_rows(columns, picks).to_pylist(), expected)
-
     def test_of_slices_with_other_values_beneath_nulls(self) -> None:
         rng = random.Random(6)
         for case in range(CASES):
@@ -217,35 +191,53 @@ class Kernels(unittest.TestCase):
             self.assertEqual(answer.to_pylist(), model.chosen(mask, rows, other))
             self.assertEqual(column.unit_list().to_pylist(), [[row] for row in rows])
 
+    def check_getters(self, rng: random.Random, make: Make) -> None:
+        """Checks the elements of random lists, whose columns are made by `make`."""
+        below, index = model.random_type(rng, 2), rng.randrange(-4, 4)
+        wanted = Type("list", (below,))
+        rows = model.random_rows(rng, wanted, rng.randrange(10))
+        lists = make(rows, wanted)
+        self.assertEqual(lists.sublist_get(index).to_pylist(), [model.element(row, index) for row in rows])
+        self.assertEqual(lists.index_is_oob(index), model.is_outside(rows, index))
+        wanted = Type("fixed", (below,), rng.randrange(4))
+        rows = model.random_rows(rng, wanted, rng.randrange(10))
+        blocks = make(rows, wanted)
+        self.assertEqual(blocks.fixed_get(index).to_pylist(), [model.element(row, index) for row in rows])
+        each = [rng.choice((None, rng.randrange(-4, 4))) for _ in rows]
+        expected = [None if at is None else model.element(row, at) for row, at in zip(rows, each)]
+        self.assertEqual(blocks.fixed_get(make(each, Type("i64"))).to_pylist(), expected)
+
+    def test_getters(self) -> None:
+        rng = random.Random(4)
+        for _ in range(CASES):
+            self.check_getters(rng, Column.from_pylist)
+
     def test_getters_of_slices_with_other_values_beneath_nulls(self) -> None:
         rng = random.Random(7)
         for _ in range(CASES):
-            below, index = model.random_type(rng, 2), rng.randrange(-4, 4)
-            wanted = Type("list", (below,))
-            rows = model.random_rows(rng, wanted, rng.randrange(10))
-            lists = model.laid_out(rng, rows, wanted)
-            self.assertEqual(lists.sublist_get(index).to_pylist(), [model.element(row, index) for row in rows])
-            self.assertEqual(lists.index_is_oob(index), model.is_outside(rows, index))
-            wanted = Type("fixed", (below,), rng.randrange(4))
-            rows = model.random_rows(rng, wanted, rng.randrange(10))
-            blocks = model.laid_out(rng, rows, wanted)
-            self.assertEqual(blocks.fixed_get(index).to_pylist(), [model.element(row, index) for row in rows])
-            each = [rng.choice((None, rng.randrange(-4, 4))) for _ in rows]
-            expected = [None if at is None else model.element(row, at) for row, at in zip(rows, each)]
-            self.assertEqual(blocks.fixed_get(model.laid_out(rng, each, Type("i64"))).to_pylist(), expected)
+            self.check_getters(rng, partial(model.laid_out, rng))
+
+    def check_several(self, rng: random.Random, depth: int, make: Make) -> None:
+        """Checks the calls on several random columns, which are made by `make`."""
+        wanted, height = model.random_type(rng, depth), rng.randrange(1, 5)
+        widths = [rng.randrange(1, 4) for _ in range(rng.randrange(1, 4))]
+        rows = [model.random_rows(rng, wanted, width * rng.choice((1, height))) for width in widths]
+        columns = [make(each, wanted) for each in rows]
+        self.assertEqual(sel.flatten(columns, widths, height).to_pylist(), model.side_by_side(rows, widths, height))
+        places = [(source, row) for source, each in enumerate(rows) for row in range(len(each))]
+        picks = [rng.choice((None, rng.choice(places))) for _ in range(rng.randrange(9))]
+        expected = [None if pick is None else rows[pick[0]][pick[1]] for pick in picks]
+        self.assertEqual(sel.collect_rows(columns, picks).to_pylist(), expected)
+
+    def test_several_columns(self) -> None:
+        rng = random.Random(5)
+        for _ in range(CASES // 4):
+            self.check_several(rng, 2, Column.from_pylist)
 
     def test_several_slices_with_other_values_beneath_nulls(self) -> None:
         rng = random.Random(8)
         for _ in range(CASES // 2):
-            wanted, height = model.random_type(rng, 3), rng.randrange(1, 5)
-            widths = [rng.randrange(1, 4) for _ in range(rng.randrange(1, 4))]
-            rows = [model.random_rows(rng, wanted, width * rng.choice((1, height))) for width in widths]
-            columns = [model.laid_out(rng, each, wanted) for each in rows]
-            self.assertEqual(sel.flatten(columns, widths, height).to_pylist(), model.side_by_side(rows, widths, height))
-            places = [(source, row) for source, each in enumerate(rows) for row in range(len(each))]
-            picks = [rng.choice((None, rng.choice(places))) for _ in range(rng.randrange(9))]
-            expected = [None if pick is None else rows[pick[0]][pick[1]] for pick in picks]
-            self.assertEqual(sel.collect_rows(columns, picks).to_pylist(), expected)
+            self.check_several(rng, 3, partial(model.laid_out, rng))
 
     def test_random_dictionaries(self) -> None:
         rng = random.Random(9)

@@ -6,16 +6,14 @@ import copy
 import pickle
 import random
 import unittest
-from pathlib import Path
 from typing import Any
 
 import model
 import sel
 from cases import table
-from notation import read_kinds, read_rows
+from notation import KINDS, rows_of_types
 from sel import Column, Type, parse_type
 
-KINDS = Path(__file__).resolve().parents[3] / "tests" / "kinds.txt"
 CASES = 400
 PROTOCOLS = range(2, pickle.HIGHEST_PROTOCOL + 1)
 
@@ -59,11 +57,9 @@ class Copies(unittest.TestCase):
 
     @unittest.skipUnless(KINDS.exists(), f"{KINDS} is not there: its types are not tested")
     def test_every_type(self) -> None:
-        rng, kinds = random.Random(1), read_kinds(KINDS)["$T"]
-        self.assertGreater(len(kinds), 15)
-        for name, *texts in kinds:
-            wanted = parse_type(name)
-            rows = [read_rows(f"[{text}]", wanted)[0] for text in texts] + [None]
+        rng, types = random.Random(1), rows_of_types()
+        self.assertGreater(len(types), 15)
+        for wanted, rows in types:
             self.check(Column(rows, wanted), wanted, rows)
             self.check(Column([], wanted), wanted, [])
             self.check(Column(rows, wanted)[2:6], wanted, rows[2:6])
@@ -72,9 +68,8 @@ class Copies(unittest.TestCase):
     def test_random_columns(self) -> None:
         rng = random.Random(2)
         for _ in range(CASES):
-            wanted = model.random_type(rng, 3)
-            rows = model.random_rows(rng, wanted, rng.randrange(12))
-            self.check(model.laid_out(rng, rows, wanted), wanted, rows)
+            wanted, rows, column = model.random_column(rng, 3, range(12))
+            self.check(column, wanted, rows)
 
     def test_types_at_the_ends(self) -> None:
         for wanted, rows in table(("struct<>", [(), None]), ("fixed<0,i8>", [[], None, []]), ("fixed<4294967295,null>", [None]), ("null", [None] * 3),
@@ -159,9 +154,8 @@ class Aliases(unittest.TestCase):
     def test_random_columns(self) -> None:
         rng = random.Random(3)
         for _ in range(CASES):
-            wanted = model.random_type(rng, 2)
-            rows = model.random_rows(rng, wanted, rng.randrange(12))
-            column, value = model.laid_out(rng, rows, wanted), model.plain_value(rng, wanted)
+            wanted, rows, column = model.random_column(rng, 2, range(12))
+            value = model.plain_value(rng, wanted)
             self.assertEqual(column.drop_null().to_pylist(), [row for row in rows if row is not None])
             self.assertEqual(column.fill_null(value).to_pylist(), [value if row is None else row for row in rows])
             self.assertEqual(sel.concat([column, column[:1], column]).to_pylist(), rows + rows[:1] + rows)

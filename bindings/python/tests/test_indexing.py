@@ -10,7 +10,7 @@ from typing import Any
 
 import model
 import sel
-from cases import numpy, table
+from cases import Index, numpy, table
 from sel import Column, Type
 
 CASES = 400
@@ -33,16 +33,6 @@ newer_bool = type("bool", (numpy_bool,), {"__module__": "numpy"})
 other_bool = type("bool_", (numpy_bool,), {"__module__": "other"})
 
 
-class Int64:
-    """Stands for a numpy.int64, which is an integer by `__index__`."""
-
-    def __init__(self, value: int) -> None:
-        self.value = value
-
-    def __index__(self) -> int:
-        return self.value
-
-
 class Slices(unittest.TestCase):
     def test_steps(self) -> None:
         column = Column.from_pylist([10, 11, 12, 13, 14])
@@ -57,9 +47,7 @@ class Slices(unittest.TestCase):
     def test_random_slices(self) -> None:
         rng = random.Random(1)
         for _ in range(CASES):
-            wanted = model.random_type(rng, 2)
-            rows = model.random_rows(rng, wanted, rng.randrange(8))
-            column = model.laid_out(rng, rows, wanted)
+            wanted, rows, column = model.random_column(rng, 2, range(8))
             start, stop = (rng.choice((None, rng.randrange(-10, 10))) for _ in range(2))
             place = slice(start, stop, rng.choice((None, -3, -2, -1, 1, 2, 3)))
             self.assertEqual(column[place].to_pylist(), rows[place], (rows, place))
@@ -68,7 +56,7 @@ class Slices(unittest.TestCase):
 
 class Sequences(unittest.TestCase):
     def test_integers(self) -> None:
-        for key in ([2, 0, -1, 2], (2, 0, -1, 2), deque([2, 0, -1, 2]), array("b", [2, 0, -1, 2]), [Int64(2), 0, Int64(-1), 2], Column([2, 0, -1, 2]),
+        for key in ([2, 0, -1, 2], (2, 0, -1, 2), deque([2, 0, -1, 2]), array("b", [2, 0, -1, 2]), [Index(2), 0, Index(-1), 2], Column([2, 0, -1, 2]),
                     Column([2, 0, -1, 2], "i8"), Column([2, 0, 3, 2], "u64")):
             self.assertEqual(LETTERS[key].to_pylist(), ["c", "a", None, "c"], key)
         self.assertEqual(LETTERS[range(3, 0, -1)].to_pylist(), [None, "c", "b"])
@@ -78,7 +66,7 @@ class Sequences(unittest.TestCase):
                 self.assertEqual((column[empty].to_pylist(), column[empty].type), ([], column.type), empty)
 
     def test_out_of_range(self) -> None:
-        for key, place, value in table(([0, 4], 1, 4), ([-5], 0, -5), ([0, 2**32], 1, 2**32), ([-(2**64)], 0, -(2**64)), ((3, Int64(4)), 1, 4), (range(3, 6), 1, 4),
+        for key, place, value in table(([0, 4], 1, 4), ([-5], 0, -5), ([0, 2**32], 1, 2**32), ([-(2**64)], 0, -(2**64)), ((3, Index(4)), 1, 4), (range(3, 6), 1, 4),
                                        (Column([0, -5]), 1, -5), (Column([None, 2**100], "i128"), 1, 2**100), (Column([255], "u8"), 0, 255)):
             with self.assertRaises(sel.OutOfBounds, msg=key) as caught:
                 LETTERS[key]

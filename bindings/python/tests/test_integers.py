@@ -15,7 +15,7 @@ from typing import Any, NamedTuple
 from unittest.mock import patch
 
 import sel
-from cases import numpy, table
+from cases import Index, numpy, table
 from sel import Column, Type, _makers
 from sel._checks import Limits
 
@@ -109,16 +109,6 @@ if numpy is not None:
         Flag("Column.to_numpy", "zero_copy_only", lambda value: Column([True, False]).to_numpy(zero_copy_only=value).tolist(), ValueError, [True, False]),
         Flag("Column.to_numpy", "writable", lambda value: NUMBERS.to_numpy(writable=value).flags.writeable, True, False, True),
     ])
-
-
-class Index:
-    """An integer that is known only by `__index__`."""
-
-    def __init__(self, value: int) -> None:
-        self.value = value
-
-    def __index__(self) -> int:
-        return self.value
 
 
 class Numbered(enum.IntEnum):

@@ -72,6 +72,21 @@ class Keys(unittest.TestCase):
                 with self.assertRaisesRegex(TypeError, "a column of type .*, where integers or booleans are needed", msg=(key, number)):
                     use()
 
+    def test_kinds_that_a_call_does_not_take(self) -> None:
+        """The message says which kind is needed; values without any value but None have the kind null."""
+        for use, keys, needed in table(
+            (LETTERS.take, (Column([0]), Column([0], "u8"), Column(["a"]), Column([True]), Column([]), Column([None])), "u32"),
+            (Table({"x": LETTERS}).take, (Column([0]), Column([])), "u32"),
+            (LETTERS.filter, (Column([1, 0, 1, 0]), Column(["a"] * 4), Column([None] * 4), Column([])), "bool"), (Selection, (Column([1]), Column([])), "bool"),
+            (lambda key: sel.choose(key, 1, 2), (Column([1]), Column([])), "bool"), (PAIRS.fixed_get, (Column([0, 0], "u32"), Column([True, False]), Column([None, None])), "i64"),
+        ):
+            for key in keys:
+                with self.assertRaisesRegex(sel.WrongArgument, f"a column of type {key.type}, where {needed} is needed") as caught:
+                    use(key)
+                self.assertEqual(caught.exception.status, 3)
+                self.assertEqual("give it" in str(caught.exception), str(key.type) == "null")
+                self.assertEqual("column[indices]" in str(caught.exception), needed == "u32" and key.type.kind in ("i64", "u8"))
+
     def test_names_do_not_matter(self) -> None:
         named = Column.from_arrow(Table({"i": Column([2, None], "u32"), "f": [True, False]}))
         self.assertEqual((LETTERS[named.field("i")].to_pylist(), LETTERS.take(named.field("i")).to_pylist()), (["c", None], ["c", None]))

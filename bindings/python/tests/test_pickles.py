@@ -10,20 +10,18 @@ import unittest
 import weakref
 from array import array
 from ctypes import addressof, c_char
-from pathlib import Path
 from typing import Any
 
 import model
 import sel
 from arrays import Piece
 from cases import numpy, table
-from notation import read_kinds, read_rows
+from notation import KINDS, rows_of_types
 from sel import ArrowType, Column, Table, parse_type
 from sel._lending import _KEPT, Pinned
 from sel._logical import coded_type
 from sel._makers import made_of
 
-KINDS = Path(__file__).resolve().parents[3] / "tests" / "kinds.txt"
 PROTOCOLS = range(2, pickle.HIGHEST_PROTOCOL + 1)
 LONG = "a string that is longer than twelve bytes, {}"
 
@@ -66,20 +64,16 @@ class Protocols(unittest.TestCase):
 
     @unittest.skipUnless(KINDS.exists(), f"{KINDS} is not there: its types are not tested")
     def test_every_type(self) -> None:
-        rng, kinds = random.Random(1), read_kinds(KINDS)["$T"]
-        self.assertGreater(len(kinds), 15)
-        for name, *texts in kinds:
-            wanted = parse_type(name)
-            rows = [read_rows(f"[{text}]", wanted)[0] for text in texts] + [None]
+        rng, types = random.Random(1), rows_of_types()
+        self.assertGreater(len(types), 15)
+        for wanted, rows in types:
             for column in (Column(rows, wanted), Column([], wanted), Column(rows, wanted)[2:6], model.laid_out(rng, rows, wanted), Column(rows * 9, wanted)[7:]):
                 self.check(column)
 
     def test_random_columns(self) -> None:
         rng = random.Random(2)
         for _ in range(300):
-            wanted = model.random_type(rng, 3)
-            rows = model.random_rows(rng, wanted, rng.randrange(20))
-            column = model.laid_out(rng, rows, wanted)
+            _, rows, column = model.random_column(rng, 3, range(20))
             self.check(column)
             self.check(column[rng.randrange(len(rows) + 1) :])
 

@@ -218,9 +218,7 @@ class Costs(unittest.TestCase):
     def test_random_columns_row_by_row(self) -> None:
         rng = random.Random(21)
         for _ in range(150):
-            wanted = model.random_type(rng, 3)
-            rows = model.random_rows(rng, wanted, rng.randrange(1, 9))
-            column = model.laid_out(rng, rows, wanted)
+            _, rows, column = model.random_column(rng, 3, range(1, 9))
             self.assertEqual([column[place] for place in range(len(rows))], rows)
             self.assertEqual([column[place - len(rows)] for place in range(len(rows))], rows)
             self.assertEqual(list(column), rows)

@@ -3,12 +3,16 @@
 from __future__ import annotations
 
 import datetime
+import json
+import struct
 import unittest
 from typing import Any
 
 import sel
+from arrays import Piece
 from cases import table
 from sel import Column, Table, Type, parse_type
+from sel._logical import coded_type, of_format
 
 DAY = datetime.date(2024, 2, 29)
 ORDER = {"id": 1, "price": 2.5}
@@ -55,8 +59,90 @@ class Fields(unittest.TestCase):
             parse_type("i64 not null")
 
     def test_names_that_arrow_cannot_have(self) -> None:
-        with self.assertRaisesRegex(ValueError, "zero character"):
-            parse_type("struct<a\0b: int64, a\0c: double>")
+        for text in ("struct<a\0b: int64, a\0c: double>", "timestamp[s, tz=a\0b]"):
+            with self.assertRaisesRegex(ValueError, "zero character"):
+                parse_type(text)
+        for text in ("struct<a\ud800: int64>", "timestamp[s, tz=\ud800]"):
+            with self.assertRaisesRegex(ValueError, "half a surrogate pair"):
+                parse_type(text)
+        with self.assertRaisesRegex(ValueError, "half a surrogate pair"):
+            Table({"\udfff": [1]})
+
+
+class Texts(unittest.TestCase):
+    """What `str` gives for a type, and what `parse_type` makes of it."""
+
+    def test_names_that_are_quoted(self) -> None:
+        for name, text in table(("a", "a: i64"), ("unit price", "unit price: i64"), ("", ": i64"), ("m[s:t]", "m[s:t]: i64"), ("x: i64, y", '"x: i64, y": i64'), (" a", '" a": i64'),
+                                ("a\t", '"a\\t": i64'), ('"', '"\\"": i64'), ("<", '"<": i64'), ("a,b", '"a,b": i64'), ("a[", '"a[": i64'), ("a]", "a]: i64"), (":", '":": i64'), ("\u00e9,", '"\u00e9,": i64')):
+            wanted = Column.from_arrow(Table({name: [1], "n": [0.5]})).type
+            self.assertEqual(str(wanted), f"struct<{text}, n: double>")
+            again = parse_type(str(wanted))
+            self.assertEqual(again, wanted)
+            self.assertEqual([field.name for field in again.children if isinstance(field, sel.ArrowType)], [name, "n"])
+            lists = parse_type(f"list<{json.dumps(name)}: double>")
+            self.assertEqual(parse_type(str(lists)), lists)
+            self.assertEqual([field.name for field in lists.children if isinstance(field, sel.ArrowType)], [name])
+        self.assertEqual(str(parse_type('list<"": double>')), 'large_list<"": double>')
+        self.assertEqual(str(parse_type('struct< "a b" : int64>')), "struct<a b: i64>")
+
+    def test_quotes_that_do_not_fit(self) -> None:
+        for text in ('struct<"a: int64>', 'struct<"a" int64>', 'struct<"a">', 'struct<"\\x": int64>', '"a": int64', 'struct<"a"b: int64>', "list<: int8>"):
+            with self.assertRaises(ValueError, msg=text):
+                parse_type(text)
+
+    def test_types_whose_text_leaves_something_out(self) -> None:
+        """A map, a dictionary and an extension type raise an error, at any depth; their storage is not returned."""
+        entries = of_format("+s", [parse_type("utf8"), parse_type("double")], ["key", "value"])
+        name = b"ARROW:extension:name"
+        metadata = struct.pack("<ii", 1, len(name)) + name + struct.pack("<i", 7) + b"my.json"
+        types = {
+            "map": of_format("+m", [entries]), "dictionary": coded_type("i", Column(["a"])),
+            "extension": Column.from_arrow(Piece("l", 1, [None, b"\0" * 8], metadata=metadata)).type,
+        }
+        texts = {"map": "map<string_view, double>", "dictionary": "dictionary<i32, string_view>", "extension": "extension<my.json, i64>"}
+        for word, wanted in types.items():
+            self.assertEqual(str(wanted), texts[word])
+            for text in (str(wanted), f"list<item: {wanted}>", f"struct<a: i8, b: {wanted} not null>"):
+                for use in table(parse_type, lambda text: Column([], text)):
+                    with self.assertRaisesRegex(ValueError, f"{word}<..> is not parsed"):
+                        use(text)
+            self.assertEqual(Column([None], wanted).type, wanted)
+
+    def test_errors(self) -> None:
+        for value in table(5, None, b"i64", Type("i64")):
+            with self.assertRaisesRegex(TypeError, "not str"):
+                parse_type(value)
+        for text in ("decimal32(10, 2)", "decimal128(39, 0)", "decimal256(77, 1)", "decimal128(0, 0)"):
+            with self.assertRaisesRegex(ValueError, "there is no type 'decimal"):
+                parse_type(text)
+        for zone in ("a, b", "a ,b", " UTC"):
+            wanted = of_format(f"tsm:{zone}")
+            self.assertEqual((str(wanted), parse_type(str(wanted))), (f"timestamp[ms, tz={zone}]", wanted))
+        for text in ("fixed_size_binary[4294967296]", "fixed_size_binary[" + "9" * 10000 + "]"):
+            with self.assertRaises(OverflowError):
+                parse_type(text)
+
+    def test_the_name_of_a_type_itself_does_not_count(self) -> None:
+        columns = Table.from_arrow(Table({"id": [1], "price": [0.5], "list": [[1]], "pair": [(1, "a")], "when": [DAY]}))
+        for name, wanted in table(("id", Type("i64")), ("price", parse_type("double")), ("list", Type("list", (Type("i64"),))), ("pair", Type("struct", (Type("i64"), Type("utf8")))),
+                                  ("when", parse_type("date32"))):
+            found = columns[name].type
+            self.assertEqual(found, wanted)
+            self.assertEqual(wanted, found)
+            self.assertEqual(hash(found), hash(wanted))
+            self.assertEqual(len({found, wanted}), 1)
+            self.assertEqual(found.name, name)
+        deep = Type("i64")
+        for _ in range(200):
+            deep = Type("list", (deep,))
+        self.assertNotEqual(columns["list"].type, deep)
+        for other in table(Type("u64"), parse_type("float"), parse_type("timestamp[s]"), Type("i32"), "i64", None):
+            self.assertNotEqual(columns["id"].type, other)
+        self.assertEqual(Type("list", (parse_type("double"),)), parse_type("list<double>"))
+        self.assertNotEqual(parse_type("struct<a: double>"), parse_type("struct<b: double>"))
+        self.assertNotEqual(parse_type("struct<a: i64>"), Type("struct", (Type("i64"),)))
+        self.assertEqual(parse_type('struct<"0": i64>'), Type("struct", (Type("i64"),)))
 
 
 class Types(unittest.TestCase):
@@ -69,8 +155,16 @@ class Types(unittest.TestCase):
             column = Column(rows, wanted)
             self.assertEqual((str(column.type), column.to_pylist()), (text, rows))
 
+    def test_texts_of_types_with_logical_types_below(self) -> None:
+        double, whole = parse_type("double"), parse_type("struct<a: double not null>").children[0]
+        for wanted, text in table((Type("list", (double,)), "list<double>"), (Type("list", (whole,)), "list<double not null>"), (Type("fixed", (whole,), 2), "fixed<2,double not null>"),
+                                  (Type("struct", (whole, Type("i8"), double)), "struct<double not null,i8,double>"), (Type("list", (Type("list", (whole,)),)), "list<list<double not null>>")):
+            self.assertEqual((str(wanted), parse_type(text)), (text, wanted))
+        self.assertNotEqual(parse_type("list<double>"), Type("list", (whole,)))
+
     def test_types_that_there_are_not(self) -> None:
-        makers: list[Any] = [lambda: Type("foo"), lambda: Type("list"), lambda: Type("fixed", (), 2), lambda: Type("i64", (Type("i64"),)), lambda: Type("list", (Type("i8"),) * 2)]
+        makers: list[Any] = [lambda: Type("foo"), lambda: Type("list"), lambda: Type("fixed", (), 2), lambda: Type("i64", (Type("i64"),)), lambda: Type("list", (Type("i8"),) * 2),
+                             lambda: Type("i64", (), 3), lambda: Type("list", (Type("i8"),), 2), lambda: Type("struct", (Type("i8"),), 1)]
         for make in makers:
             with self.assertRaises(ValueError):
                 make()

@@ -12,19 +12,10 @@ import sel
 from cases import table
 from sel import Column, Selection, Stream, Table
 from sel._library import ArrowArray, ArrowArrayStream
+from streams import Only
 
 DAY = datetime.date(2020, 1, 1)
 ROWS: dict[str, list[Any]] = {"id": [1, 2, 3], "when": [DAY, None, DAY], "name": ["a", "a name of more than twelve bytes", None], "lists": [[0.5], [], None]}
-
-
-class Only:
-    """An object that offers only a stream."""
-
-    def __init__(self, source: Any) -> None:
-        self.source = source
-
-    def __arrow_c_stream__(self, requested_schema: object = None) -> object:
-        return self.source.__arrow_c_stream__(requested_schema)
 
 
 def codes_of(source: Stream) -> list[int]:

@@ -93,6 +93,12 @@ class Times(unittest.TestCase):
                 Column([value])
         with self.assertRaises(TypeError):
             Column([1.5, pandas.NaT])
+        for text in table(None, "timestamp[ns]", "date32"):
+            with self.assertRaisesRegex(ValueError, "NaT is no time"):
+                Column([pandas.NaT], text)
+        self.assertEqual(Column([pandas.Timestamp(2020, 1, 2)], "date32").to_pylist(), [datetime.date(2020, 1, 2)])
+        with self.assertRaises(ValueError):
+            Column([pandas.Timestamp(1)], "date32")
 
     def test_zones_that_there_are_not(self) -> None:
         for zone in ("+99:99", "+ab:cd", "-24:00", "+0a:00", "no/zone", "+5"):
