@@ -308,7 +308,7 @@ pub extern "C" fn sel_buffer_show(
     len: &mut usize,
     first: &mut usize,
 ) -> u32
-    ensures { ShowsBuffer result of.now.buffer len.old len.new first.old first.new }
+    ensures buffer { ShowsBuffer result of.now.buffer len.old len.new first.old first.new }
     ensures at { result ≢ ok → at.new ≡ at.old }
 {
     show(of, at, len, first)

@@ -41,7 +41,7 @@ fn show_values<T: Copy>(
 /// Errors: `NO_COLUMN` if the handle has no buffer; `UNSUPPORTED_TYPE` if the buffer is
 /// [`SharedBuffer::Empty`]. On error nothing is written.
 pub fn show(of: &BufferRef, at: &mut *const u8, len: &mut usize, first: &mut usize) -> u32
-    ensures { ShowsBuffer result of.now.buffer len.old len.new first.old first.new }
+    ensures buffer { ShowsBuffer result of.now.buffer len.old len.new first.old first.new }
     ensures at { result ≢ ok → at.new ≡ at.old }
 {
     let Some(shared) = of.shared() else {
