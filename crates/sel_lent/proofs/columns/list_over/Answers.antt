@@ -23,7 +23,7 @@ returns-in-Ok-lists_from c =
     let has : HasColumn c.args.child.now.tree = search rules in
     let shallow : depth (held_type c.args.child.now.tree) < 128 = search rules in
     let status : ReportsExactly c.put.result (list_rules_over (integers_of c.args.offsets.now.buffer) (held_count c.args.child.now.tree) c.args.validity.now.buffer c.args.first) =
-        subst (λ (n : ℕ). ReportsExactly c.put.result (list_rules_over (integers_of c.args.offsets.now.buffer) n c.args.validity.now.buffer c.args.first)) count (search rules) in
+    subst (λ (n : ℕ). ReportsExactly c.put.result (list_rules_over (integers_of c.args.offsets.now.buffer) n c.args.validity.now.buffer c.args.first)) count (search rules) in
     record {
       rows = search rules;
       dtype = search rules;
@@ -36,7 +36,7 @@ returns-in-Err c =
     let has : HasColumn c.args.child.now.tree = search rules in
     let shallow : depth (held_type c.args.child.now.tree) < 128 = search rules in
     let status : ReportsExactly c.status_of_maker.result (list_rules_over (integers_of c.args.offsets.now.buffer) (held_count c.args.child.now.tree) c.args.validity.now.buffer c.args.first) =
-        subst (λ (n : ℕ). ReportsExactly c.status_of_maker.result (list_rules_over (integers_of c.args.offsets.now.buffer) n c.args.validity.now.buffer c.args.first)) count (search rules) in
+    subst (λ (n : ℕ). ReportsExactly c.status_of_maker.result (list_rules_over (integers_of c.args.offsets.now.buffer) n c.args.validity.now.buffer c.args.first)) count (search rules) in
     record {
       rows = search rules;
       dtype = search rules;
