@@ -1,7 +1,7 @@
 use Rattle.sel_c.proofs.Common.{Value, ok}
 use Rattle.sel_c.specs.Parsed.{IsTypeText}
-use Rattle.sel_ffi.specs.Status.{text_limit}
-use Rattle.std.proofs.Common.{List, rules, ◌≡◌, ◌≤◌, inl, true, false, length, sym, arith, subst, nat_lt}
+use Rattle.sel_ffi.specs.Status.{out_of_memory, text_limit, IsOneOf}
+use Rattle.std.proofs.Common.{List, [], ◌∷◌, rules, ◌≡◌, ◌≤◌, inl, true, false, length, sym, arith, subst, nat_lt}
 use Rattle.std.proofs.lemmas.Bool.{or_from, or_right}
 use Rattle.sel_c.proofs.Common.{shape_of, Shape, exceeds_limit, depth, nat_tests}
 use Rattle.sel_c.specs.Parsed.{ExceedsAlways, IsRowsText}
@@ -45,8 +45,8 @@ returns-in-Err-made c =
     (subst (λ s. IsRowsText s values c.args.text.now) (sym (same shape named)) texts))) in
     let fit = λ (limit : c.rows_error_status.result ≡ text_limit) (shape : Shape) (named : IsTypeText shape c.args.name.now).
     subst (λ s. HasFittingRows s c.args.text.now) (same shape named) (c.in-Err-made.ensures.fit (c.rows_error_status.ensures.limit limit)) in
-    let type_limit = λ (shape : Shape) (named : IsTypeText shape c.args.name.now) (always : ExceedsAlways shape).
-    absurd (exceeds_not_always c.in-Ok.dtype c.in-Ok.ensures.fit c.in-Ok.ensures.levels (subst ExceedsAlways (sym (same shape named)) always)) in
+    let type_limit : (shape : Shape) → IsTypeText shape c.args.name.now → ExceedsAlways shape → IsOneOf c.rows_error_status.result (out_of_memory ∷ text_limit ∷ []) =
+    λ shape named always. absurd (exceeds_not_always c.in-Ok.dtype c.in-Ok.ensures.fit c.in-Ok.ensures.levels (subst ExceedsAlways (sym (same shape named)) always)) in
     search (rules, accepted, limit, fit, type_limit, or_right, c.rows_error_status.ensures.place (length c.args.text.now) c.in-Err-made.ensures.place)
 
 pub returns-in-Ok-made : goal.returns-in-Ok-made
@@ -59,7 +59,8 @@ returns-in-Ok-made c =
     let shallow : nat_lt 64 (depth shape) ≡ false = grind (arith, nat_tests, levels) in
     let fits = c.in-Ok-made.ensures.within values (subst (λ s. IsRowsText s values c.args.text.now) (sym same) texts) in
     or_from (nat_lt 64 (depth shape)) (exceeds_limit Zeros shape values) shallow (subst (λ s. exceeds_limit Zeros s values ≡ false) same fits) in
-    let type_limit = λ (shape : Shape) (named : IsTypeText shape c.args.name.now) (always : ExceedsAlways shape).
+    let type_limit : (shape : Shape) → IsTypeText shape c.args.name.now → ExceedsAlways shape → IsOneOf c.put.result (out_of_memory ∷ text_limit ∷ []) =
+    λ shape named always.
     let same : shape_of c.in-Ok.dtype ≡ shape = one_spelled c.args.name.now
     (shape_of c.in-Ok.dtype) shape c.in-Ok.ensures.narrow named.0 c.in-Ok.ensures.text named.2 in
     absurd (exceeds_not_always c.in-Ok.dtype c.in-Ok.ensures.fit c.in-Ok.ensures.levels (subst ExceedsAlways (sym same) always)) in
