@@ -234,7 +234,7 @@ module _ (arr : FixedSizeListArray) where
   pub entry_small : (k i : ℕ) → k < arr.len → valid_at arr.validity k ≡ true → i < arr.size → k * arr.size + i < 4294967296
   entry_small k i h e inside = let has = valid_row k h e in omega (arith, inside, has.inside, has.few)
 
-  entry_is : (index : Value) (k : ℕ) → k < arr.len → element_at below (entry_place arr k (place_of arr.size index)) ≡ entry_of arr.size (get_or (rows column) k Null) index
+  pub entry_is : (index : Value) (k : ℕ) → k < arr.len → element_at below (entry_place arr k (place_of arr.size index)) ≡ entry_of arr.size (get_or (rows column) k Null) index
   entry_is index k h =
       let place = place_of arr.size index in
       element_valid (valid_at arr.validity k) below (k * arr.size) arr.size place (entry_of arr.size (get_or (rows column) k Null) index) (place_of_below arr.size index)

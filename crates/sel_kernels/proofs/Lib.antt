@@ -1,3 +1,4 @@
+pub mod BareElements
 pub mod BlockTakes
 pub mod Common
 pub mod Dictionaries

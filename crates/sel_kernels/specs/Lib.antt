@@ -1,4 +1,5 @@
 pub mod BareBlocks
+pub mod BareElements
 pub mod Blocks
 pub mod Compress
 pub mod Dictionary

@@ -8,10 +8,12 @@ ghost use Rattle.sel_arrow.specs.NestedArrays.{block_column};
 ghost use Rattle.sel_arrow.specs.Rows.{rows, type_of};
 ghost use Rattle.sel_arrow.specs.Value.{Number};
 ghost use Rattle.sel_kernels.specs.Elements.{child_pick};
+ghost use Rattle.sel_gather.specs.Gathers.{SelectsFrom};
 ghost use Rattle.sel_gather.specs.Need.{ExceedsNone};
 ghost use Rattle.sel_kernels.specs.Entries.{fixed_get, at_each, is_get_error, place_of, IsGetError, exceeded_entries};
 ghost use Rattle.sel_kernels.specs.Steps.{entry_place, entry_places};
 
+use crate::gather::sublist::bare_elements::elements_at;
 use crate::gather::sublist::pick_of_place;
 use sel_arrow::array::Array;
 use sel_arrow::array_ref::ArrayRef;
@@ -97,6 +99,22 @@ pub fn sub_fixed_size_list_get(
     if is_error(arr, index, null_on_oob) {
         return Err(PolarsError::ComputeError);
     }
+    match elements_at(alloc, arr, index)? {
+        Some(taken) => Ok(taken),
+        None => gather_elements(alloc, arr, index),
+    }
+}
+
+/// Returns a column whose row k is the element of list k at index k, by row references.
+fn gather_elements(
+    alloc: Global,
+    arr: &FixedSizeListArray,
+    index: &PrimitiveArray<i64>,
+) -> PolarsResult<ArrayRef>
+    requires { length (primitive_rows index.now) ≡ length (rows (block_column arr.now)) }
+    ensures { SelectsFrom result (type_of arr.now.values.value)
+        (fixed_get (rows (block_column arr.now)) arr.now.size (primitive_rows index.now)) }
+{
     let places = EntryPlaces {
         blocks: Blocks {
             arr,

@@ -3,6 +3,7 @@
 ghost use Rattle.std.specs.Prelude.{◌≡◌};
 ghost use Rattle.sel_kernels.specs.Elements.{child_pick};
 
+mod bare_elements;
 pub mod fixed_size_list;
 pub mod list;
 
