@@ -3,7 +3,7 @@
 #include <string.h>
 
 const struct layout layouts[LAYOUT_COUNT] = {
-    {"plain", 0}, {"1", 1}, {"7", 7}, {"8", 8}, {"63", 63}, {"64", 64},
+    {"plain", 0, true}, {"1", 1, false}, {"7", 7, false}, {"8", 8, true}, {"63", 63, true}, {"64", 64, false},
 };
 
 enum { ROWS_BEHIND = 3, MOST_ITEMS = 1000 };
@@ -108,10 +108,10 @@ static const struct value *null_slot(struct builder *builder, const struct type 
     return type->kind == SEL_TYPE_STRING_VIEW && seed % 2 == 0 ? &not_utf8 : other_value(builder, type, seed);
 }
 
-/* Returns a row before or behind the rows of a slice: null or another value. */
+/* Returns a row before or behind the rows of a slice: null, if the layout allows it, or another value. */
 static const struct value *padding(struct builder *builder, const struct type *type, size_t place) {
     static const struct value nothing = {.is_null = true};
-    return place % 3 == 1 ? &nothing : other_value(builder, type, place);
+    return place % 3 == 1 && !builder->layout->is_bare ? &nothing : other_value(builder, type, place);
 }
 
 /* ---- leaves ---- */
@@ -354,11 +354,11 @@ static sel_status build_slots(struct builder *builder, const struct slots *slots
 }
 
 /* Builds the column of rows, with no other rows before or behind them. A validity is given if a row is null, and always in
- * other layouts than the plain one. */
+ * layouts that are not bare. */
 static sel_status build_whole(struct builder *builder, const struct type *type, const struct value *const *rows, size_t len, sel_column *out) {
     struct slots slots = {
         type, len, arena_take(&builder->arena, len, sizeof *slots.values), set_bits(&builder->arena, len), (len + 7) / 8,
-        !is_plain(builder),
+        !builder->layout->is_bare,
     };
     for (size_t i = 0; i < len; i += 1) {
         slots.values[i] = rows[i];

@@ -9,11 +9,12 @@
 struct layout {
     const char *name;
     size_t offset;              /* a slice from this row on of a longer column; 0: a column of its own */
+    bool is_bare;               /* a column without null rows has no validity, nor null rows before or behind a slice */
 };
 
 enum { LAYOUT_COUNT = 6 };
 
-/* The plain layout, and slices at the offsets 1, 7, 8, 63 and 64. */
+/* The plain layout, and slices at the offsets 1, 7, 8, 63 and 64. It and those at 8 and 63 have a validity only where a row is null. */
 extern const struct layout layouts[LAYOUT_COUNT];
 
 /* Builds the column of the rows. Returns the status of the call that failed, or SEL_OK. */
