@@ -258,6 +258,8 @@ impl PartialEq for ArrowType {
     }
 }
 
+impl Eq for ArrowType {}
+
 impl fmt::Display for ArrowType {
     fn fmt(&self, f: &mut fmt::Formatter<'_>) -> fmt::Result {
         let text = self.to_text().unwrap_or_else(|_| handle_alloc_error(Layout::new::<TypeHandle>()));

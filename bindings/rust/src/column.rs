@@ -331,7 +331,7 @@ impl Column {
 }
 
 /// Returns the value, or ends as the standard library does after a failed allocation.
-fn infallible<T>(result: Result<T, Error>) -> T {
+pub(crate) fn infallible<T>(result: Result<T, Error>) -> T {
     match result {
         Ok(value) => value,
         Err(Error::OutOfMemory) => handle_alloc_error(Layout::new::<Column>()),

@@ -2,10 +2,11 @@
 
 use crate::arrow::{ArrowArray, ArrowSchema};
 use crate::arrow_type::{common_type, ArrowType};
-use crate::column::Column;
+use crate::column::{infallible, Column};
 use crate::error::Error;
 use crate::kernels;
 use crate::memory::collect;
+use std::ptr;
 
 /// A column with its logical type: kernels return columns of the type that the result has in Arrow.
 ///
@@ -25,7 +26,26 @@ use crate::memory::collect;
 /// # Errors
 /// Each function returns the errors of the function of [`Column`] that has its name. Functions of several columns return
 /// those of [`common_type`] too.
-#[derive(Clone, Debug, PartialEq)]
+///
+/// # Equality
+/// Two columns are equal by `==` if they have equal types and the same rows. Keys are compared by the values of the
+/// dictionary that they refer to, and floats by their bits; values in null slots are ignored. If an allocation fails, `==`
+/// aborts, as that of [`Column`] does, and it panics if a column without its dictionaries would exceed a size limit. To get
+/// these errors, compare the results of [`decode`](TypedColumn::decode).
+///
+/// ```
+/// # use sel::{ArrowType, Column, Error, TypedColumn};
+/// # fn main() -> Result<(), Error> {
+/// let words = |words: &[&str], keys: &[u8]| {
+///     let coded = ArrowType::dictionary("C", &Column::from_values(words)?, None, false)?;
+///     TypedColumn::new(Column::from_values(keys)?, coded)
+/// };
+/// assert_eq!(words(&["a", "b"], &[0, 1])?, words(&["b", "a"], &[1, 0])?);
+/// assert_ne!(words(&["a", "b"], &[0, 1])?, words(&["b", "a"], &[0, 1])?);
+/// # Ok(())
+/// # }
+/// ```
+#[derive(Clone, Debug)]
 pub struct TypedColumn {
     column: Column,
     arrow_type: ArrowType,
@@ -156,3 +176,20 @@ impl TypedColumn {
         Ok(TypedColumn { column, arrow_type: arrow_type.as_nullable()? })
     }
 }
+
+impl TypedColumn {
+    /// Returns whether both columns have equal types and the same rows, with the values of dictionaries in place of keys.
+    fn try_eq(&self, other: &TypedColumn) -> Result<bool, Error> {
+        let may_be_equal = self.arrow_type == other.arrow_type && self.column.len() == other.column.len();
+        Ok(may_be_equal && self.decode()?.column.equals(&other.decode()?.column)?)
+    }
+}
+
+impl PartialEq for TypedColumn {
+    /// Returns whether both columns have equal types and the same rows.
+    fn eq(&self, other: &TypedColumn) -> bool {
+        ptr::eq(self, other) || infallible(self.try_eq(other))
+    }
+}
+
+impl Eq for TypedColumn {}

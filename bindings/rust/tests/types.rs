@@ -247,6 +247,32 @@ fn kernels_keep_the_type() -> Result<(), Error> {
     Ok(())
 }
 
+/// Returns a column of keys of a dictionary.
+fn coded(words: &[Option<&str>], keys: &[Option<i16>]) -> Result<TypedColumn, Error> {
+    let of_type = ArrowType::dictionary("s", &Column::from_options(words)?, None, false)?;
+    TypedColumn::new(Column::from_options(keys)?, of_type)
+}
+
+/// Returns a column of lists of one key each.
+fn lists_of(keys: TypedColumn) -> Result<TypedColumn, Error> {
+    let (column, of_type) = keys.into_parts();
+    TypedColumn::new(column.unit_list()?, ArrowType::new("+l", &[&of_type])?)
+}
+
+#[test]
+fn keys_are_compared_by_the_values_of_their_dictionary() -> Result<(), Error> {
+    let first = || coded(&[Some("a"), Some("b"), None], &[Some(0), Some(1), None]);
+    let same = || coded(&[Some("b"), None, Some("a"), Some("b")], &[Some(2), Some(3), Some(1)]);
+    let other = || coded(&[Some("x"), Some("y"), None], &[Some(0), Some(1), None]);
+    assert_eq!(first()?.arrow_type(), other()?.arrow_type());
+    assert_eq!(first()?.column(), other()?.column());
+    assert!(first()? == same()? && first()? != other()? && same()? != other()?);
+    assert!(lists_of(first()?)? == lists_of(same()?)? && lists_of(first()?)? != lists_of(other()?)?);
+    assert_ne!(first()?, first()?.decode()?);
+    assert_ne!(first()?, first()?.slice(0, 2)?);
+    Ok(())
+}
+
 #[test]
 fn nulls_make_a_type_nullable() -> Result<(), Error> {
     let strict = ArrowType::new("g", &[])?.as_field("strict", false)?;
