@@ -8,7 +8,7 @@ use crate::memory::{collect, try_collect, zeroed};
 use crate::raw::{self, Handle, TypeHandle};
 use std::alloc::{handle_alloc_error, Layout};
 use std::ffi::{c_char, CStr, CString};
-use std::{fmt, ptr};
+use std::{fmt, ptr, str};
 
 /// The logical type of a column: the Arrow schema that it came with, at every depth, and its dictionaries.
 ///
@@ -49,16 +49,16 @@ fn c_text(text: &str) -> Result<CString, Error> {
     CString::from_vec_with_nul(bytes).map_err(|_| Error::of(status::ARROW_FORMAT))
 }
 
-/// Returns a text of the library, which lives as long as what it belongs to; empty if there is none.
+/// Returns the bytes of a text of the library, which lives as long as what it belongs to; empty if there is none.
 ///
 /// # Safety
 /// The pointer is null, or that of a string which ends with a zero and lives as long as the result is used.
-unsafe fn text_of<'a>(text: *const c_char) -> &'a str {
+unsafe fn bytes_of<'a>(text: *const c_char) -> &'a [u8] {
     if text.is_null() {
-        return "";
+        return &[];
     }
     // SAFETY: the caller ensures that the pointer is that of a string.
-    unsafe { CStr::from_ptr(text) }.to_str().unwrap_or_default()
+    unsafe { CStr::from_ptr(text) }.to_bytes()
 }
 
 impl ArrowType {
@@ -178,16 +178,21 @@ impl ArrowType {
         ArrowType::made(|out| unsafe { raw::sel_type_as_field(self.at(), raw::sel_type_name(self.at()), true, out) })
     }
 
-    /// Returns the Arrow format.
+    /// Returns the Arrow format; empty if it is not UTF-8, as with such a time zone.
     pub fn format(&self) -> &str {
         // SAFETY: the text lives as long as the type.
-        unsafe { text_of(raw::sel_type_arrow_format(self.at())) }
+        str::from_utf8(unsafe { bytes_of(raw::sel_type_arrow_format(self.at())) }).unwrap_or_default()
     }
 
     /// Returns the name as a field; empty if it has none, or none in UTF-8.
     pub fn name(&self) -> &str {
+        str::from_utf8(self.name_bytes()).unwrap_or_default()
+    }
+
+    /// Returns the bytes of the name as a field; empty if it has none.
+    pub(crate) fn name_bytes(&self) -> &[u8] {
         // SAFETY: the text lives as long as the type.
-        unsafe { text_of(raw::sel_type_name(self.at())) }
+        unsafe { bytes_of(raw::sel_type_name(self.at())) }
     }
 
     /// Returns the number of children.

@@ -5,6 +5,7 @@ use crate::arrow_type::{common_type, ArrowType};
 use crate::column::{infallible, Column};
 use crate::error::Error;
 use crate::kernels;
+use crate::kind::Kind;
 use crate::memory::collect;
 use std::ptr;
 
@@ -133,15 +134,22 @@ impl TypedColumn {
         Ok(TypedColumn { column, arrow_type: self.arrow_type.child(0)?.as_field("", true)? })
     }
 
-    /// Returns a field of structs.
+    /// Returns a field of structs. A row of it at a null struct value is whatever the column holds there. The result is nullable
+    /// if structs and rows of the field are null.
     pub fn field(&self, number: usize) -> Result<TypedColumn, Error> {
-        Ok(TypedColumn { column: self.column.field(number)?, arrow_type: self.arrow_type.child(number)? })
+        let (column, arrow_type) = (self.column.field(number)?, self.arrow_type.child(number)?);
+        if self.column.null_count() == 0 || column.null_count() == 0 {
+            return Ok(TypedColumn { column, arrow_type });
+        }
+        Ok(TypedColumn { column, arrow_type: arrow_type.as_nullable()? })
     }
 
-    /// Returns the field of structs with this name, the first one if there are several.
+    /// Returns the field of structs with this name, the first one if there are several; `None` if there is none, as in a
+    /// column of a different type. A field without a name has the empty one.
     pub fn field_named(&self, name: &str) -> Result<Option<TypedColumn>, Error> {
-        for number in 0..self.arrow_type.child_count() {
-            if self.arrow_type.child(number)?.name() == name {
+        let count = if self.column.kind() == Kind::Struct { self.arrow_type.child_count() } else { 0 };
+        for number in 0..count {
+            if self.arrow_type.child(number)?.name_bytes() == name.as_bytes() {
                 return self.field(number).map(Some);
             }
         }

@@ -287,6 +287,23 @@ fn nulls_make_a_type_nullable() -> Result<(), Error> {
 }
 
 #[test]
+fn a_field_of_null_structs_is_nullable() -> Result<(), Error> {
+    let strict = ArrowType::new("l", &[])?.as_field("id", false)?;
+    let record = ArrowType::new("+s", &[&strict])?;
+    let field_of = |rows: [Option<i64>; 2], validity: [bool; 2]| {
+        let column = Column::new_struct(2, vec![Column::from_options(&rows)?], Some(&validity))?;
+        TypedColumn::new(column, record.clone())?.field(0)
+    };
+    let field = field_of([Some(1), None], [true, false])?;
+    assert_eq!((field.column().to_string().as_str(), field.arrow_type()), ("[1,null]", &strict.as_field("id", true)?));
+    assert!(field.to_arrow().is_ok());
+    assert_eq!(field_of([Some(1), Some(2)], [true, false])?.arrow_type(), &strict);
+    // a null that no null struct hides is an error of the export
+    assert_eq!(field_of([Some(1), None], [true, true])?.to_arrow().err(), Some(Error::Arrow(72)));
+    Ok(())
+}
+
+#[test]
 fn parts_have_their_types() -> Result<(), Error> {
     let (id, price) =
         (ArrowType::new("l", &[])?.as_field("id", false)?, ArrowType::new("g", &[])?.as_field("price", true)?);
