@@ -22,8 +22,7 @@ impl Column {
     /// # }
     /// ```
     pub fn filter(&self, mask: &Column) -> Result<Column, Error> {
-        let mask = mask.try_clone()?;
-        // SAFETY: three distinct handles.
+        // SAFETY: the handles are valid; those that are read may be the same, and `out` is another one.
         Column::made(|out| unsafe { raw::sel_filter(self.at(), mask.at(), out) })
     }
 
@@ -62,8 +61,7 @@ impl Column {
     /// # }
     /// ```
     pub fn take(&self, indices: &Column) -> Result<Column, Error> {
-        let indices = indices.try_clone()?;
-        // SAFETY: three distinct handles.
+        // SAFETY: as in `filter`.
         Column::made(|out| unsafe { raw::sel_take(self.at(), indices.at(), out) })
     }
 
@@ -169,8 +167,7 @@ impl Column {
     /// # }
     /// ```
     pub fn fixed_size_list_get_each(&self, indices: &Column, null_on_oob: bool) -> Result<Column, Error> {
-        let indices = indices.try_clone()?;
-        // SAFETY: three distinct handles.
+        // SAFETY: as in `filter`.
         Column::made(|out| unsafe { raw::sel_fixed_size_list_get_each(self.at(), indices.at(), null_on_oob, out) })
     }
 
