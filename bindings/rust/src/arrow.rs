@@ -147,6 +147,7 @@ macro_rules! structures {
             /// array until it is released, which may be done on any thread. This holds for the arrays of a stream too: they
             /// have the type that its schema describes, and buffers as long as this type and their lengths require. The
             /// `get_last_error` of a stream may be called at any time before its release, also if no call has failed.
+            #[must_use = "the structure is released when it is dropped"]
             pub unsafe fn from_raw(at: *mut $name) -> $name {
                 // SAFETY: the caller ensures that the pointer is valid.
                 unsafe { ptr::replace(at, $name::empty()) }

@@ -85,35 +85,11 @@ impl DataType {
             DataType::Struct(_) => Kind::Struct,
         }
     }
-
-    /// Returns the name of a type without children.
-    fn name(&self) -> &'static str {
-        match self {
-            DataType::Null => "null",
-            DataType::Boolean => "bool",
-            DataType::Int8 => "i8",
-            DataType::Int16 => "i16",
-            DataType::Int32 => "i32",
-            DataType::Int64 => "i64",
-            DataType::Int128 => "i128",
-            DataType::UInt8 => "u8",
-            DataType::UInt16 => "u16",
-            DataType::UInt32 => "u32",
-            DataType::UInt64 => "u64",
-            DataType::UInt128 => "u128",
-            DataType::Binary => "binary",
-            DataType::BinaryView => "binview",
-            DataType::StringView => "utf8",
-            DataType::List(_) => "list",
-            DataType::FixedSizeList(..) => "fixed",
-            DataType::Struct(_) => "struct",
-        }
-    }
 }
 
 impl fmt::Display for DataType {
     fn fmt(&self, f: &mut fmt::Formatter<'_>) -> fmt::Result {
-        f.write_str(self.name())?;
+        f.write_str(self.kind().name())?;
         match self {
             DataType::List(child) => write!(f, "<{child}>"),
             DataType::FixedSizeList(child, list_size) => write!(f, "<{list_size},{child}>"),

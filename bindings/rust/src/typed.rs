@@ -99,6 +99,15 @@ impl TypedColumn {
         &self.arrow_type
     }
 
+    /// Returns a second column of the same rows and type, which shares the memory of the column; [`Clone`] aborts if an
+    /// allocation fails.
+    ///
+    /// # Errors
+    /// [`Error::OutOfMemory`].
+    pub fn try_clone(&self) -> Result<TypedColumn, Error> {
+        self.like(self.column.try_clone()?)
+    }
+
     /// Returns the column and its type.
     pub fn into_parts(self) -> (Column, ArrowType) {
         (self.column, self.arrow_type)
