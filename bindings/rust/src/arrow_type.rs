@@ -114,8 +114,9 @@ impl ArrowType {
     /// ```
     ///
     /// # Errors
-    /// [`Error::Arrow`] for another format; [`Error::WrongArgument`] if the values do not have the storage of their type;
-    /// [`Error::Limit`] for more than 128 levels; [`Error::OutOfMemory`].
+    /// [`Error::Arrow`] for another format, or if the type of the values has a dictionary without values;
+    /// [`Error::WrongArgument`] if the values do not have the storage of their type; [`Error::OutOfBounds`] if a value is a key
+    /// that has no row in its dictionary; [`Error::Limit`] for more than 128 levels; [`Error::OutOfMemory`].
     pub fn dictionary(
         format: &str,
         values: &Column,
@@ -139,10 +140,13 @@ impl ArrowType {
         ArrowType::made(|out| unsafe { raw::sel_type_of_storage(column.at(), out) })
     }
 
-    /// Returns the type of a schema, without the values of its dictionaries.
+    /// Returns the type of a schema, without the values of its dictionaries: no column can be exported, decoded or joined with a
+    /// type that lacks them.
     ///
     /// # Errors
-    /// As [`Column::from_arrow`] for a schema.
+    /// [`Error::Arrow`] if the schema is released, or has an unsupported format or another number of children than its format
+    /// has; [`Error::Malformed`] for a list size of more than 4,294,967,295; [`Error::Limit`] for more than 128 levels;
+    /// [`Error::OutOfMemory`].
     ///
     /// # Safety
     /// The schema is released, or one that the Arrow C data interface allows.
@@ -162,7 +166,7 @@ impl ArrowType {
         Ok(schema)
     }
 
-    /// Returns the type as a field with this name.
+    /// Returns the type as a field with this name, nullable or not. The metadata and the other flags are kept.
     ///
     /// # Errors
     /// [`Error::Arrow`] for a name with a zero byte; [`Error::OutOfMemory`].
@@ -195,7 +199,8 @@ impl ArrowType {
         unsafe { bytes_of(raw::sel_type_name(self.at())) }
     }
 
-    /// Returns the number of children.
+    /// Returns the number of children: 1 for lists, the number of fields for structs, and 0 for others. The values of a
+    /// dictionary are not among them.
     pub fn child_count(&self) -> usize {
         // SAFETY: the type is valid.
         unsafe { raw::sel_type_child_count(self.at()) }
@@ -223,7 +228,7 @@ impl ArrowType {
         }
     }
 
-    /// Returns a second handle of the type.
+    /// Returns the same type, which shares its memory; [`Clone`] aborts if an allocation fails.
     ///
     /// # Errors
     /// [`Error::OutOfMemory`].
@@ -283,8 +288,8 @@ impl Column {
     /// names.
     ///
     /// # Errors
-    /// [`Error::WrongArgument`] if the column does not have the storage of the type; [`Error::OutOfBounds`] if a key has no
-    /// row in its dictionary; [`Error::Limit`]; [`Error::OutOfMemory`].
+    /// [`Error::WrongArgument`] if the column does not have the storage of the type; [`Error::Arrow`] if a dictionary has no
+    /// values; [`Error::OutOfBounds`] if a key has no row in its dictionary; [`Error::Limit`]; [`Error::OutOfMemory`].
     pub fn decode(&self, of_type: &ArrowType) -> Result<(Column, ArrowType), Error> {
         let mut found = ArrowType::empty();
         // SAFETY: the column and the type are valid, and both results are empty.
@@ -301,7 +306,8 @@ impl Column {
 ///
 /// # Errors
 /// [`Error::WrongArgument`] if there is no column, if the types differ, or if a column does not have the storage of its
-/// type; [`Error::OutOfBounds`] if a key has no row in its dictionary; [`Error::Limit`]; [`Error::OutOfMemory`].
+/// type; [`Error::Arrow`] if a dictionary has no values; [`Error::OutOfBounds`] if a key has no row in its dictionary;
+/// [`Error::Limit`]; [`Error::OutOfMemory`].
 ///
 /// ```
 /// # use sel::{common_type, ArrowType, Column, Error};

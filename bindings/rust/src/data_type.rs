@@ -9,7 +9,7 @@ use std::str::FromStr;
 
 /// The type of a column: its kind, with the types of its children.
 ///
-/// A type is printed and parsed in the notation of [`Column::parse`].
+/// A type is printed and parsed in the notation of [`Column::parse`], which reads types of at most 64 levels.
 ///
 /// ```
 /// use sel::DataType;
@@ -109,7 +109,11 @@ impl fmt::Display for DataType {
 impl FromStr for DataType {
     type Err = Error;
 
-    /// Parses a type; the errors are those of [`Column::parse`].
+    /// Parses a type.
+    ///
+    /// # Errors
+    /// [`Error::Text`] with the offset of the first byte with which no type goes on; [`Error::Limit`] for more than 64 levels
+    /// or a list size of more than 4,294,967,295; [`Error::OutOfMemory`].
     fn from_str(text: &str) -> Result<DataType, Error> {
         Column::parse(text, "[]")?.data_type()
     }
@@ -117,6 +121,9 @@ impl FromStr for DataType {
 
 impl Column {
     /// Returns the type of the column.
+    ///
+    /// # Errors
+    /// [`Error::OutOfMemory`].
     ///
     /// ```
     /// # use sel::{Column, DataType, Error};

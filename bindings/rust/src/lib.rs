@@ -42,9 +42,12 @@
 //!
 //! # Threads
 //! A [`Column`] and a [`Selection`] are `Send` and `Sync`: threads may read the same column at the same time, and move and drop columns that
-//! share memory. `examples/threads.rs` filters the columns of a batch on several threads.
+//! share memory. So are an [`ArrowType`] and a [`TypedColumn`], but not a [`StreamReader`] and the structures of the
+//! Arrow C interfaces, whose producer may depend on its thread. `examples/threads.rs` filters the columns of a batch on several threads.
 //!
-//! No function panics, except that cloning, comparison and formatting cannot return an error: see [`Column`].
+//! # Errors and panics
+//! Functions return an [`Error`], and none panics. Cloning, comparison and formatting cannot return an error: they abort if an
+//! allocation fails (see [`Column`] and [`TypedColumn`]).
 //!
 //! # The functions of the C headers
 //!

@@ -102,7 +102,7 @@ impl StreamReader {
         ArrowType::made(|out| unsafe { raw::sel_stream_type(&handle, out) })
     }
 
-    /// Returns the producer's message if its last call was an error.
+    /// Returns the producer's message if its last call was an error; else, or if it has no message, `None`.
     pub fn message(&mut self) -> Option<String> {
         // SAFETY: the handle is valid, and the text lives up to the next call.
         self.handle.with(|handle| unsafe { owned_text(raw::sel_stream_message(handle)) })

@@ -68,13 +68,19 @@ impl TypedColumn {
         Ok(TypedColumn { column, arrow_type })
     }
 
-    /// Returns a column with the type of its storage.
+    /// Returns a column with the type of its storage, see [`ArrowType::of_storage`].
+    ///
+    /// # Errors
+    /// [`Error::OutOfMemory`].
     pub fn of_storage(column: Column) -> Result<TypedColumn, Error> {
         let arrow_type = ArrowType::of_storage(&column)?;
         Ok(TypedColumn { column, arrow_type })
     }
 
     /// Makes a column of an array of the Arrow C data interface, as [`Column::from_arrow_with_type`] does.
+    ///
+    /// # Errors
+    /// As [`Column::from_arrow_with_type`].
     ///
     /// # Safety
     /// As for [`Column::from_arrow`].
@@ -85,6 +91,9 @@ impl TypedColumn {
     }
 
     /// Returns an array of the Arrow C data interface, which shares the buffers of the column, as [`Column::to_arrow_as`] does.
+    ///
+    /// # Errors
+    /// As [`Column::to_arrow_as`].
     pub fn to_arrow(&self) -> Result<(ArrowArray, ArrowSchema), Error> {
         self.column.to_arrow_as(&self.arrow_type)
     }
@@ -137,7 +146,7 @@ impl TypedColumn {
         self.like(self.column.slice(offset, len)?)
     }
 
-    /// Returns the element of each list at the index, null if there is none.
+    /// Returns the element of each list at the index, null if there is none. The result is nullable and has no name.
     pub fn list_get(&self, index: i64) -> Result<TypedColumn, Error> {
         let column = self.column.list_get(index)?;
         Ok(TypedColumn { column, arrow_type: self.arrow_type.child(0)?.as_field("", true)? })

@@ -210,7 +210,9 @@ impl Column {
         make_by(raw::sel_string_view_new, views, &buffers, &Validity::new(validity, views.len())?)
     }
 
-    /// Returns the rows of a string column.
+    /// Returns the rows of a string column, `None` where they are null.
+    ///
+    /// Each data buffer with a string of these rows is copied once as a whole.
     ///
     /// # Errors
     /// [`Error::WrongArgument`] if the column has another kind; [`Error::OutOfMemory`].
