@@ -165,7 +165,7 @@ pub use arrow::{unsupported_format, ArrowArray, ArrowArrayStream, ArrowSchema};
 pub use arrow_type::{common_type, ArrowType};
 pub use column::Column;
 pub use data_type::DataType;
-pub use error::Error;
+pub use error::{status, Error};
 pub use kernels::{
     choose, choose_of_two, choose_one, choose_or_one, collect_rows, flatten, if_then_else, if_then_else_broadcast_both,
     if_then_else_broadcast_false, if_then_else_broadcast_true, propagate_dictionary,
