@@ -38,7 +38,8 @@
 //!
 //! # Requirements
 //! The crate has no dependencies and requires Rust 1.73. It links `libsel.a`, or `libsel.so` if the environment variable
-//! `SEL_LIBRARY_KIND` is `dylib` at build time, from the folder that `SEL_LIBRARY_DIR` names, or else from the checkout's `build`.
+//! `SEL_LIBRARY_KIND` is `dylib` at build time, from the folder that `SEL_LIBRARY_DIR` names by an absolute path, or else from the
+//! checkout's `build`. An empty variable counts as not set.
 //!
 //! # Threads
 //! A [`Column`] and a [`Selection`] are `Send` and `Sync`: threads may read the same column at the same time, and move and drop columns that
