@@ -273,7 +273,7 @@ impl Eq for ArrowType {}
 impl fmt::Display for ArrowType {
     fn fmt(&self, f: &mut fmt::Formatter<'_>) -> fmt::Result {
         let text = self.to_text().unwrap_or_else(|_| handle_alloc_error(Layout::new::<TypeHandle>()));
-        f.write_str(&text)
+        f.pad(&text)
     }
 }
 

@@ -368,9 +368,9 @@ impl PartialEq for Column {
 impl Eq for Column {}
 
 impl fmt::Display for Column {
-    /// Prints the rows as [`to_text`](Column::to_text) does.
+    /// Prints the rows as [`to_text`](Column::to_text) does, padded to the width or cut off at the precision of the format.
     fn fmt(&self, f: &mut fmt::Formatter<'_>) -> fmt::Result {
-        f.write_str(&infallible(self.to_text()))
+        f.pad(&infallible(self.to_text()))
     }
 }
 

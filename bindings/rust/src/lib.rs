@@ -48,7 +48,7 @@
 //!
 //! # Errors and panics
 //! Functions return an [`Error`], and none panics. Cloning, comparison and formatting cannot return an error: they abort if an
-//! allocation fails (see [`Column`] and [`TypedColumn`]).
+//! allocation fails (see [`Column`]), and `==` of a [`TypedColumn`] panics if a size limit would be exceeded.
 //!
 //! # The functions of the C headers
 //!

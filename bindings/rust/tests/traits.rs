@@ -57,6 +57,8 @@ fn columns_are_formatted_as_text() -> Result<(), Error> {
     let column = Column::parse("struct<utf8,bool>", r#"[("a\n\"",true),null]"#)?;
     assert_eq!(column.to_string(), r#"[("a\n\"",true),null]"#);
     assert_eq!(format!("{column:?}"), r#"struct<utf8,bool> [("a\n\"",true),null]"#);
+    let (numbers, date) = (Column::from_values(&[1i64, 2])?, ArrowType::new("tdD", &[])?);
+    assert_eq!(format!("{numbers:>8}|{numbers:.3}|{date:<12}|"), "   [1,2]|[1,|date32[day] |");
     Ok(())
 }
 
