@@ -11,11 +11,21 @@ fn main() -> Result<(), Error> {
     assert_eq!(kept.to_options::<i64>()?, [Some(31), None, Some(45)]);
     assert_eq!(taken.to_options::<i64>()?, [Some(45), Some(31)]);
 
-    let names = Column::from_texts(&[Some("Ada"), Some("Grace"), None, Some("Barbara of the thirteenth")])?;
+    let names = Column::from_texts(&[
+        Some("Ada"),
+        Some("Grace"),
+        None,
+        Some("Barbara of the thirteenth"),
+    ])?;
     println!("{:?}", names.filter(&mask)?.to_texts()?);
 
     // A mask of another length is an error.
     let short = Column::from_bools(&[true])?;
-    println!("{}", ages.filter(&short).err().map_or(String::new(), |error| error.to_string()));
+    println!(
+        "{}",
+        ages.filter(&short)
+            .err()
+            .map_or(String::new(), |error| error.to_string())
+    );
     Ok(())
 }

@@ -165,7 +165,10 @@ def python_module(text: str) -> str:
 
 def rust_part(text: str) -> str:
     """The constants, and the arms of the two functions that return the error of a status."""
-    numbers = "".join(f"pub(crate) const {status.name}: u32 = {status.number};\n" for status in statuses())
+    numbers = ""
+    for status in statuses():
+        comment = "".join(f"/// {line}\n" for line in textwrap.wrap(status.comment, 112, break_on_hyphens=False))
+        numbers += f"{comment}pub const {status.name}: u32 = {status.number};\n"
     text = between(text, numbers, "//", "error.rs")
     arms: Dict[str, List[str]] = {}
     for status in statuses():

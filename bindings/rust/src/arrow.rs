@@ -80,7 +80,8 @@ pub struct ArrowArrayStream {
 }
 
 impl ArrowArrayStream {
-    /// Returns a released stream, for a producer to write to.
+    /// Returns a released stream, for a producer to write to. It must write one that meets the conditions of
+    /// [`from_raw`](Self::from_raw).
     pub const fn empty() -> ArrowArrayStream {
         ArrowArrayStream {
             get_schema: None,
@@ -102,7 +103,8 @@ impl ArrowArrayStream {
 }
 
 impl ArrowArray {
-    /// Returns a released array, for a producer to write to.
+    /// Returns a released array, for a producer to write to. It must write one that meets the conditions of
+    /// [`from_raw`](Self::from_raw).
     pub const fn empty() -> ArrowArray {
         ArrowArray {
             length: 0,
@@ -120,7 +122,8 @@ impl ArrowArray {
 }
 
 impl ArrowSchema {
-    /// Returns a released schema, for a producer to write to.
+    /// Returns a released schema, for a producer to write to. It must write one that meets the conditions of
+    /// [`from_raw`](Self::from_raw).
     pub const fn empty() -> ArrowSchema {
         ArrowSchema {
             format: ptr::null(),
@@ -147,6 +150,7 @@ macro_rules! structures {
             /// array until it is released, which may be done on any thread. This holds for the arrays of a stream too: they
             /// have the type that its schema describes, and buffers as long as this type and their lengths require. The
             /// `get_last_error` of a stream may be called at any time before its release, also if no call has failed.
+            #[must_use = "the structure is released when it is dropped"]
             pub unsafe fn from_raw(at: *mut $name) -> $name {
                 // SAFETY: the caller ensures that the pointer is valid.
                 unsafe { ptr::replace(at, $name::empty()) }
@@ -193,7 +197,8 @@ pub(crate) unsafe fn owned_text(text: *const c_char) -> Option<String> {
     (!text.is_null()).then(|| unsafe { CStr::from_ptr(text) }.to_string_lossy().into_owned())
 }
 
-/// Returns the first format of a schema, at any depth, that [`Column::from_arrow`] does not support.
+/// Returns the first format of a schema, at any depth, that [`Column::from_arrow`] does not support; `None` if there is none, or
+/// none before a level below 128 others.
 ///
 /// # Safety
 /// The schema is released, or one that the Arrow C data interface allows.
@@ -208,13 +213,13 @@ impl Column {
     /// The column reads the array's buffers, without a copy of most of them: `include/sel_arrow.h` has a table. The array is
     /// released after the last column over them is dropped. The column has the storage of the array's type: floats and times
     /// are integers, strings views. Its type is lost; [`from_arrow_with_type`](Column::from_arrow_with_type) returns it too.
-    /// Unions are errors, and keys of a dictionary.
+    /// Unions and dictionaries are errors.
     ///
     /// # Errors
     /// [`Error::Arrow`] if the array or the schema is released, has an unsupported format, other buffers or children than
-    /// its format has, or a length, an offset or a null count out of range; [`Error::Malformed`] if its values break a rule
-    /// of columns, or for more than 4,294,967,295 rows; [`Error::Limit`] for more than 128 levels of lists and structs;
-    /// [`Error::OutOfMemory`].
+    /// its format has, or a length, an offset or a null count out of range, or for a null in a field that is not nullable;
+    /// [`Error::Malformed`] if its values break a rule of columns, or for more than 4,294,967,295 rows; [`Error::Limit`] for
+    /// more than 128 levels of lists and structs; [`Error::OutOfMemory`].
     ///
     /// # Safety
     /// The array is of the type that the schema describes, and its buffers are as long as this type and its length
@@ -237,10 +242,11 @@ impl Column {
     }
 
     /// Makes a column of an array of the Arrow C data interface, as [`from_arrow`](Column::from_arrow) does, and returns its
-    /// logical type too.
+    /// logical type too. Keys of a dictionary stay keys, and the dictionary is a part of the type.
     ///
     /// # Errors
-    /// As [`from_arrow`](Column::from_arrow); [`Error::OutOfBounds`] if a key has no row in its dictionary.
+    /// As [`from_arrow`](Column::from_arrow), except that dictionaries are imported; [`Error::OutOfBounds`] if a key has no
+    /// row in its dictionary.
     ///
     /// # Safety
     /// As for [`from_arrow`](Column::from_arrow).
@@ -280,8 +286,8 @@ impl Column {
     ///
     /// # Errors
     /// [`Error::WrongArgument`] if the column does not have the storage of the type; [`Error::OutOfBounds`] if a key has no
-    /// row in its dictionary; [`Error::Arrow`] for a value that the format cannot represent, and for a null in a field that
-    /// is not nullable; [`Error::OutOfMemory`].
+    /// row in its dictionary; [`Error::Arrow`] for a dictionary without values, for a value that the format cannot represent,
+    /// and for a null in a field that is not nullable; [`Error::OutOfMemory`].
     pub fn to_arrow_as(&self, of_type: &ArrowType) -> Result<(ArrowArray, ArrowSchema), Error> {
         self.exported(of_type.at())
     }

@@ -8,7 +8,7 @@ use crate::memory::{collect, try_collect, zeroed};
 use crate::raw::{self, Handle, TypeHandle};
 use std::alloc::{handle_alloc_error, Layout};
 use std::ffi::{c_char, CStr, CString};
-use std::{fmt, ptr};
+use std::{fmt, ptr, str};
 
 /// The logical type of a column: the Arrow schema that it came with, at every depth, and its dictionaries.
 ///
@@ -49,16 +49,16 @@ fn c_text(text: &str) -> Result<CString, Error> {
     CString::from_vec_with_nul(bytes).map_err(|_| Error::of(status::ARROW_FORMAT))
 }
 
-/// Returns a text of the library, which lives as long as what it belongs to; empty if there is none.
+/// Returns the bytes of a text of the library, which lives as long as what it belongs to; empty if there is none.
 ///
 /// # Safety
 /// The pointer is null, or that of a string which ends with a zero and lives as long as the result is used.
-unsafe fn text_of<'a>(text: *const c_char) -> &'a str {
+unsafe fn bytes_of<'a>(text: *const c_char) -> &'a [u8] {
     if text.is_null() {
-        return "";
+        return &[];
     }
     // SAFETY: the caller ensures that the pointer is that of a string.
-    unsafe { CStr::from_ptr(text) }.to_str().unwrap_or_default()
+    unsafe { CStr::from_ptr(text) }.to_bytes()
 }
 
 impl ArrowType {
@@ -114,8 +114,9 @@ impl ArrowType {
     /// ```
     ///
     /// # Errors
-    /// [`Error::Arrow`] for another format; [`Error::WrongArgument`] if the values do not have the storage of their type;
-    /// [`Error::Limit`] for more than 128 levels; [`Error::OutOfMemory`].
+    /// [`Error::Arrow`] for another format, or if the type of the values has a dictionary without values;
+    /// [`Error::WrongArgument`] if the values do not have the storage of their type; [`Error::OutOfBounds`] if a value is a key
+    /// that has no row in its dictionary; [`Error::Limit`] for more than 128 levels; [`Error::OutOfMemory`].
     pub fn dictionary(
         format: &str,
         values: &Column,
@@ -139,10 +140,13 @@ impl ArrowType {
         ArrowType::made(|out| unsafe { raw::sel_type_of_storage(column.at(), out) })
     }
 
-    /// Returns the type of a schema, without the values of its dictionaries.
+    /// Returns the type of a schema, without the values of its dictionaries: no column can be exported, decoded or joined with a
+    /// type that lacks them.
     ///
     /// # Errors
-    /// As [`Column::from_arrow`] for a schema.
+    /// [`Error::Arrow`] if the schema is released, or has an unsupported format or another number of children than its format
+    /// has; [`Error::Malformed`] for a list size of more than 4,294,967,295; [`Error::Limit`] for more than 128 levels;
+    /// [`Error::OutOfMemory`].
     ///
     /// # Safety
     /// The schema is released, or one that the Arrow C data interface allows.
@@ -162,7 +166,7 @@ impl ArrowType {
         Ok(schema)
     }
 
-    /// Returns the type as a field with this name.
+    /// Returns the type as a field with this name, nullable or not. The metadata and the other flags are kept.
     ///
     /// # Errors
     /// [`Error::Arrow`] for a name with a zero byte; [`Error::OutOfMemory`].
@@ -178,19 +182,25 @@ impl ArrowType {
         ArrowType::made(|out| unsafe { raw::sel_type_as_field(self.at(), raw::sel_type_name(self.at()), true, out) })
     }
 
-    /// Returns the Arrow format.
+    /// Returns the Arrow format; empty if it is not UTF-8, as with such a time zone.
     pub fn format(&self) -> &str {
         // SAFETY: the text lives as long as the type.
-        unsafe { text_of(raw::sel_type_arrow_format(self.at())) }
+        str::from_utf8(unsafe { bytes_of(raw::sel_type_arrow_format(self.at())) }).unwrap_or_default()
     }
 
     /// Returns the name as a field; empty if it has none, or none in UTF-8.
     pub fn name(&self) -> &str {
-        // SAFETY: the text lives as long as the type.
-        unsafe { text_of(raw::sel_type_name(self.at())) }
+        str::from_utf8(self.name_bytes()).unwrap_or_default()
     }
 
-    /// Returns the number of children.
+    /// Returns the bytes of the name as a field; empty if it has none.
+    pub(crate) fn name_bytes(&self) -> &[u8] {
+        // SAFETY: the text lives as long as the type.
+        unsafe { bytes_of(raw::sel_type_name(self.at())) }
+    }
+
+    /// Returns the number of children: 1 for lists, the number of fields for structs, and 0 for others. The values of a
+    /// dictionary are not among them.
     pub fn child_count(&self) -> usize {
         // SAFETY: the type is valid.
         unsafe { raw::sel_type_child_count(self.at()) }
@@ -218,7 +228,7 @@ impl ArrowType {
         }
     }
 
-    /// Returns a second handle of the type.
+    /// Returns the same type, which shares its memory; [`Clone`] aborts if an allocation fails.
     ///
     /// # Errors
     /// [`Error::OutOfMemory`].
@@ -258,10 +268,12 @@ impl PartialEq for ArrowType {
     }
 }
 
+impl Eq for ArrowType {}
+
 impl fmt::Display for ArrowType {
     fn fmt(&self, f: &mut fmt::Formatter<'_>) -> fmt::Result {
         let text = self.to_text().unwrap_or_else(|_| handle_alloc_error(Layout::new::<TypeHandle>()));
-        f.write_str(&text)
+        f.pad(&text)
     }
 }
 
@@ -276,8 +288,8 @@ impl Column {
     /// names.
     ///
     /// # Errors
-    /// [`Error::WrongArgument`] if the column does not have the storage of the type; [`Error::OutOfBounds`] if a key has no
-    /// row in its dictionary; [`Error::Limit`]; [`Error::OutOfMemory`].
+    /// [`Error::WrongArgument`] if the column does not have the storage of the type; [`Error::Arrow`] if a dictionary has no
+    /// values; [`Error::OutOfBounds`] if a key has no row in its dictionary; [`Error::Limit`]; [`Error::OutOfMemory`].
     pub fn decode(&self, of_type: &ArrowType) -> Result<(Column, ArrowType), Error> {
         let mut found = ArrowType::empty();
         // SAFETY: the column and the type are valid, and both results are empty.
@@ -294,7 +306,8 @@ impl Column {
 ///
 /// # Errors
 /// [`Error::WrongArgument`] if there is no column, if the types differ, or if a column does not have the storage of its
-/// type; [`Error::OutOfBounds`] if a key has no row in its dictionary; [`Error::Limit`]; [`Error::OutOfMemory`].
+/// type; [`Error::Arrow`] if a dictionary has no values; [`Error::OutOfBounds`] if a key has no row in its dictionary;
+/// [`Error::Limit`]; [`Error::OutOfMemory`].
 ///
 /// ```
 /// # use sel::{common_type, ArrowType, Column, Error};

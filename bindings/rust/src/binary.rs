@@ -75,7 +75,9 @@ impl Column {
         Column::made_of_offsets(&offsets, &bytes, validity)
     }
 
-    /// Returns the rows of a binary column, of binary views or of a string column.
+    /// Returns the rows of a binary column, of binary views or of a string column, `None` where they are null.
+    ///
+    /// The bytes are copied once as a whole, for a slice of a binary column also those outside of its rows.
     ///
     /// # Errors
     /// [`Error::WrongArgument`] if the column has another kind; [`Error::OutOfMemory`].
@@ -101,7 +103,8 @@ impl Column {
         try_collect(rows.map(row))
     }
 
-    /// Returns the bytes of a binary column that its [`offsets`](Column::offsets) refer to.
+    /// Returns a copy of the bytes of a binary column that its [`offsets`](Column::offsets) refer to, including those outside of
+    /// the rows.
     ///
     /// # Errors
     /// [`Error::WrongArgument`] if the column has another kind; [`Error::OutOfMemory`].

@@ -149,7 +149,7 @@ impl Column {
         unsafe { raw::sel_len(self.at()) }
     }
 
-    /// Returns whether there are no rows.
+    /// Returns whether the column has no rows.
     pub fn is_empty(&self) -> bool {
         self.len() == 0
     }
@@ -167,6 +167,9 @@ impl Column {
 
     /// Returns for each row whether it is valid.
     ///
+    /// # Errors
+    /// [`Error::OutOfMemory`].
+    ///
     /// ```
     /// # fn main() -> Result<(), sel::Error> {
     /// assert_eq!(sel::Column::from_options(&[Some(7i64), None])?.valid()?, [true, false]);
@@ -181,7 +184,11 @@ impl Column {
 
     /// Returns the validity: for each row whether it is valid, or `None` if the column has no validity.
     ///
-    /// Without a validity all rows are valid, except that those of the type `null` are null.
+    /// Without a validity all rows are valid, except that those of the type `null` are null. A column with a validity may
+    /// have no null row.
+    ///
+    /// # Errors
+    /// [`Error::OutOfMemory`].
     ///
     /// ```
     /// # fn main() -> Result<(), sel::Error> {
@@ -261,7 +268,7 @@ impl Column {
     /// Integers are compared by their values, whatever their width; values in null slots are ignored.
     ///
     /// # Errors
-    /// [`Error::OutOfMemory`].
+    /// None at present: the comparison does not allocate.
     ///
     /// ```
     /// # use sel::{Column, Error};
@@ -310,7 +317,10 @@ impl Column {
         String::from_utf8(bytes).map_err(|_| Error::of(status::INVALID_UTF8))
     }
 
-    /// The type as text, as [`Column::parse`] reads it.
+    /// Returns the type as text, as [`Column::parse`] reads it if it has at most 64 levels.
+    ///
+    /// # Errors
+    /// [`Error::OutOfMemory`].
     ///
     /// ```
     /// # use sel::{Column, Error};
@@ -331,7 +341,7 @@ impl Column {
 }
 
 /// Returns the value, or ends as the standard library does after a failed allocation.
-fn infallible<T>(result: Result<T, Error>) -> T {
+pub(crate) fn infallible<T>(result: Result<T, Error>) -> T {
     match result {
         Ok(value) => value,
         Err(Error::OutOfMemory) => handle_alloc_error(Layout::new::<Column>()),
@@ -358,9 +368,9 @@ impl PartialEq for Column {
 impl Eq for Column {}
 
 impl fmt::Display for Column {
-    /// Prints the rows as [`to_text`](Column::to_text) does.
+    /// Prints the rows as [`to_text`](Column::to_text) does, padded to the width or cut off at the precision of the format.
     fn fmt(&self, f: &mut fmt::Formatter<'_>) -> fmt::Result {
-        f.write_str(&infallible(self.to_text()))
+        f.pad(&infallible(self.to_text()))
     }
 }
 

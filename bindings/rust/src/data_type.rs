@@ -9,7 +9,7 @@ use std::str::FromStr;
 
 /// The type of a column: its kind, with the types of its children.
 ///
-/// A type is printed and parsed in the notation of [`Column::parse`].
+/// A type is printed and parsed in the notation of [`Column::parse`], which reads types of at most 64 levels.
 ///
 /// ```
 /// use sel::DataType;
@@ -85,35 +85,11 @@ impl DataType {
             DataType::Struct(_) => Kind::Struct,
         }
     }
-
-    /// Returns the name of a type without children.
-    fn name(&self) -> &'static str {
-        match self {
-            DataType::Null => "null",
-            DataType::Boolean => "bool",
-            DataType::Int8 => "i8",
-            DataType::Int16 => "i16",
-            DataType::Int32 => "i32",
-            DataType::Int64 => "i64",
-            DataType::Int128 => "i128",
-            DataType::UInt8 => "u8",
-            DataType::UInt16 => "u16",
-            DataType::UInt32 => "u32",
-            DataType::UInt64 => "u64",
-            DataType::UInt128 => "u128",
-            DataType::Binary => "binary",
-            DataType::BinaryView => "binview",
-            DataType::StringView => "utf8",
-            DataType::List(_) => "list",
-            DataType::FixedSizeList(..) => "fixed",
-            DataType::Struct(_) => "struct",
-        }
-    }
 }
 
 impl fmt::Display for DataType {
     fn fmt(&self, f: &mut fmt::Formatter<'_>) -> fmt::Result {
-        f.write_str(self.name())?;
+        f.write_str(self.kind().name())?;
         match self {
             DataType::List(child) => write!(f, "<{child}>"),
             DataType::FixedSizeList(child, list_size) => write!(f, "<{list_size},{child}>"),
@@ -133,7 +109,11 @@ impl fmt::Display for DataType {
 impl FromStr for DataType {
     type Err = Error;
 
-    /// Parses a type; the errors are those of [`Column::parse`].
+    /// Parses a type.
+    ///
+    /// # Errors
+    /// [`Error::Text`] with the offset of the first byte with which no type goes on; [`Error::Limit`] for more than 64 levels
+    /// or a list size of more than 4,294,967,295; [`Error::OutOfMemory`].
     fn from_str(text: &str) -> Result<DataType, Error> {
         Column::parse(text, "[]")?.data_type()
     }
@@ -141,6 +121,9 @@ impl FromStr for DataType {
 
 impl Column {
     /// Returns the type of the column.
+    ///
+    /// # Errors
+    /// [`Error::OutOfMemory`].
     ///
     /// ```
     /// # use sel::{Column, DataType, Error};

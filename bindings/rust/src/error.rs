@@ -4,66 +4,117 @@ use crate::raw;
 use std::ffi::CStr;
 use std::fmt;
 
-/// The statuses of `include/sel.h`.
-#[allow(dead_code)] // The crate itself returns some of them.
-pub(crate) mod status {
+/// The statuses of `include/sel.h` and `include/sel_arrow.h`: the numbers of [`Error`], by their names in C without `SEL_ERROR_`.
+///
+/// ```
+/// use sel::{status, Column, Error};
+/// # fn main() -> Result<(), Error> {
+/// let (numbers, mask) = (Column::from_values(&[1i64, 2])?, Column::from_bools(&[true])?);
+/// match numbers.filter(&mask) {
+///     Err(Error::WrongArgument(status::LENGTH_MISMATCH)) => {}
+///     other => panic!("a mask of another length gives {other:?}"),
+/// }
+/// # Ok(())
+/// # }
+/// ```
+pub mod status {
     // begin: written by tools/statuses.py
-    pub(crate) const OK: u32 = 0;
-    pub(crate) const OUT_OF_MEMORY: u32 = 1;
-    pub(crate) const NO_COLUMN: u32 = 2;
-    pub(crate) const UNSUPPORTED_TYPE: u32 = 3;
-    pub(crate) const TYPE_MISMATCH: u32 = 4;
-    pub(crate) const LENGTH_MISMATCH: u32 = 5;
-    pub(crate) const INDEX_OUT_OF_BOUNDS: u32 = 6;
-    pub(crate) const LIST_INDEX_OUT_OF_BOUNDS: u32 = 7;
-    pub(crate) const ROW_LIMIT: u32 = 8;
-    pub(crate) const OFFSET_LIMIT: u32 = 9;
-    pub(crate) const BUFFER_LIMIT: u32 = 10;
-    pub(crate) const VIEW_LIMIT: u32 = 11;
-    pub(crate) const TOO_DEEP: u32 = 12;
-    pub(crate) const NO_OFFSETS: u32 = 16;
-    pub(crate) const NEGATIVE_OFFSET: u32 = 17;
-    pub(crate) const DECREASING_OFFSET: u32 = 18;
-    pub(crate) const TOO_MANY_ROWS: u32 = 19;
-    pub(crate) const TOO_MANY_BUFFERS: u32 = 20;
-    pub(crate) const LIST_SIZE: u32 = 21;
-    pub(crate) const OFFSET_RANGE: u32 = 22;
-    pub(crate) const CHILD_LENGTH: u32 = 23;
-    pub(crate) const FIELD_LENGTH: u32 = 24;
-    pub(crate) const VALIDITY_LENGTH: u32 = 25;
-    pub(crate) const VIEW_RANGE: u32 = 26;
-    pub(crate) const VIEW_PREFIX: u32 = 27;
-    pub(crate) const INVALID_UTF8: u32 = 28;
-    pub(crate) const TYPE_SYNTAX: u32 = 32;
-    pub(crate) const ROW_SYNTAX: u32 = 33;
-    pub(crate) const ROW_TYPE_MISMATCH: u32 = 34;
-    pub(crate) const TEXT_LIMIT: u32 = 35;
-    pub(crate) const ARROW_RELEASED: u32 = 64;
-    pub(crate) const ARROW_FORMAT: u32 = 65;
-    pub(crate) const ARROW_BUFFERS: u32 = 66;
-    pub(crate) const ARROW_CHILDREN: u32 = 67;
-    pub(crate) const ARROW_LENGTH: u32 = 68;
-    pub(crate) const ARROW_DICTIONARY: u32 = 69;
-    pub(crate) const ARROW_RANGE: u32 = 71;
-    pub(crate) const ARROW_NULL: u32 = 72;
-    pub(crate) const ARROW_STREAM: u32 = 73;
+    /// Success.
+    pub const OK: u32 = 0;
+    /// Out of memory: an allocation failed.
+    pub const OUT_OF_MEMORY: u32 = 1;
+    /// A handle that has to have a column is empty.
+    pub const NO_COLUMN: u32 = 2;
+    /// The column has a type that the call does not support.
+    pub const UNSUPPORTED_TYPE: u32 = 3;
+    /// The columns do not have the same type.
+    pub const TYPE_MISMATCH: u32 = 4;
+    /// Lengths do not match.
+    pub const LENGTH_MISMATCH: u32 = 5;
+    /// An index, a key or a row reference is out of bounds.
+    pub const INDEX_OUT_OF_BOUNDS: u32 = 6;
+    /// A list that is not null has no element at the index.
+    pub const LIST_INDEX_OUT_OF_BOUNDS: u32 = 7;
+    /// The result would have more than 4,294,967,295 rows at some depth.
+    pub const ROW_LIMIT: u32 = 8;
+    /// A binary column of the result would exceed the range of its 64-bit offsets.
+    pub const OFFSET_LIMIT: u32 = 9;
+    /// A view column of the result would have more than 4,294,967,295 data buffers.
+    pub const BUFFER_LIMIT: u32 = 10;
+    /// A view or a broadcast scalar would have more than 4,294,967,295 bytes.
+    pub const VIEW_LIMIT: u32 = 11;
+    /// The column would have more than 128 levels.
+    pub const TOO_DEEP: u32 = 12;
+    /// There are no offsets.
+    pub const NO_OFFSETS: u32 = 16;
+    /// An offset is negative.
+    pub const NEGATIVE_OFFSET: u32 = 17;
+    /// An offset is less than the previous one.
+    pub const DECREASING_OFFSET: u32 = 18;
+    /// There are more than 4,294,967,295 rows.
+    pub const TOO_MANY_ROWS: u32 = 19;
+    /// There are more than 4,294,967,295 data buffers.
+    pub const TOO_MANY_BUFFERS: u32 = 20;
+    /// The list size of a fixed-size list exceeds 4,294,967,295.
+    pub const LIST_SIZE: u32 = 21;
+    /// The last offset exceeds the length of the values or the child.
+    pub const OFFSET_RANGE: u32 = 22;
+    /// The child of fixed-size lists does not have length times list size rows.
+    pub const CHILD_LENGTH: u32 = 23;
+    /// A field does not have as many rows as its struct.
+    pub const FIELD_LENGTH: u32 = 24;
+    /// The validity has fewer bits than there are rows.
+    pub const VALIDITY_LENGTH: u32 = 25;
+    /// A view points outside of its data buffer, or to a data buffer that does not exist.
+    pub const VIEW_RANGE: u32 = 26;
+    /// The prefix of a view differs from the first four bytes that the view points to.
+    pub const VIEW_PREFIX: u32 = 27;
+    /// A valid row of a string column is not UTF-8.
+    pub const INVALID_UTF8: u32 = 28;
+    /// Syntax error in the type.
+    pub const TYPE_SYNTAX: u32 = 32;
+    /// Syntax error in the row text.
+    pub const ROW_SYNTAX: u32 = 33;
+    /// A value in the row text does not fit the type.
+    pub const ROW_TYPE_MISMATCH: u32 = 34;
+    /// The type or the rows exceed a size limit, or the type is nested more than 64 levels deep.
+    pub const TEXT_LIMIT: u32 = 35;
+    /// The Arrow array or the schema, or one below it, was released.
+    pub const ARROW_RELEASED: u32 = 64;
+    /// An unsupported Arrow format.
+    pub const ARROW_FORMAT: u32 = 65;
+    /// Another number of buffers than the format has, or a missing one.
+    pub const ARROW_BUFFERS: u32 = 66;
+    /// Another number of children than the format has, or a missing one.
+    pub const ARROW_CHILDREN: u32 = 67;
+    /// A length, an offset or a null count is out of range, or a child is too short.
+    pub const ARROW_LENGTH: u32 = 68;
+    /// A dictionary in only one of the array and the schema, keys that are not integers, or no type to keep a
+    /// dictionary in.
+    pub const ARROW_DICTIONARY: u32 = 69;
+    /// A value or an offset that the format cannot represent.
+    pub const ARROW_RANGE: u32 = 71;
+    /// A null in a field that is not nullable, or in run ends.
+    pub const ARROW_NULL: u32 = 72;
+    /// The producer of a stream reports an error.
+    pub const ARROW_STREAM: u32 = 73;
     // end: written by tools/statuses.py
 }
 
-/// An error of a function, with its status in `include/sel.h` or `include/sel_arrow.h`.
+/// An error of a function, with its status in `include/sel.h` or `include/sel_arrow.h`: one of [`status`](mod@status).
 ///
 /// The texts that [`Display`](fmt::Display) writes come from the library.
 ///
 /// ```
-/// use sel::{Column, Error};
+/// use sel::{status, Column, Error};
 /// # fn main() -> Result<(), Error> {
-/// let error = Column::from_values(&[1i64, 2])?.sliced(1, 2).unwrap_err();
-/// assert!(matches!(error, Error::OutOfBounds(6)));
-/// assert_eq!(error.status(), 6);
+/// let error = Column::from_values(&[1i64, 2])?.slice(1, 2).unwrap_err();
+/// assert_eq!(error, Error::OutOfBounds(status::INDEX_OUT_OF_BOUNDS));
+/// assert_eq!((error.status(), error.to_string()), (6, "index out of bounds".to_string()));
 /// # Ok(())
 /// # }
 /// ```
-#[derive(Clone, Copy, Debug, PartialEq, Eq)]
+#[derive(Clone, Copy, Debug, PartialEq, Eq, Hash)]
 #[non_exhaustive]
 pub enum Error {
     /// An allocation failed.

@@ -22,8 +22,7 @@ impl Column {
     /// # }
     /// ```
     pub fn filter(&self, mask: &Column) -> Result<Column, Error> {
-        let mask = mask.try_clone()?;
-        // SAFETY: three distinct handles.
+        // SAFETY: the handles are valid; those that are read may be the same, and `out` is another one.
         Column::made(|out| unsafe { raw::sel_filter(self.at(), mask.at(), out) })
     }
 
@@ -62,8 +61,7 @@ impl Column {
     /// # }
     /// ```
     pub fn take(&self, indices: &Column) -> Result<Column, Error> {
-        let indices = indices.try_clone()?;
-        // SAFETY: three distinct handles.
+        // SAFETY: as in `filter`.
         Column::made(|out| unsafe { raw::sel_take(self.at(), indices.at(), out) })
     }
 
@@ -169,8 +167,7 @@ impl Column {
     /// # }
     /// ```
     pub fn fixed_size_list_get_each(&self, indices: &Column, null_on_oob: bool) -> Result<Column, Error> {
-        let indices = indices.try_clone()?;
-        // SAFETY: three distinct handles.
+        // SAFETY: as in `filter`.
         Column::made(|out| unsafe { raw::sel_fixed_size_list_get_each(self.at(), indices.at(), null_on_oob, out) })
     }
 
@@ -289,6 +286,9 @@ pub fn if_then_else(mask: &Column, if_true: &Column, if_false: &Column) -> Resul
 
 /// Returns the same as [`if_then_else`] with the only row of `if_true` for each row where `mask` is true.
 ///
+/// # Errors
+/// As [`if_then_else`]; [`Error::WrongArgument`] if `if_true` has not one row.
+///
 /// ```
 /// # use sel::{if_then_else_broadcast_true, Column, Error};
 /// # fn main() -> Result<(), Error> {
@@ -303,6 +303,9 @@ pub fn if_then_else_broadcast_true(mask: &Column, if_true: &Column, if_false: &C
 
 /// Returns the same as [`if_then_else`] with the only row of `if_false` for each row where `mask` is not true.
 ///
+/// # Errors
+/// As [`if_then_else`]; [`Error::WrongArgument`] if `if_false` has not one row.
+///
 /// ```
 /// # use sel::{if_then_else_broadcast_false, Column, Error};
 /// # fn main() -> Result<(), Error> {
@@ -315,7 +318,11 @@ pub fn if_then_else_broadcast_false(mask: &Column, if_true: &Column, if_false: &
     if_then_else_by(raw::sel_if_then_else_broadcast_false, mask, if_true, if_false)
 }
 
-/// Returns the same as [`if_then_else`] with the only row of `if_true` and the only row of `if_false`.
+/// Returns the same as [`if_then_else`] with the only row of `if_true` and the only row of `if_false`. The result has as many
+/// rows as the mask.
+///
+/// # Errors
+/// As [`if_then_else`]; [`Error::WrongArgument`] if `if_true` or `if_false` has not one row.
 ///
 /// ```
 /// # use sel::{if_then_else_broadcast_both, Column, Error};

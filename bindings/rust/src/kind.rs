@@ -1,8 +1,17 @@
 //! The kinds of columns.
 
 use crate::error::Error;
+use std::fmt;
 
 /// A kind of column, in the order of `enum sel_type_id` in `include/sel.h`.
+///
+/// It prints as the types of the kind begin in the notation of [`Column::parse`](crate::Column::parse).
+///
+/// ```
+/// # use sel::Kind;
+/// let kinds = [Kind::Int64, Kind::StringView, Kind::List, Kind::FixedSizeList].map(|kind| kind.to_string());
+/// assert_eq!(kinds, ["i64", "utf8", "list", "fixed"]);
+/// ```
 #[derive(Clone, Copy, Debug, PartialEq, Eq, Hash)]
 pub enum Kind {
     /// Nulls only.
@@ -63,6 +72,38 @@ const KINDS: [Kind; 18] = [
     Kind::FixedSizeList,
     Kind::Struct,
 ];
+
+impl Kind {
+    /// Returns the name with which the types of the kind begin.
+    pub(crate) fn name(self) -> &'static str {
+        match self {
+            Kind::Null => "null",
+            Kind::Boolean => "bool",
+            Kind::Int8 => "i8",
+            Kind::Int16 => "i16",
+            Kind::Int32 => "i32",
+            Kind::Int64 => "i64",
+            Kind::Int128 => "i128",
+            Kind::UInt8 => "u8",
+            Kind::UInt16 => "u16",
+            Kind::UInt32 => "u32",
+            Kind::UInt64 => "u64",
+            Kind::UInt128 => "u128",
+            Kind::Binary => "binary",
+            Kind::BinaryView => "binview",
+            Kind::StringView => "utf8",
+            Kind::List => "list",
+            Kind::FixedSizeList => "fixed",
+            Kind::Struct => "struct",
+        }
+    }
+}
+
+impl fmt::Display for Kind {
+    fn fmt(&self, f: &mut fmt::Formatter<'_>) -> fmt::Result {
+        f.pad(self.name())
+    }
+}
 
 impl TryFrom<u32> for Kind {
     type Error = Error;

@@ -39,6 +39,9 @@ impl Column {
 
     /// Makes a boolean column without nulls; [`from_options`](Column::from_options) makes one with nulls.
     ///
+    /// # Errors
+    /// [`Error::Malformed`] for more than 4,294,967,295 rows; [`Error::OutOfMemory`].
+    ///
     /// ```
     /// # use sel::{Column, Error};
     /// # fn main() -> Result<(), Error> {
@@ -51,7 +54,10 @@ impl Column {
         Column::from_values(values)
     }
 
-    /// Returns the rows of a boolean column.
+    /// Returns the rows of a boolean column, `None` where they are null.
+    ///
+    /// # Errors
+    /// [`Error::WrongArgument`] if the column has another kind; [`Error::OutOfMemory`].
     ///
     /// ```
     /// # use sel::{Column, Error};

@@ -38,13 +38,17 @@
 //!
 //! # Requirements
 //! The crate has no dependencies and requires Rust 1.73. It links `libsel.a`, or `libsel.so` if the environment variable
-//! `SEL_LIBRARY_KIND` is `dylib` at build time, from the folder that `SEL_LIBRARY_DIR` names, or else from the checkout's `build`.
+//! `SEL_LIBRARY_KIND` is `dylib` at build time, from the folder that `SEL_LIBRARY_DIR` names by an absolute path, or else from the
+//! checkout's `build`. An empty variable counts as not set.
 //!
 //! # Threads
 //! A [`Column`] and a [`Selection`] are `Send` and `Sync`: threads may read the same column at the same time, and move and drop columns that
-//! share memory. `examples/threads.rs` filters the columns of a batch on several threads.
+//! share memory. So are an [`ArrowType`] and a [`TypedColumn`], but not a [`StreamReader`] and the structures of the
+//! Arrow C interfaces, whose producer may depend on its thread. `examples/threads.rs` filters the columns of a batch on several threads.
 //!
-//! No function panics, except that cloning, comparison and formatting cannot return an error: see [`Column`].
+//! # Errors and panics
+//! Functions return an [`Error`], and none panics. Cloning, comparison and formatting cannot return an error: they abort if an
+//! allocation fails (see [`Column`]), and `==` of a [`TypedColumn`] panics if a size limit would be exceeded.
 //!
 //! # The functions of the C headers
 //!
@@ -162,7 +166,7 @@ pub use arrow::{unsupported_format, ArrowArray, ArrowArrayStream, ArrowSchema};
 pub use arrow_type::{common_type, ArrowType};
 pub use column::Column;
 pub use data_type::DataType;
-pub use error::Error;
+pub use error::{status, Error};
 pub use kernels::{
     choose, choose_of_two, choose_one, choose_or_one, collect_rows, flatten, if_then_else, if_then_else_broadcast_both,
     if_then_else_broadcast_false, if_then_else_broadcast_true, propagate_dictionary,

@@ -34,7 +34,7 @@ impl Column {
         })
     }
 
-    /// Makes a column of lists without nulls: see [`new_list`](Column::new_list).
+    /// Makes a column of lists without nulls; the errors are those of [`new_list`](Column::new_list).
     ///
     /// ```
     /// # use sel::{Column, Error};
@@ -77,7 +77,8 @@ impl Column {
         })
     }
 
-    /// Makes a column of fixed-size lists without nulls: see [`new_fixed_size_list`](Column::new_fixed_size_list).
+    /// Makes a column of fixed-size lists without nulls; the errors are those of
+    /// [`new_fixed_size_list`](Column::new_fixed_size_list).
     ///
     /// ```
     /// # use sel::{Column, Error};
@@ -115,7 +116,7 @@ impl Column {
         })
     }
 
-    /// Makes a column of struct values without nulls: see [`new_struct`](Column::new_struct).
+    /// Makes a column of struct values without nulls; the errors are those of [`new_struct`](Column::new_struct).
     ///
     /// ```
     /// # use sel::{Column, Error};

@@ -7,12 +7,15 @@ use crate::error::{checked, status, Error};
 use crate::handle::OwnedHandle;
 use crate::raw::{self, Handle, StreamHandle, TypeHandle};
 use std::ffi::c_void;
+use std::iter::FusedIterator;
 use std::panic::{catch_unwind, AssertUnwindSafe};
 use std::{mem, ptr};
 
 /// A stream that is read: an iterator over its batches, columns with their types.
 ///
-/// A batch that could not be imported is imported again by the next call.
+/// After an error the next call asks the producer again, or imports the same batch again if its import failed. So an error
+/// that does not pass is returned by each further call: a loop that ignores errors, as by [`Iterator::flatten`], may not end.
+/// After the last batch the producer is not asked again.
 ///
 /// ```
 /// # use sel::{export_stream, ArrowType, Column, Error, StreamReader};
@@ -27,8 +30,10 @@ use std::{mem, ptr};
 /// # }
 /// ```
 #[derive(Debug)]
+#[must_use = "a stream is released when it is dropped"]
 pub struct StreamReader {
     handle: OwnedStream,
+    has_ended: bool,
 }
 
 #[derive(Debug)]
@@ -84,7 +89,7 @@ impl StreamReader {
         let mut handle = OwnedStream { at: ptr::null_mut() };
         // SAFETY: the stream is valid or released, and the handle is empty.
         checked(handle.with(|out| unsafe { raw::sel_stream_open(stream, out) }))?;
-        Ok(StreamReader { handle })
+        Ok(StreamReader { handle, has_ended: false })
     }
 
     /// Returns the type of the batches, without the values of dictionaries.
@@ -97,7 +102,7 @@ impl StreamReader {
         ArrowType::made(|out| unsafe { raw::sel_stream_type(&handle, out) })
     }
 
-    /// Returns the producer's message if its last call was an error.
+    /// Returns the producer's message if its last call was an error; else, or if it has no message, `None`.
     pub fn message(&mut self) -> Option<String> {
         // SAFETY: the handle is valid, and the text lives up to the next call.
         self.handle.with(|handle| unsafe { owned_text(raw::sel_stream_message(handle)) })
@@ -119,14 +124,65 @@ impl Iterator for StreamReader {
     type Item = Result<(Column, ArrowType), Error>;
 
     fn next(&mut self) -> Option<Self::Item> {
-        self.next_batch().transpose()
+        if self.has_ended {
+            return None;
+        }
+        let next = self.next_batch().transpose();
+        self.has_ended = next.is_none();
+        next
     }
 }
 
+impl FusedIterator for StreamReader {}
+
 /// A batch of a stream that is written, and its type; without one it has that of the stream.
+///
+/// The consumer gets the text of an error's status. An error of another library is `Err(Error::Arrow(73))`, the status of a
+/// producer that reports an error.
 pub type Batch = Result<(Column, Option<ArrowType>), Error>;
 
-type Batches = Box<dyn Iterator<Item = Batch>>;
+/// An iterator that is exported, and whether it may be called again.
+struct Producer {
+    batches: Box<dyn Iterator<Item = Batch>>,
+    state: State,
+}
+
+enum State {
+    Open,
+    Ended,
+    Panicked,
+}
+
+impl Producer {
+    /// Returns the next batch, `None` after the last one, or the status of an error.
+    fn next_batch(&mut self) -> Result<Option<(Column, Option<ArrowType>)>, u32> {
+        match self.state {
+            State::Open => {}
+            State::Ended => return Ok(None),
+            State::Panicked => return Err(status::ARROW_STREAM),
+        }
+        match caught(|| self.batches.next()) {
+            Some(Some(Ok(batch))) => Ok(Some(batch)),
+            Some(Some(Err(error))) => Err(status_of(error)),
+            Some(None) => {
+                self.state = State::Ended;
+                Ok(None)
+            }
+            None => {
+                self.state = State::Panicked;
+                Err(status::ARROW_STREAM)
+            }
+        }
+    }
+}
+
+/// Returns the status of an error. It is never that of success, which an error can have as its number: the stream would end.
+fn status_of(error: Error) -> u32 {
+    match error.status() {
+        status::OK => status::ARROW_STREAM,
+        other => other,
+    }
+}
 
 /// Runs code of the iterator; returns `None` if it panics, since a panic must not pass through the consumer.
 fn caught<T>(call: impl FnOnce() -> T) -> Option<T> {
@@ -144,33 +200,35 @@ fn caught<T>(call: impl FnOnce() -> T) -> Option<T> {
 
 unsafe extern "C" fn next_of(context: *mut c_void, out: *mut Handle, out_type: *mut TypeHandle) -> u32 {
     // SAFETY: the context is that of `export_stream`, and the consumer makes one call at a time.
-    let batches = unsafe { &mut *context.cast::<Batches>() };
-    let Some(next) = caught(|| batches.next()) else { return status::ARROW_STREAM };
-    match next {
-        None => status::OK,
-        Some(Err(error)) => error.status(),
-        Some(Ok((column, of_type))) => {
-            // SAFETY: both results are valid and empty handles.
-            let shared = unsafe { raw::sel_share(column.at(), out) };
-            match of_type {
-                // SAFETY: the type is valid.
-                Some(of_type) if shared == status::OK => unsafe { raw::sel_type_share(of_type.at(), out_type) },
-                _ => shared,
-            }
-        }
+    let producer = unsafe { &mut *context.cast::<Producer>() };
+    let (column, of_type) = match producer.next_batch() {
+        Ok(Some(batch)) => batch,
+        Ok(None) => return status::OK,
+        Err(status) => return status,
+    };
+    // SAFETY: both results are valid and empty handles.
+    let shared = unsafe { raw::sel_share(column.at(), out) };
+    match of_type {
+        // SAFETY: the type is valid.
+        Some(of_type) if shared == status::OK => unsafe { raw::sel_type_share(of_type.at(), out_type) },
+        _ => shared,
     }
 }
 
 unsafe extern "C" fn free_of(context: *mut c_void) {
     // SAFETY: the context is that of `export_stream`, and this is called once.
-    let batches = unsafe { Box::from_raw(context.cast::<Batches>()) };
-    caught(|| drop(batches));
+    let producer = unsafe { Box::from_raw(context.cast::<Producer>()) };
+    caught(|| drop(producer));
 }
 
 /// Returns a stream that exports the batches of an iterator as the consumer asks for them. Each has the schema of the type.
 ///
-/// If the iterator panics in [`next`](Iterator::next), the stream reports an error. If it panics when it is dropped, the
+/// The iterator is not called again once it has returned `None`. If it panics in [`next`](Iterator::next), it is not called
+/// again either, and the stream reports an error at this call and at each further one. If it panics when it is dropped, the
 /// panic is caught and not reported.
+///
+/// The iterator is called and dropped on the thread on which the consumer reads and releases the stream. Who moves the stream
+/// to a consumer in another language must ensure that this is the same thread, unless the iterator is [`Send`].
 ///
 /// # Errors
 /// [`Error::OutOfMemory`].
@@ -178,8 +236,8 @@ pub fn export_stream(
     of_type: &ArrowType,
     batches: impl Iterator<Item = Batch> + 'static,
 ) -> Result<ArrowArrayStream, Error> {
-    let boxed: Batches = Box::new(batches);
-    let context = Box::into_raw(Box::new(boxed)).cast::<c_void>();
+    let producer = Producer { batches: Box::new(batches), state: State::Open };
+    let context = Box::into_raw(Box::new(producer)).cast::<c_void>();
     let mut stream = ArrowArrayStream::empty();
     // SAFETY: the type is valid, the stream is released, and the functions are those of this context.
     let found = unsafe { raw::sel_stream_export(of_type.at(), next_of, context, free_of, &mut stream) };

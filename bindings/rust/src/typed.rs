@@ -2,10 +2,12 @@
 
 use crate::arrow::{ArrowArray, ArrowSchema};
 use crate::arrow_type::{common_type, ArrowType};
-use crate::column::Column;
+use crate::column::{infallible, Column};
 use crate::error::Error;
 use crate::kernels;
+use crate::kind::Kind;
 use crate::memory::collect;
+use std::ptr;
 
 /// A column with its logical type: kernels return columns of the type that the result has in Arrow.
 ///
@@ -25,7 +27,26 @@ use crate::memory::collect;
 /// # Errors
 /// Each function returns the errors of the function of [`Column`] that has its name. Functions of several columns return
 /// those of [`common_type`] too.
-#[derive(Clone, Debug, PartialEq)]
+///
+/// # Equality
+/// Two columns are equal by `==` if they have equal types and the same rows. Keys are compared by the values of the
+/// dictionary that they refer to, and floats by their bits; values in null slots are ignored. If an allocation fails, `==`
+/// aborts, as that of [`Column`] does, and it panics if a column without its dictionaries would exceed a size limit. To get
+/// these errors, compare the results of [`decode`](TypedColumn::decode).
+///
+/// ```
+/// # use sel::{ArrowType, Column, Error, TypedColumn};
+/// # fn main() -> Result<(), Error> {
+/// let words = |words: &[&str], keys: &[u8]| {
+///     let coded = ArrowType::dictionary("C", &Column::from_values(words)?, None, false)?;
+///     TypedColumn::new(Column::from_values(keys)?, coded)
+/// };
+/// assert_eq!(words(&["a", "b"], &[0, 1])?, words(&["b", "a"], &[1, 0])?);
+/// assert_ne!(words(&["a", "b"], &[0, 1])?, words(&["b", "a"], &[0, 1])?);
+/// # Ok(())
+/// # }
+/// ```
+#[derive(Clone, Debug)]
 pub struct TypedColumn {
     column: Column,
     arrow_type: ArrowType,
@@ -47,13 +68,19 @@ impl TypedColumn {
         Ok(TypedColumn { column, arrow_type })
     }
 
-    /// Returns a column with the type of its storage.
+    /// Returns a column with the type of its storage, see [`ArrowType::of_storage`].
+    ///
+    /// # Errors
+    /// [`Error::OutOfMemory`].
     pub fn of_storage(column: Column) -> Result<TypedColumn, Error> {
         let arrow_type = ArrowType::of_storage(&column)?;
         Ok(TypedColumn { column, arrow_type })
     }
 
     /// Makes a column of an array of the Arrow C data interface, as [`Column::from_arrow_with_type`] does.
+    ///
+    /// # Errors
+    /// As [`Column::from_arrow_with_type`].
     ///
     /// # Safety
     /// As for [`Column::from_arrow`].
@@ -64,6 +91,9 @@ impl TypedColumn {
     }
 
     /// Returns an array of the Arrow C data interface, which shares the buffers of the column, as [`Column::to_arrow_as`] does.
+    ///
+    /// # Errors
+    /// As [`Column::to_arrow_as`].
     pub fn to_arrow(&self) -> Result<(ArrowArray, ArrowSchema), Error> {
         self.column.to_arrow_as(&self.arrow_type)
     }
@@ -76,6 +106,15 @@ impl TypedColumn {
     /// Returns the logical type.
     pub fn arrow_type(&self) -> &ArrowType {
         &self.arrow_type
+    }
+
+    /// Returns a second column of the same rows and type, which shares the memory of the column; [`Clone`] aborts if an
+    /// allocation fails.
+    ///
+    /// # Errors
+    /// [`Error::OutOfMemory`].
+    pub fn try_clone(&self) -> Result<TypedColumn, Error> {
+        self.like(self.column.try_clone()?)
     }
 
     /// Returns the column and its type.
@@ -107,21 +146,28 @@ impl TypedColumn {
         self.like(self.column.slice(offset, len)?)
     }
 
-    /// Returns the element of each list at the index, null if there is none.
+    /// Returns the element of each list at the index, null if there is none. The result is nullable and has no name.
     pub fn list_get(&self, index: i64) -> Result<TypedColumn, Error> {
         let column = self.column.list_get(index)?;
         Ok(TypedColumn { column, arrow_type: self.arrow_type.child(0)?.as_field("", true)? })
     }
 
-    /// Returns a field of structs.
+    /// Returns a field of structs. A row of it at a null struct value is whatever the column holds there. The result is nullable
+    /// if structs and rows of the field are null.
     pub fn field(&self, number: usize) -> Result<TypedColumn, Error> {
-        Ok(TypedColumn { column: self.column.field(number)?, arrow_type: self.arrow_type.child(number)? })
+        let (column, arrow_type) = (self.column.field(number)?, self.arrow_type.child(number)?);
+        if self.column.null_count() == 0 || column.null_count() == 0 {
+            return Ok(TypedColumn { column, arrow_type });
+        }
+        Ok(TypedColumn { column, arrow_type: arrow_type.as_nullable()? })
     }
 
-    /// Returns the field of structs with this name, the first one if there are several.
+    /// Returns the field of structs with this name, the first one if there are several; `None` if there is none, as in a
+    /// column of a different type. A field without a name has the empty one.
     pub fn field_named(&self, name: &str) -> Result<Option<TypedColumn>, Error> {
-        for number in 0..self.arrow_type.child_count() {
-            if self.arrow_type.child(number)?.name() == name {
+        let count = if self.column.kind() == Kind::Struct { self.arrow_type.child_count() } else { 0 };
+        for number in 0..count {
+            if self.arrow_type.child(number)?.name_bytes() == name.as_bytes() {
                 return self.field(number).map(Some);
             }
         }
@@ -156,3 +202,20 @@ impl TypedColumn {
         Ok(TypedColumn { column, arrow_type: arrow_type.as_nullable()? })
     }
 }
+
+impl TypedColumn {
+    /// Returns whether both columns have equal types and the same rows, with the values of dictionaries in place of keys.
+    fn try_eq(&self, other: &TypedColumn) -> Result<bool, Error> {
+        let may_be_equal = self.arrow_type == other.arrow_type && self.column.len() == other.column.len();
+        Ok(may_be_equal && self.decode()?.column.equals(&other.decode()?.column)?)
+    }
+}
+
+impl PartialEq for TypedColumn {
+    /// Returns whether both columns have equal types and the same rows.
+    fn eq(&self, other: &TypedColumn) -> bool {
+        ptr::eq(self, other) || infallible(self.try_eq(other))
+    }
+}
+
+impl Eq for TypedColumn {}

@@ -122,10 +122,11 @@ impl sealed::Read for Vec<u8> {
 }
 
 impl Column {
-    /// Makes a column of values without nulls.
+    /// Makes a column of values without nulls, which are copied.
     ///
     /// # Errors
-    /// [`Error::Malformed`] for more than 4,294,967,295 rows; [`Error::OutOfMemory`].
+    /// [`Error::Malformed`] for more than 4,294,967,295 rows; [`Error::Limit`] for a string of more bytes than that;
+    /// [`Error::OutOfMemory`].
     ///
     /// ```
     /// # use sel::{Column, Error};
@@ -142,7 +143,8 @@ impl Column {
     /// Makes a column of values, where row `i` is null if `validity[i]` is false; the value is in the null slot.
     ///
     /// # Errors
-    /// [`Error::Malformed`] if the lengths differ or for more than 4,294,967,295 rows; [`Error::OutOfMemory`].
+    /// [`Error::Malformed`] if the lengths differ or for more than 4,294,967,295 rows; [`Error::Limit`] for a string of more
+    /// bytes than that; [`Error::OutOfMemory`].
     ///
     /// ```
     /// # use sel::{Column, Error};
@@ -158,10 +160,10 @@ impl Column {
         T::make(values, &Validity::new(Some(validity), values.len())?)
     }
 
-    /// Makes a column of rows that are null where they are `None`.
+    /// Makes a column of rows that are null where they are `None`. It has a validity, also if no row is `None`.
     ///
     /// # Errors
-    /// [`Error::Malformed`] for more than 4,294,967,295 rows; [`Error::OutOfMemory`].
+    /// As [`from_values`](Column::from_values).
     ///
     /// ```
     /// # use sel::{Column, Error};
@@ -226,7 +228,8 @@ impl Column {
         T::read(self)
     }
 
-    /// Returns an iterator over the rows as values of this type, `None` where they are null.
+    /// Returns an iterator over the rows as values of this type, `None` where they are null. It owns copies of all rows, which
+    /// this call reads, as [`to_options`](Column::to_options) does.
     ///
     /// # Errors
     /// As [`to_options`](Column::to_options).

@@ -75,11 +75,16 @@ impl ViewBuilder {
     }
 }
 
+/// Returns whether the bytes of a view lie in it.
+fn is_inline(view: &View) -> bool {
+    usize::try_from(view.length).is_ok_and(|len| len <= INLINE)
+}
+
 /// Returns the bytes of a view, which lie in it or in a data buffer.
 fn bytes_of(view: &View, buffers: &[Vec<u8>]) -> Result<Vec<u8>, Error> {
     let out_of_range = |_| Error::of(status::VIEW_RANGE);
     let len = usize::try_from(view.length).map_err(out_of_range)?;
-    if len <= INLINE {
+    if is_inline(view) {
         let words = [view.prefix, view.buffer, view.offset];
         return collect(words.iter().flat_map(|word| word.to_le_bytes()).take(len));
     }
@@ -205,7 +210,9 @@ impl Column {
         make_by(raw::sel_string_view_new, views, &buffers, &Validity::new(validity, views.len())?)
     }
 
-    /// Returns the rows of a string column.
+    /// Returns the rows of a string column, `None` where they are null.
+    ///
+    /// Each data buffer with a string of these rows is copied once as a whole.
     ///
     /// # Errors
     /// [`Error::WrongArgument`] if the column has another kind; [`Error::OutOfMemory`].
@@ -225,9 +232,23 @@ impl Column {
 
     /// Returns the rows of a column of views.
     pub(crate) fn view_bytes(&self) -> Result<Vec<Option<Vec<u8>>>, Error> {
-        let (views, buffers) = (self.views()?, self.buffers()?);
-        let rows = views.iter().zip(self.valid()?);
+        let (views, valid) = (self.views()?, self.valid()?);
+        let buffers = self.buffers_of(&views, &valid)?;
+        let rows = views.iter().zip(valid);
         try_collect(rows.map(|(view, valid)| valid.then(|| bytes_of(view, &buffers)).transpose()))
+    }
+
+    /// Returns the data buffers; those that no valid view refers to are empty.
+    fn buffers_of(&self, views: &[View], valid: &[bool]) -> Result<Vec<Vec<u8>>, Error> {
+        let mut is_used = zeroed::<bool>(self.buffer_count()?)?;
+        for view in views.iter().zip(valid).filter_map(|(view, valid)| valid.then_some(view)) {
+            let buffer = if is_inline(view) { None } else { usize::try_from(view.buffer).ok() };
+            if let Some(is_used) = buffer.and_then(|buffer| is_used.get_mut(buffer)) {
+                *is_used = true;
+            }
+        }
+        let buffers = is_used.into_iter().enumerate();
+        try_collect(buffers.map(|(i, is_used)| if is_used { self.buffer(i) } else { Ok(Vec::new()) }))
     }
 
     /// Returns the views of a string column or of binary views; those in null slots are whatever the column holds there.
@@ -255,7 +276,7 @@ impl Column {
         Ok(views)
     }
 
-    /// Returns the data buffers that the [`views`](Column::views) refer to.
+    /// Returns copies of the data buffers that the [`views`](Column::views) refer to. A slice has all buffers of its column.
     ///
     /// # Errors
     /// [`Error::WrongArgument`] if the column has another kind; [`Error::OutOfMemory`].
@@ -268,10 +289,14 @@ impl Column {
     /// # }
     /// ```
     pub fn buffers(&self) -> Result<Vec<Vec<u8>>, Error> {
+        try_collect((0..self.buffer_count()?).map(|i| self.buffer(i)))
+    }
+
+    fn buffer_count(&self) -> Result<usize, Error> {
         let mut count = 0;
         // SAFETY: the handle is owned by the column.
         checked(unsafe { raw::sel_buffer_count(self.at(), &mut count) })?;
-        try_collect((0..count).map(|i| self.buffer(i)))
+        Ok(count)
     }
 
     fn buffer(&self, i: usize) -> Result<Vec<u8>, Error> {

@@ -283,6 +283,29 @@ fn a_null_index_changes_no_name_of_a_nullable_type() -> Result<(), Error> {
 }
 
 #[test]
+fn a_field_is_found_by_the_bytes_of_its_name() -> Result<(), Error> {
+    let named = |name: Option<&'static CStr>| {
+        let schema = schema_of(c_text(b"i\0"), name, &Rc::default());
+        // SAFETY: the schema is valid.
+        unsafe { ArrowType::from_schema(&schema) }
+    };
+    let (odd, a, none) = (named(Some(c_text(b"\xff\0")))?, named(Some(c_text(b"a\0")))?, named(None)?);
+    assert_eq!((odd.name(), a.name(), none.name()), ("", "a", ""));
+    let found = |types: &[&ArrowType], name: &str| {
+        let columns =
+            (1..).zip(types).map(|(row, _): (i32, _)| Column::from_values(&[row])).collect::<Result<_, _>>()?;
+        let rows = TypedColumn::new(Column::tuples(1, columns)?, ArrowType::new("+s", types)?)?;
+        Ok(rows.field_named(name)?.map(|field| field.column().to_string()))
+    };
+    assert_eq!(found(&[&odd, &a, &none], ""), Ok(Some("[3]".to_string())));
+    assert_eq!(found(&[&odd, &a, &a], "a"), Ok(Some("[2]".to_string())));
+    assert_eq!(found(&[&odd, &a], ""), Ok::<_, Error>(None));
+    let lists = TypedColumn::new(Column::from_values(&[1i32])?.unit_list()?, ArrowType::new("+l", &[&a])?)?;
+    assert_eq!(lists.field_named("a")?, None);
+    Ok(())
+}
+
+#[test]
 fn structures_are_formatted_without_their_pointers() -> Result<(), Error> {
     let (array, schema) = Column::from_values(&[1i64])?.to_arrow()?;
     assert_eq!(

@@ -9,6 +9,8 @@ thread_local! {
     static LEFT: Cell<Option<usize>> = const { Cell::new(None) };
     /// Whether an allocation failed.
     static HAS_FAILED: Cell<bool> = const { Cell::new(false) };
+    /// The bytes of the largest allocation since this was set to 0.
+    static LARGEST: Cell<usize> = const { Cell::new(0) };
 }
 
 /// The allocator of the system, one allocation of which fails.
@@ -35,6 +37,7 @@ unsafe impl GlobalAlloc for Failing {
         if fails() {
             return std::ptr::null_mut();
         }
+        LARGEST.set(LARGEST.get().max(layout.size()));
         // SAFETY: as the caller ensures.
         unsafe { System.alloc(layout) }
     }
@@ -48,6 +51,7 @@ unsafe impl GlobalAlloc for Failing {
         if fails() {
             return std::ptr::null_mut();
         }
+        LARGEST.set(LARGEST.get().max(size));
         // SAFETY: as the caller ensures.
         unsafe { System.realloc(at, layout, size) }
     }
@@ -104,6 +108,20 @@ fn columns_are_read_or_out_of_memory() {
     assert!(fail_each(|| of("list<i8>", "[[1],null]").offsets()) >= 1);
     assert!(fail_each(|| numbers.to_text()) >= 1);
     assert_eq!(fail_each(|| numbers.as_slice::<i64>().map(<[i64]>::len)), 0);
+}
+
+#[test]
+fn data_buffers_of_other_rows_are_not_copied() {
+    let long = "a long text ".repeat(10_000);
+    let texts = Column::from_texts(&[Some(&long), Some("short"), None]).expect("a column");
+    let bytes = Column::from_byte_views(&[Some(long.as_bytes()), Some(b"short"), None]).expect("a column");
+    let (texts_part, bytes_part) = (texts.slice(1, 2).expect("a slice"), bytes.slice(1, 2).expect("a slice"));
+    LARGEST.set(0);
+    assert_eq!(texts_part.to_texts(), Ok(vec![Some("short".to_string()), None]));
+    assert_eq!(bytes_part.to_bytes(), Ok(vec![Some(b"short".to_vec()), None]));
+    assert!(LARGEST.get() < 10_000, "{} bytes at once", LARGEST.get());
+    assert_eq!(texts.to_texts(), Ok(vec![Some(long), Some("short".to_string()), None]));
+    assert!(LARGEST.get() >= 120_000);
 }
 
 #[test]

@@ -88,3 +88,13 @@ fn reading_another_kind_is_an_error() -> Result<(), Error> {
     }
     Ok(())
 }
+
+#[test]
+fn a_column_can_be_its_own_mask_and_its_own_indices() -> Result<(), Error> {
+    let mask = Column::parse("bool", "[true,null,false,true]")?;
+    assert_eq!(mask.filter(&mask)?.to_text()?, "[true,true]");
+    assert_eq!(choose(&mask, &mask, &mask)?, mask);
+    let indices = Column::parse("u32", "[2,null,1,0]")?;
+    assert_eq!(indices.take(&indices)?.to_text()?, "[1,null,null,2]");
+    Ok(())
+}

@@ -1,6 +1,6 @@
 //! Threads that read the same columns, and columns that are moved to other threads and dropped there.
 
-use sel::{collect_rows, flatten, if_then_else, Column, DataType, Error, Kind, Selection};
+use sel::{collect_rows, flatten, if_then_else, ArrowType, Column, DataType, Error, Kind, Selection, TypedColumn};
 use std::sync::mpsc::channel;
 use std::sync::{Arc, Barrier};
 use std::thread;
@@ -11,9 +11,11 @@ const ROUNDS: usize = 50;
 fn is_send_sync<T: Send + Sync>() {}
 
 #[test]
-fn columns_selections_and_errors_are_send_and_sync() {
+fn columns_selections_types_and_errors_are_send_and_sync() {
     is_send_sync::<Column>();
     is_send_sync::<Selection>();
+    is_send_sync::<ArrowType>();
+    is_send_sync::<TypedColumn>();
     is_send_sync::<Error>();
     is_send_sync::<Kind>();
     is_send_sync::<DataType>();

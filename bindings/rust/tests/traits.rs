@@ -1,6 +1,8 @@
 //! The standard traits of columns: clones, comparison, formatting, conversions and iterators.
 
-use sel::{Column, Error, Value};
+use sel::{ArrowType, Column, Error, Kind, StreamReader, TypedColumn, Value};
+use std::collections::HashSet;
+use std::iter::FusedIterator;
 
 #[test]
 fn clones_outlive_their_column() -> Result<(), Error> {
@@ -55,6 +57,8 @@ fn columns_are_formatted_as_text() -> Result<(), Error> {
     let column = Column::parse("struct<utf8,bool>", r#"[("a\n\"",true),null]"#)?;
     assert_eq!(column.to_string(), r#"[("a\n\"",true),null]"#);
     assert_eq!(format!("{column:?}"), r#"struct<utf8,bool> [("a\n\"",true),null]"#);
+    let (numbers, date) = (Column::from_values(&[1i64, 2])?, ArrowType::new("tdD", &[])?);
+    assert_eq!(format!("{numbers:>8}|{numbers:.3}|{date:<12}|"), "   [1,2]|[1,|date32[day] |");
     Ok(())
 }
 
@@ -121,4 +125,34 @@ fn errors_are_standard_errors() {
     let error: Box<dyn std::error::Error + Send + Sync> = Box::new(Error::OutOfMemory);
     assert_eq!(error.to_string(), "out of memory");
     assert!(error.source().is_none());
+}
+
+#[test]
+fn kinds_are_printed_as_their_types_begin() -> Result<(), Error> {
+    let nested = ["list<i8>", "fixed<2,i8>", "struct<i8>"];
+    let leaves = "null bool i8 i16 i32 i64 i128 u8 u16 u32 u64 u128 binary binview utf8";
+    for text in leaves.split(' ').chain(nested) {
+        let column = Column::parse(text, "[]")?;
+        assert_eq!(Some(column.kind().to_string().as_str()), text.split('<').next());
+        assert_eq!(column.data_type()?.to_string(), text);
+    }
+    assert_eq!(format!("{:>6}|{:<6}|", Kind::Int64, Kind::List), "   i64|list  |");
+    Ok(())
+}
+
+fn is_eq<T: Eq>() {}
+
+fn is_fused<T: FusedIterator>() {}
+
+#[test]
+fn types_have_the_traits_that_collections_need() -> Result<(), Error> {
+    is_eq::<Column>();
+    is_eq::<ArrowType>();
+    is_eq::<TypedColumn>();
+    is_fused::<StreamReader>();
+    let errors: HashSet<Error> = [Error::OutOfMemory, Error::Limit(8), Error::Limit(8)].into_iter().collect();
+    assert_eq!(errors.len(), 2);
+    let typed = TypedColumn::of_storage(Column::from_values(&[1i64])?)?;
+    assert_eq!(typed.try_clone()?, typed.clone());
+    Ok(())
 }

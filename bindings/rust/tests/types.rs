@@ -247,6 +247,32 @@ fn kernels_keep_the_type() -> Result<(), Error> {
     Ok(())
 }
 
+/// Returns a column of keys of a dictionary.
+fn coded(words: &[Option<&str>], keys: &[Option<i16>]) -> Result<TypedColumn, Error> {
+    let of_type = ArrowType::dictionary("s", &Column::from_options(words)?, None, false)?;
+    TypedColumn::new(Column::from_options(keys)?, of_type)
+}
+
+/// Returns a column of lists of one key each.
+fn lists_of(keys: TypedColumn) -> Result<TypedColumn, Error> {
+    let (column, of_type) = keys.into_parts();
+    TypedColumn::new(column.unit_list()?, ArrowType::new("+l", &[&of_type])?)
+}
+
+#[test]
+fn keys_are_compared_by_the_values_of_their_dictionary() -> Result<(), Error> {
+    let first = || coded(&[Some("a"), Some("b"), None], &[Some(0), Some(1), None]);
+    let same = || coded(&[Some("b"), None, Some("a"), Some("b")], &[Some(2), Some(3), Some(1)]);
+    let other = || coded(&[Some("x"), Some("y"), None], &[Some(0), Some(1), None]);
+    assert_eq!(first()?.arrow_type(), other()?.arrow_type());
+    assert_eq!(first()?.column(), other()?.column());
+    assert!(first()? == same()? && first()? != other()? && same()? != other()?);
+    assert!(lists_of(first()?)? == lists_of(same()?)? && lists_of(first()?)? != lists_of(other()?)?);
+    assert_ne!(first()?, first()?.decode()?);
+    assert_ne!(first()?, first()?.slice(0, 2)?);
+    Ok(())
+}
+
 #[test]
 fn nulls_make_a_type_nullable() -> Result<(), Error> {
     let strict = ArrowType::new("g", &[])?.as_field("strict", false)?;
@@ -257,6 +283,23 @@ fn nulls_make_a_type_nullable() -> Result<(), Error> {
     assert_eq!(with_null.arrow_type(), &strict.as_field("strict", true)?);
     assert!(with_null.to_arrow().is_ok());
     assert!(TypedColumn::collect_rows(&[&column], &[Some((0, 0)), None])?.to_arrow().is_ok());
+    Ok(())
+}
+
+#[test]
+fn a_field_of_null_structs_is_nullable() -> Result<(), Error> {
+    let strict = ArrowType::new("l", &[])?.as_field("id", false)?;
+    let record = ArrowType::new("+s", &[&strict])?;
+    let field_of = |rows: [Option<i64>; 2], validity: [bool; 2]| {
+        let column = Column::new_struct(2, vec![Column::from_options(&rows)?], Some(&validity))?;
+        TypedColumn::new(column, record.clone())?.field(0)
+    };
+    let field = field_of([Some(1), None], [true, false])?;
+    assert_eq!((field.column().to_string().as_str(), field.arrow_type()), ("[1,null]", &strict.as_field("id", true)?));
+    assert!(field.to_arrow().is_ok());
+    assert_eq!(field_of([Some(1), Some(2)], [true, false])?.arrow_type(), &strict);
+    // a null that no null struct hides is an error of the export
+    assert_eq!(field_of([Some(1), None], [true, true])?.to_arrow().err(), Some(Error::Arrow(72)));
     Ok(())
 }
 
