@@ -1,11 +1,11 @@
-# make test      runs every check; docs/TESTING.md says what is checked and how long it takes
+# make test      runs every check; docs/TESTING.md says what is checked and how long it takes; make test ANEW=1 also proves again what is cached
 # make check     proves what has changed over cached proofs, then runs the fast checks: for everyday work
-# make setup     installs what the checks use besides the toolchain, and says what for; fails if something is missing afterwards
+# make setup     installs what the checks use besides the toolchain, and prints what each is used for; fails if something is missing afterwards
 # make tour      runs a short example for Rattle callers: a filter, a take, an if-then-else, lists, rows of several columns, an error
 # make run       runs the program on its stored input, or on a file: make run INPUT=file; make build proves and builds it
-# make lib       builds the C library into build/, and prints how far it is; for newer processors into build/x86-64-v3/: make lib CPU=x86-64-v3
+# make lib       proves and builds the C library into build/, and prints its progress; for newer processors into build/x86-64-v3/: make lib CPU=x86-64-v3
 # make install   copies the C libraries that make lib built: make install PREFIX=folder DESTDIR=folder; make uninstall removes them
-# make dist      packs them with the headers and the verdicts into build/sel-VERSION-linux-x86_64.tar.gz, and writes the Python wheel
+# make dist      packs them with the headers and the prover's verdicts into build/sel-VERSION-linux-x86_64.tar.gz, and writes the Python wheel
 # make bench     times the kernels and writes docs/BENCHMARKS.md; make bench QUICK=1 only compares their answers; make bench UPSTREAM=folder adds upstream's kernels
 # make fuzz      runs the fuzz targets: make fuzz MINUTES=n
 # make soak      compares calls on random columns with a model: make soak MINUTES=n SEED=n

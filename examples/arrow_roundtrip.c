@@ -1,4 +1,4 @@
-/* A column from an Arrow array, filtered, and out again in the same type.  cc arrow_roundtrip.c -I../include ../build/libsel.a */
+/* Imports a column from an Arrow array, filters it, and exports it with its type.  cc arrow_roundtrip.c -I../include ../build/libsel.a */
 #include "sel_arrow.h"
 
 #include <stdio.h>
@@ -8,7 +8,7 @@ static void release_array(struct ArrowArray *array) { array->release = NULL; }
 static void release_schema(struct ArrowSchema *schema) { schema->release = NULL; }
 
 int main(void) {
-    /* The texts "one", null, "three", "four": offsets of 32 bits, a validity, and a slice that begins at the second row. */
+    /* The strings "one", null, "three", "four", with 32-bit offsets and a validity; the array is the slice from the second row on. */
     static const int32_t offsets[] = {0, 3, 3, 8, 12};
     static const uint8_t valid = 0x0d;
     const void *buffers[] = {&valid, offsets, "onethreefour"};
@@ -16,7 +16,7 @@ int main(void) {
     struct ArrowSchema schema = {.format = "u", .name = "words", .flags = ARROW_FLAG_NULLABLE, .release = release_schema};
 
     sel_column column = {0}, kept = {0};
-    sel_type logical = {0}; /* the schema that came in, beside the column */
+    sel_type logical = {0}; /* the type that the schema describes */
     const uint8_t keep = 0x05; /* the first and the third row */
     sel_status status = sel_import(&array, &schema, &column, &logical);
     schema.release(&schema);

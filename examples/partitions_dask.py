@@ -1,5 +1,5 @@
-"""A stream of record batches that is larger than the memory of a worker, filtered and taken by a local Dask cluster, of processes and of
-threads, and compared with numpy. Batches and results go to and from processes as their buffers, which pickle does not copy."""
+"""Filters a stream of record batches that is larger than the memory of a worker, by a local Dask cluster: first of processes, then of threads.
+Compares the results with numpy. Batches and results are sent with their buffers outside of the pickle, which does not copy them."""
 
 import resource
 from collections import deque

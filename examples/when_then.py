@@ -1,4 +1,4 @@
-"""When-then-otherwise over a table of columns, nested ones too."""
+"""Selects between two columns by a mask (if-then-else), also between nested columns."""
 
 import sel
 
@@ -13,7 +13,7 @@ first = sel.Column.from_pylist([[("a", [1])], None, [], [("b", [2, None])]])
 second = sel.Column.from_pylist([[("x", [9])]] * 4)
 print(sel.choose(sold, first, second))
 
-# The last element of each list, where it has one.
+# The last element of each list, or null if it has none.
 print(first.sublist_get(-1))
 
 # An error is an exception with its message.

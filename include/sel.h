@@ -5,19 +5,20 @@
  * be moved but not copied: sel_share makes a second handle to its column. Arrays that are passed in are copied, and no
  * pointer to them is kept. A function that returns a column in `out` frees the column that `out` had before. Columns
  * are never changed; sel_list_new, sel_fixed_size_list_new and sel_struct_new take their children if they succeed.
- * The same holds for a sel_selection, which sel_selection_free frees.
+ * The same rules hold for the handle sel_selection, which sel_selection_free frees.
  *
  * Threads: functions that take a handle by a pointer to const may read the same handle at the same time, from any
- * threads. A function that writes or frees a handle must have it alone; other handles to the same column may be in use.
+ * threads. While a function writes or frees a handle, no other function may use that handle; other handles to the same
+ * column may be in use.
  *
- * Errors: if several errors apply, the first one listed is returned. On error `out` is unchanged. A function that
- * returns a status may also return SEL_ERROR_OUT_OF_MEMORY, unless its comment says that it never does. A column has at
- * most 128 levels of lists and structs.
+ * Errors: a status is SEL_OK, which is 0, or an error. If several errors apply, the first one listed is returned. On
+ * error `out` is unchanged. A function that returns a status may also return SEL_ERROR_OUT_OF_MEMORY, unless its
+ * comment says that it never does. A column has at most 128 levels of lists and structs.
  *
  * Arguments: a pointer must be aligned for its type and must not be null, except that an array of length 0 may be a
  * null pointer. An array must be valid for the given length. What a call writes must not be another of its arguments,
- * nor overlap one; a handle that it reads may be passed twice. A bool is 0 or 1. malloc, realloc and free must be of
- * the same allocator.
+ * nor overlap one; a handle that it only reads may be passed twice. A bool is 0 or 1. malloc, realloc and free of the
+ * process must be of the same allocator.
  *
  * Validity: passed as `bits`, of at least (rows + 7) / 8 bytes, and `has_bits`; if `has_bits` is false, `bits` is
  * ignored and all rows are valid (SEL_ALL_VALID). Bits are packed, the least significant bit first. A row whose bit is

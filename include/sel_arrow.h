@@ -1,6 +1,6 @@
-/* Import and export of columns through the Arrow C Data Interface, with their logical types. Buffers are not copied:
- * an imported column reads the producer's memory, and an exported array points into the column's. The rules for handles
- * in sel.h hold here too.
+/* Import and export of columns through the Arrow C Data Interface, with their logical types. Buffers are not copied,
+ * except for those in the table below: an imported column reads the producer's memory, and an exported array points
+ * into the column's. The rules of sel.h for handles, threads, errors and arguments hold here too.
  *
  *     copied on import                              copied on export
  *     buffers that are not aligned for their type   bits that do not begin at a byte
@@ -16,8 +16,8 @@
  * list views, runs, and strings that are exported with offsets.
  *
  * A column has a storage type, which the functions of sel.h see: integers, views, lists. A sel_type is the logical
- * type of a column: the Arrow schema that it came with, at every depth, and its dictionaries. It goes beside the
- * column: a filtered or gathered column is exported with the type of the column that it was made of.
+ * type of a column: the Arrow schema that it was imported with, at every depth, and its dictionaries. It is a handle of
+ * its own, not a part of the column: export a filtered or gathered column with the type of the column it was made from.
  * bindings/README.md has the storage of each Arrow format. */
 #ifndef SEL_ARROW_H
 #define SEL_ARROW_H
@@ -75,8 +75,8 @@ struct ArrowArrayStream {
 #endif
 
 /* A handle to a logical type; {0} is an empty handle. The rules of handles to columns hold: initialize it with {0},
- * free it with sel_type_free, share it with sel_type_share. Types are never changed, and any thread may read one. A
- * function may return a type in the handle of a type that it reads. */
+ * free it with sel_type_free, share it with sel_type_share. Types are never changed, and any thread may read one. The
+ * handle in which a function returns a type may be the handle of a type that it reads. */
 typedef struct sel_type {
     void *at;
 } sel_type;
@@ -88,26 +88,28 @@ typedef struct sel_type {
  * and `type` are unchanged, so that the call can be tried again.
  *
  * The array is released once, after the last column, slice, result, selection, dictionary of a type or exported array
- * that uses one of its buffers is gone: by the next call of sel_free, also of an empty handle, or by the next release
- * of an exported array or of a moved child of one, on whatever thread that is. While imports have more than 64 buffers
- * in use, those among them that the library made itself, it may be a later call of sel_free: at most one for each 64
- * of them. Until then nobody may write to the array's buffers. A release may call this library; an array that is
- * unused by what it frees is released after it has returned.
+ * that uses one of its buffers is freed. The next call of sel_free (also of an empty handle) or sel_selection_free, or
+ * the next release of an exported array or of a moved child of one, releases it, on the thread of that call. If imports
+ * have more than 64 buffers in use, including those that the library allocated for them, some more calls of sel_free
+ * may be needed: at most one for each 64 of these buffers. Until the release nobody may write to the array's buffers.
+ * The release may call this library. If it frees the last user of another array, that array is released afterwards.
  *
  * Formats, with their storage: n; b; c C s S i I l L; e f g, as u16, u32, u64; tdD tdm tts ttm ttu ttn ts_:.. tD_ tiM
  * tiD, as i32 or i64; tin, as u128; d:P,S and d:P,S,B, as i32, i64, i128 or 32 bytes; w:N, as fixed-size lists of u8,
  * and as u128 with the extension name sel.uint128; z Z, as binary; u U vu, as string views; vz; +l +L; +w:N; +s; +m,
  * as lists of structs. List views (+vl, +vL) become +l and +L, and run-end encoded arrays (+r) become columns of
- * their values, in the type as well, with the name of the runs, and with their metadata unless the values have an
- * extension type. Keys of a dictionary, integers of any width, stay keys; the dictionary is a part of the type. Any
- * other format is SEL_ERROR_ARROW_FORMAT: sel_unsupported_format returns it.
+ * their values. Their types change too: the type of runs is that of the values, with the name of the runs, and with
+ * the metadata of the runs unless the values have an extension type. Keys of a dictionary, integers of any width, stay
+ * keys; the dictionary is a part of the type. For any other format the status is SEL_ERROR_ARROW_FORMAT, and
+ * sel_unsupported_format returns the format.
  *
- * The schema is checked first, at every depth. Before a buffer of an array is read, the counts of its level are
- * checked: the length and the offset are not negative and are at most 4,294,967,295 together (SEL_ERROR_TOO_MANY_ROWS),
- * the null count is -1 or at most the length, the array has as many buffers and children as its format (n and +r may
- * have any buffers), and no more than 2,147,483,647. Then the rules of columns are checked; a null count above 0 is the
- * number of nulls in the validity, a view or a key in a null slot may be any bytes, and run ends increase. The producer
- * ensures that the buffers are as long as the length, the offset and the offsets buffer say: no call can check that.
+ * A released array is SEL_ERROR_ARROW_RELEASED. Then the schema is checked, at every depth. Before a buffer of an array
+ * is read, the counts of its level are checked: the length and the offset are not negative and are at most
+ * 4,294,967,295 together (SEL_ERROR_TOO_MANY_ROWS), the null count is -1 or at most the length, the array has as many
+ * buffers and children as its format (n and +r may have any buffers), and no more than 2,147,483,647. Then the rules of
+ * columns are checked: a null count above 0 is the number of nulls in the validity, and run ends increase; a view or a
+ * key in a null slot may be any bytes. The producer must ensure that the buffers are as long as the length, the offset
+ * and the offsets buffer say: no call can check that.
  *
  * Errors: SEL_ERROR_OUT_OF_MEMORY, SEL_ERROR_TOO_DEEP (a list, struct or dictionary below 128 others, whose children
  * are not read), SEL_ERROR_ARROW_DICTIONARY (an array with a dictionary, and `type` is null),
@@ -115,18 +117,17 @@ typedef struct sel_type {
  * status. */
 sel_status sel_import(struct ArrowArray *array, const struct ArrowSchema *schema, sel_column *out, sel_type *type);
 
-/* Writes the column to two structures, which the caller releases, in any order, on any thread, before or after the column
- * is freed. The column is unchanged; its buffers are shared, and must not be written. What was imported and is exported
- * again has the producer's buffers. The nulls of more than 65,536 rows are not counted: the null count is -1 if there
- * is a validity.
+/* Writes the column to two structures, which the caller releases, in any order, on any thread, before or after the
+ * column is freed. What the structures contained before is overwritten, not released. The column is unchanged; its
+ * buffers are shared, and must not be written. A column that was imported is exported with the producer's buffers. If
+ * there are more than 65,536 rows and a validity, nulls are not counted, and the null count is -1.
  *
- * With a type the schema is exactly that of the type: formats, names, metadata and flags. The column has to have the
- * storage of the type at every depth, and its keys a row of their dictionary. If `type` is a null pointer or empty,
- * the schema is that of the storage: binary columns are Z, views vz and vu, lists +L, signed 128-bit integers
- * d:38,0,128, unsigned ones w:16 with the extension name sel.uint128; fields are named by their numbers, "0", "1",
- * ... A decimal of 128 bits or a view in a null slot, also in that of a list or struct above it, is exported as 0 or
- * as an empty view. Keys that are null below a null list or struct keep their validity, even if the field is not
- * nullable.
+ * With a type the schema is exactly that of the type: formats, names, metadata and flags. The column must have the
+ * storage of the type at every depth, and each key must have a row in its dictionary. If `type` is a null pointer or
+ * empty, the schema is that of the storage: binary columns are Z, views vz and vu, lists +L, signed 128-bit integers
+ * d:38,0,128, unsigned ones w:16 with the extension name sel.uint128; fields are named by their numbers, "0", "1", ...
+ * A decimal of 128 bits or a view in a null slot, also in that of a list or struct above it, is exported as 0 or as an
+ * empty view. Keys that are null below a null list or struct keep their validity, even if the field is not nullable.
  *
  * Errors: SEL_ERROR_NO_COLUMN; SEL_ERROR_TYPE_MISMATCH: the column does not have the storage of the type;
  * SEL_ERROR_ARROW_DICTIONARY: the type has a dictionary without values; SEL_ERROR_INDEX_OUT_OF_BOUNDS: a key has no
@@ -136,14 +137,14 @@ sel_status sel_import(struct ArrowArray *array, const struct ArrowSchema *schema
  * rows do not fit the type's 32-bit offsets. On error there is nothing to release. */
 sel_status sel_export(const sel_column *of, const sel_type *type, struct ArrowArray *array, struct ArrowSchema *schema);
 
-/* Returns the first format of a schema, at any depth, that sel_import does not support, which lives as long as the
- * schema; or a null pointer if there is none, or none before a level that is below 128 others. */
+/* Returns the first format of a schema, at any depth, that sel_import does not support; the string lives as long as the
+ * schema. Returns a null pointer if there is no such format, or none before a level that is below 128 others. */
 const char *sel_unsupported_format(const struct ArrowSchema *schema);
 
-/* Returns in `values` the address of the values of a column of integers of 8 to 64 bits, and in `len` their number,
- * which is that of the rows: those in null slots are among them. They are the memory that the column reads, aligned
- * for the type, and must not be written. They stay there, unchanged, as long as `of` has this column. In a slice the
- * first value is that of the slice's first row. The address is not null. On error the outputs are unchanged.
+/* Returns in `values` the address of the values of a column of integers of 8 to 64 bits, and in `len` the number of
+ * rows. There is one value for each row, also in null slots; the first one is that of the first row, also in a slice.
+ * The address is that of the memory that the column reads: it is aligned for the type and not null, and it must not be
+ * written to. The values stay there, unchanged, as long as `of` has this column. On error the outputs are unchanged.
  * Errors: SEL_ERROR_NO_COLUMN: `of` is empty. SEL_ERROR_UNSUPPORTED_TYPE: its type is another one, such as 128-bit
  * integers, whose values sel_int128_values copies. SEL_ERROR_OUT_OF_MEMORY. */
 sel_status sel_borrow_values(const sel_column *of, const void **values, size_t *len);
@@ -154,21 +155,22 @@ sel_status sel_borrow_values(const sel_column *of, const void **values, size_t *
  * type that lacks them, but another type can be compared with it. Errors: those of sel_import for a schema. */
 sel_status sel_type_import(const struct ArrowSchema *schema, sel_type *out);
 
-/* Writes the schema of a type, which the caller releases. Errors: SEL_ERROR_NO_COLUMN: `of` is empty. */
+/* Writes the schema of a type, which the caller releases. What `schema` contained before is overwritten, not released.
+ * Errors: SEL_ERROR_NO_COLUMN: `of` is empty; then there is nothing to release. */
 sel_status sel_type_export(const sel_type *of, struct ArrowSchema *schema);
 
-/* Returns in `out` the type with which sel_export exports a column that has no other type.
+/* Returns in `out` the type of the storage of a column, with which sel_export exports it if no type is given.
  * Errors: SEL_ERROR_NO_COLUMN: `of` is empty. */
 sel_status sel_type_of_storage(const sel_column *of, sel_type *out);
 
 /* Returns in `out` the nullable type of this format with these children, whose names are kept.
- * Errors: SEL_ERROR_NO_COLUMN: a child is empty. SEL_ERROR_ARROW_FORMAT: unsupported, or converted by an import.
- * SEL_ERROR_LIST_SIZE. SEL_ERROR_ARROW_CHILDREN: another number of children than the format has. SEL_ERROR_TOO_DEEP.
- */
+ * Errors: SEL_ERROR_NO_COLUMN: a child is empty. SEL_ERROR_ARROW_FORMAT: the format is unsupported, or one that an
+ * import converts. SEL_ERROR_LIST_SIZE. SEL_ERROR_ARROW_CHILDREN: another number of children than the format has, or
+ * the child of a map is not a struct of two fields. SEL_ERROR_TOO_DEEP. */
 sel_status sel_type_new(const char *format, const sel_type *children, size_t children_len, sel_type *out);
 
-/* Returns in `out` the type of keys of a dictionary: `format` is c, C, s, S, i, I, l or L. The values may have an
- * empty type.
+/* Returns in `out` the type of keys with these dictionary values: `format` is that of the keys, c, C, s, S, i, I, l or
+ * L. If `type`, the type of the values, is a null pointer or empty, it is that of their storage.
  * Errors: SEL_ERROR_NO_COLUMN: `values` is empty. SEL_ERROR_ARROW_FORMAT: `format` is no format of keys.
  * SEL_ERROR_TYPE_MISMATCH: the values do not have the storage of their type. SEL_ERROR_ARROW_DICTIONARY: their type has
  * a dictionary without values. SEL_ERROR_INDEX_OUT_OF_BOUNDS: a value is a key that has no row in its dictionary.
@@ -214,7 +216,7 @@ sel_status sel_type_format(const sel_type *of, uint8_t *out, size_t out_len, siz
 
 /* ---- Dictionaries. ---- */
 
-/* Returns in `values` and `type` the dictionary of a type and its type.
+/* Returns in `values` the dictionary of a type, and in `type` the type of its values.
  * Errors: SEL_ERROR_NO_COLUMN: `of` is empty. SEL_ERROR_ARROW_DICTIONARY: it has no dictionary, or none with values.
  */
 sel_status sel_type_dictionary(const sel_type *of, sel_column *values, sel_type *type);
@@ -228,9 +230,9 @@ sel_status sel_type_dictionary(const sel_type *of, sel_column *values, sel_type 
  * row in its dictionary. SEL_ERROR_ROW_LIMIT, SEL_ERROR_OFFSET_LIMIT: the result exceeds a size limit. */
 sel_status sel_decode(const sel_column *of, const sel_type *type, sel_column *out, sel_type *out_type);
 
-/* Returns in `out` the columns for a function that joins them, such as sel_if_then_else, and in `out_type` their
- * common type. The columns are shared if all have the same dictionaries, or dictionaries with equal rows; else those
- * with dictionaries are decoded. An empty type is that of the storage. Strings, binary and lists may have offsets of
+/* Returns in `out` the columns for a function that joins them, such as sel_if_then_else, and in `out_type` their common
+ * type. The columns are shared if all have the same dictionaries, or dictionaries with equal rows; otherwise those with
+ * dictionaries are decoded. An empty type stands for that of the storage. Strings, binary and lists may have offsets of
  * several widths; the fields of structs have the same names, unless they are the entries of maps. The common type has
  * the formats, names and metadata of the first one; it is nullable where one of them is, and says that keys of maps are
  * sorted or dictionaries are ordered where all do. `out` has `len` handles, which are freed and filled if the call
@@ -248,44 +250,47 @@ sel_status sel_common_type(
 
 /* ---- Streams of record batches: data larger than memory passes batch by batch. ---- */
 
-/* A handle to a stream that is read; {0} is an empty handle. It is used by one thread at a time. */
+/* A handle to a stream that is read; {0} is an empty handle. Only one thread at a time may use it. */
 typedef struct sel_stream {
     void *at;
 } sel_stream;
 
 /* Moves a stream of a producer into `out` and gets its schema. On error the stream is not moved and `out` is
  * unchanged.
- * Errors: SEL_ERROR_OUT_OF_MEMORY. SEL_ERROR_ARROW_RELEASED. SEL_ERROR_ARROW_STREAM: the producer reports an error,
- * whose message get_last_error of `source` returns. Those of sel_import for a schema. */
+ * Errors: SEL_ERROR_ARROW_RELEASED. SEL_ERROR_OUT_OF_MEMORY. SEL_ERROR_ARROW_STREAM: the producer reports an error;
+ * get_last_error of `source` returns its message. Then the errors of sel_import for a schema. */
 sel_status sel_stream_open(struct ArrowArrayStream *source, sel_stream *out);
 
 /* Returns in `type` the type of the batches, without the values of dictionaries.
  * Errors: SEL_ERROR_NO_COLUMN: `of` is empty. */
 sel_status sel_stream_type(const sel_stream *of, sel_type *type);
 
-/* Returns in `out` the next batch and in `type` its type, which may be a null pointer. At the end of the stream `out`
- * is empty. On error `out` and `type` are unchanged; if an import failed, the next call imports the same batch again.
- * Errors: SEL_ERROR_NO_COLUMN: `of` is empty. SEL_ERROR_ARROW_STREAM: the producer reports an error. Those of
+/* Returns in `out` the next batch and in `type` its type; `type` may be a null pointer. At the end of the stream it
+ * returns SEL_OK, and `out` and `type` are empty. On error `out` and `type` are unchanged; if an import failed, the
+ * next call imports the same batch again.
+ * Errors: SEL_ERROR_NO_COLUMN: `of` is empty. SEL_ERROR_ARROW_STREAM: the producer reports an error. Then the errors of
  * sel_import. */
 sel_status sel_stream_next(sel_stream *of, sel_column *out, sel_type *type);
 
-/* Returns the producer's message, which lives up to the next call, if its last call was an error; else a null
- * pointer. */
+/* Returns the producer's message if its last call returned an error, else a null pointer. The message lives until the
+ * next call for this stream. */
 const char *sel_stream_message(sel_stream *of);
 
 /* Releases a stream, if there is one. `of` is empty afterwards. */
 void sel_stream_free(sel_stream *of);
 
-/* A producer of batches: returns in `out` the next one and in `type` its type; both stay empty at the end. */
+/* A producer of batches: returns in `out` the next batch and in `type` its type. Both handles are empty when it is
+ * called; at the end it returns SEL_OK and leaves them empty. Any other status is an error of the stream. */
 typedef sel_status (*sel_next_batch)(void *context, sel_column *out, sel_type *type);
 
 /* Frees the context of a producer of batches. */
 typedef void (*sel_free_context)(void *context);
 
-/* Writes a stream that exports the batches which `next` returns for `context`. Each batch has the schema of `type`:
- * an empty type of a batch is `type` itself. The release of the stream calls `free_context`, which may be a null
- * pointer, with `context`. Errors: SEL_ERROR_NO_COLUMN: `type` is empty. SEL_ERROR_OUT_OF_MEMORY: `context` is not
- * freed. */
+/* Writes a stream that exports the batches which `next` returns for `context`. `type` is the type of all batches: the
+ * type of a batch must be equal to it, or empty, which stands for `type`. If a batch cannot be produced or exported,
+ * get_next of the stream returns ENOMEM (out of memory) or EINVAL, and get_last_error the text of the status. The
+ * release of the stream calls `free_context`, which may be a null pointer, with `context`.
+ * Errors: SEL_ERROR_NO_COLUMN: `type` is empty. SEL_ERROR_OUT_OF_MEMORY. On error `context` is not freed. */
 sel_status sel_stream_export(
     const sel_type *type,
     sel_next_batch next,
