@@ -67,6 +67,47 @@ sel_status sel_arrow_indices(const sel_column *keys, size_t count, sel_column *o
 
 sel_status sel_arrow_check_indices(const sel_column *keys, size_t count) { return read_indices(keys, count, NULL); }
 
+/* ---- items of null lists */
+
+/* Tests whether a type, or one below it, has a dictionary without rows. */
+static bool has_empty_dictionary(const node *type) {
+    if (type->value_type && sel_len(&type->values) == 0) return true;
+    for (size_t i = 0; i < type->child_count; i++)
+        if (has_empty_dictionary(type->children[i])) return true;
+    return false;
+}
+
+/* Returns in `out` the items of fixed-size lists, with nulls in the place of those of null lists. */
+static sel_status items_of_valid(const sel_column *lists, const sel_column *items, size_t size, sel_column *out) {
+    size_t len = sel_len(items);
+    validity valid = {NULL, 0, false};
+    uint32_t *rows = malloc((len + 1) * sizeof *rows);
+    uint8_t *bits = calloc(bytes_of_bits(len) + 1, 1);
+    sel_status status = rows && bits ? read_validity(lists, &valid) : SEL_ERROR_OUT_OF_MEMORY;
+    for (size_t i = 0; status == SEL_OK && i < len; i++) {
+        rows[i] = (uint32_t)i; /* a column has at most 2^32 - 1 rows */
+        if (!valid.has || bit_at(valid.bits, i / size)) set_bit(bits, i);
+    }
+    if (status == SEL_OK) status = sel_take_rows(items, rows, len, bits, bytes_of_bits(len), true, out);
+    free(rows);
+    free(bits);
+    free(valid.bits);
+    return status;
+}
+
+sel_status sel_arrow_items(const sel_column *lists, const node *type, sel_column *out) {
+    sel_column items = {0}, valid = {0};
+    sel_status status = sel_child(lists, &items);
+    bool is_fixed = type->format.layout == FIXED_LISTS;
+    if (status == SEL_OK && is_fixed && sel_null_count(lists) > 0 && has_empty_dictionary(type->children[0])) {
+        status = items_of_valid(lists, &items, type->format.width, &valid);
+        sel_free(&items);
+        items = valid;
+    }
+    if (status == SEL_OK) *out = items;
+    return status;
+}
+
 /* ---- columns without dictionaries */
 
 static sel_status decode_column(const sel_column *of, const node *type, sel_column *out);
@@ -102,7 +143,7 @@ static sel_status decode_children(const sel_column *of, const node *type, sel_co
     sel_status status = SEL_OK;
     for (size_t i = 0; status == SEL_OK && i < type->child_count; i++) {
         sel_column child = {0};
-        status = is_struct ? sel_field(of, i, &child) : sel_child(of, &child);
+        status = is_struct ? sel_field(of, i, &child) : sel_arrow_items(of, type, &child);
         if (status == SEL_OK) status = decode_column(&child, type->children[i], &children[i]);
         sel_free(&child);
     }

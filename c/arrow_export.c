@@ -13,7 +13,7 @@ static sel_status check_children(const sel_column *of, const node *type, column_
     sel_status status = SEL_OK;
     for (size_t i = 0; status == SEL_OK && i < type->child_count; i++) {
         sel_column child = {0};
-        status = sel_type_of(of) == SEL_TYPE_STRUCT ? sel_field(of, i, &child) : sel_child(of, &child);
+        status = sel_type_of(of) == SEL_TYPE_STRUCT ? sel_field(of, i, &child) : sel_arrow_items(of, type, &child);
         if (status == SEL_OK) status = check(&child, type->children[i]);
         sel_free(&child);
     }
@@ -175,7 +175,7 @@ static sel_status export_list(target *t) {
 static sel_status export_fixed_list(target *t) {
     sel_column child = {0};
     if (!with_children(t, 1)) return SEL_ERROR_OUT_OF_MEMORY;
-    sel_status status = sel_child(t->of, &child);
+    sel_status status = sel_arrow_items(t->of, t->type, &child);
     return status == SEL_OK ? export_child(t, 0, NULL, t->type->format.width, &child) : status;
 }
 

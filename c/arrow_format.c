@@ -167,10 +167,14 @@ static size_t len_without_bits(const char *text) {
     return bits && !strcmp(bits, ",128") ? len - strlen(bits) : len;
 }
 
+bool sel_arrow_is_equal_format(const char *a, const char *b) {
+    size_t len = len_without_bits(a);
+    return len == len_without_bits(b) && !memcmp(a, b, len);
+}
+
 bool sel_arrow_is_same_format(const char *a, const char *b) {
     static const char *const groups[][4] = {{"u", "U", "vu", NULL}, {"z", "Z", NULL, NULL}, {"+l", "+L", NULL, NULL}};
-    size_t len = len_without_bits(a);
-    if (len == len_without_bits(b) && !memcmp(a, b, len)) return true;
+    if (sel_arrow_is_equal_format(a, b)) return true;
     for (size_t i = 0; i < sizeof groups / sizeof *groups; i++) {
         int found = 0;
         for (size_t k = 0; groups[i][k]; k++) found += !strcmp(groups[i][k], a) + !strcmp(groups[i][k], b);

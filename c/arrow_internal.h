@@ -57,7 +57,10 @@ sel_status sel_arrow_read_format(const char *text, const char *metadata, format 
 /* Tests whether a column of this layout has more levels than one. */
 bool sel_arrow_is_nested(enum layout layout);
 
-/* Tests whether two formats have one logical type: equal ones, decimals with and without their 128 bits, and strings, binary or lists with
+/* Tests whether two formats are equal, whether or not those of decimals say that they have 128 bits. */
+bool sel_arrow_is_equal_format(const char *a, const char *b);
+
+/* Tests whether two formats have one logical type: equal ones, and strings, binary or lists with
  * offsets of several widths. */
 bool sel_arrow_is_same_format(const char *a, const char *b);
 
@@ -244,6 +247,10 @@ sel_status sel_arrow_check_dictionaries(const node *type);
 
 /* Checks that the keys of a column have a row of their dictionary: SEL_ERROR_INDEX_OUT_OF_BOUNDS. */
 sel_status sel_arrow_check_keys(const sel_column *of, const node *type);
+
+/* Returns in `out`, which is empty, the items of lists. Those of null fixed-size lists are nulls if there is a dictionary without rows
+ * below: a kernel leaves the key 0 there, which has no row. */
+sel_status sel_arrow_items(const sel_column *lists, const node *type, sel_column *out);
 
 /* Makes these checks, in this order. */
 sel_status sel_arrow_check_fits(const sel_column *of, const node *type);

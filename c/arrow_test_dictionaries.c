@@ -302,8 +302,78 @@ static void hidden_keys_go_around(void) {
     }
 }
 
+/* Returns no fixed-size lists of two, one level of them above the other, over keys of a dictionary without rows. */
+static piece lists_without_rows(int depth) {
+    static const char *const names[] = {"item"};
+    static const int32_t no_offsets[1] = {0};
+    piece it = piece_with(piece_of("i", 0, 0, 2, NULL, NULL, NULL), piece_of("u", 0, 0, 3, NULL, no_offsets, NULL));
+    for (int i = 0; i < depth; i++) it = piece_over(piece_of("+w:2", 0, 0, 1, NULL, NULL, NULL), 1, &it, names);
+    return it;
+}
+
+/* Imports an array without rows, and takes two nulls of it. */
+static sel_status take_nulls(piece it, sel_column *out, sel_type *type) {
+    const uint32_t none[2] = {0, 0};
+    const uint8_t nulls[1] = {0};
+    sel_column column = {0};
+    sel_status status = import_piece(it, &column, type);
+    if (status == SEL_OK) status = sel_take_rows(&column, none, 2, nulls, 1, true, out);
+    sel_free(&column);
+    return status;
+}
+
+static sel_status take_nulls_and_decode(void *of) {
+    sel_column taken = {0}, made = {0};
+    sel_type type = {0}, decoded = {0};
+    struct ArrowArray array = {.release = NULL};
+    struct ArrowSchema schema = {.release = NULL};
+    sel_status status = take_nulls(*(const piece *)of, &taken, &type);
+    if (status == SEL_OK) status = sel_decode(&taken, &type, &made, &decoded);
+    if (status == SEL_OK) status = sel_export(&taken, &type, &array, &schema);
+    if (array.release) array.release(&array);
+    if (schema.release) schema.release(&schema);
+    sel_free(&taken);
+    sel_free(&made);
+    sel_type_free(&type);
+    sel_type_free(&decoded);
+    return status;
+}
+
+/* A key of a null fixed-size list has no row in a dictionary without rows: it goes around as a null. */
+static void null_lists_have_no_keys(void) {
+    for (int depth = 1; depth <= 2; depth++) {
+        sel_column taken = {0}, made = {0}, joined[2] = {{0}, {0}}, out[2] = {{0}, {0}};
+        sel_type type = {0}, types[2] = {{0}, {0}}, common = {0};
+        struct ArrowArray array;
+        struct ArrowSchema schema;
+        forget_pieces();
+        piece it = lists_without_rows(depth);
+        CHECK(take_nulls(it, &taken, &type) == SEL_OK);
+        CHECK(sel_decode(&taken, &type, &made, &common) == SEL_OK && shows(&made, "[null,null]"));
+        CHECK(sel_export(&taken, &type, &array, &schema) == SEL_OK && array.null_count == 2);
+        const struct ArrowArray *keys = &array;
+        while (keys->n_children == 1) keys = keys->children[0];
+        CHECK(keys->length == 2 << depth && keys->null_count == keys->length && keys->dictionary->length == 0);
+        CHECK(sel_import(&array, &schema, &made, &common) == SEL_OK && shows(&made, "[null,null]") && sel_type_equal(&type, &common));
+        schema.release(&schema);
+        for (int i = 0; i < 2; i++) CHECK(sel_share(&taken, &joined[i]) == SEL_OK && sel_type_share(&type, &types[i]) == SEL_OK);
+        CHECK(sel_common_type(joined, types, 2, out, &common) == SEL_OK && sel_type_equal(&type, &common));
+        for (int i = 0; i < 2; i++) {
+            sel_free(&joined[i]);
+            sel_free(&out[i]);
+            sel_type_free(&types[i]);
+        }
+        sel_free(&taken);
+        sel_free(&made);
+        sel_type_free(&type);
+        sel_type_free(&common);
+        refuse_each(take_nulls_and_decode, &it, "null lists over a dictionary without rows");
+    }
+}
+
 void test_dictionaries(void) {
     keys_go_around();
+    null_lists_have_no_keys();
     hidden_keys_go_around();
     keys_are_checked();
     nested_keys_are_decoded();

@@ -137,6 +137,7 @@ static void decimals_have_128_bits(void) {
     for (size_t i = 0; i < sizeof given / sizeof *given; i++) {
         sel_status status = sel_type_new(given[i].one, NULL, 0, &types[0]);
         if (status == SEL_OK) status = sel_type_new(given[i].other, NULL, 0, &types[1]);
+        if (status == SEL_OK) CHECK(sel_type_equal(&types[0], &types[1]) == (given[i].status == SEL_OK));
         if (status == SEL_OK) status = sel_common_type(columns, types, 2, out, &common);
         CHECK(status == given[i].status);
     }

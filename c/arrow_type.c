@@ -222,7 +222,7 @@ static bool is_equal_text(const char *a, const char *b) { return a && b ? !strcm
 static bool is_equal_node(const node *a, const node *b) {
     if (a == b) return true;
     if (!a || !b) return false;
-    if (strcmp(a->text, b->text) != 0 || !is_equal_text(a->name, b->name) || a->flags != b->flags) return false;
+    if (!sel_arrow_is_equal_format(a->text, b->text) || !is_equal_text(a->name, b->name) || a->flags != b->flags) return false;
     if (!a->metadata != !b->metadata || a->metadata_len != b->metadata_len || a->child_count != b->child_count) return false;
     if (a->metadata && memcmp(a->metadata, b->metadata, a->metadata_len) != 0) return false;
     for (size_t i = 0; i < a->child_count; i++)

@@ -193,7 +193,8 @@ sel_status sel_type_share(const sel_type *of, sel_type *out);
 void sel_type_free(sel_type *of);
 
 /* Returns whether two types have the same schema: formats, names, metadata, flags, children and types of
- * dictionaries, at every depth. The values of dictionaries are not compared. Two empty types are equal. */
+ * dictionaries, at every depth. The formats d:P,S and d:P,S,128 are equal. The values of dictionaries are not
+ * compared. Two empty types are equal. */
 bool sel_type_equal(const sel_type *of, const sel_type *other);
 
 /* Returns the number of children of a type, or 0 if it is empty. */
