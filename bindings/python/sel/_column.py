@@ -121,9 +121,9 @@ class Column(Owner):
     def parse(type: str | Type, rows: str) -> Column:
         """Returns the column of a type with the rows of a text, both as `str` prints them, with JSON's white space and escapes.
 
-        The names of fields in the text of a type are left out. Raises TypeError if the rows are no str, BrokenText, a ValueError with the place of the first character with which
-        no such text goes on, or of the first value that does not fit the type, ValueError for a logical type, whose rows are not parsed, and
-        LimitPassed, an OverflowError.
+        The names of fields in the text of a type are left out. Raises TypeError if the rows are not a str; BrokenText, a ValueError, with the
+        place of the first character with which no such text goes on, or of the first value that does not fit the type; ValueError for a
+        logical type, whose rows are not parsed; and LimitPassed, an OverflowError.
 
         >>> sel.Column.parse("list<utf8>", '[["Ada", "Grace"], null]')
         Column(list<utf8>, [["Ada","Grace"],null])

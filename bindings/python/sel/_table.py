@@ -46,8 +46,8 @@ class Table:
         """Makes a table of columns, Arrow data of other libraries, arrays of numpy or lists of Python values. Arrays of texts, of bytes or of
         objects are read as lists.
 
-        Raises ValueError for columns of several lengths and for a name with a zero character, and TypeError for a name that is no str and
-        for what is no mapping: `Table.from_arrow` takes tables and data frames of other libraries. The columns of arrays read their memory,
+        Raises ValueError for columns of several lengths and for a name with a zero character, and TypeError for a name that is not a str,
+        and for columns that are not a mapping; `Table.from_arrow` takes tables and data frames of other libraries. The columns of arrays read their memory,
         as those of `Column.from_numpy` do: nobody may write to the arrays meanwhile.
         """
         if not isinstance(columns, Mapping):
@@ -268,7 +268,7 @@ def _table_again(names: list[str], columns: list[Column], length: int) -> Table:
 
 
 def _checked_table(value: Any) -> Table:
-    """Returns the value. Raises TypeError if it is no table."""
+    """Returns the value. Raises TypeError if it is not a table."""
     if not isinstance(value, Table):
         raise TypeError(f"tables: {shown(value)} is of type {type(value).__name__}, not a table")
     return value
@@ -332,7 +332,7 @@ class Stream:
         """Returns a capsule with a stream of the tables. The first one gives the schema; raises ValueError if there is none.
 
         An exception of the iterator is an error of the stream: `Stream.from_arrow` raises KeyboardInterrupt and the like themselves, and
-        others as the cause of its own. So is a value that is no table.
+        others as the cause of its own. A value that is not a table is an error of the stream too.
         """
         first = next(self._tables, None)
         if first is None:

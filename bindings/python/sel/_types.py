@@ -106,7 +106,7 @@ def parse_type(text: str) -> Type:
     binary and lists get the layout of the columns that are made here: `string` and `large_string` are `utf8`, `large_binary` is `binary`,
     `list<item: double>` is `large_list<item: double>`. And the text leaves out the metadata of fields, and whether the type itself is nullable.
 
-    Raises TypeError if the text is no str, ValueError if it names no type, OverflowError if a list size is more than 4,294,967,295, and
+    Raises TypeError if the text is not a str, ValueError if it names no type, OverflowError if a list size is more than 4,294,967,295, and
     LimitPassed, an OverflowError, for more than 256 levels.
 
     >>> str(sel.parse_type("list<item: fixed_size_list<item: int64>[2]>"))
@@ -187,7 +187,7 @@ class _Reader:
         return found
 
     def takes_quote(self) -> bool:
-        """Returns whether a quote comes next, behind white space, which is skipped."""
+        """Skips white space, and returns whether a quote comes next."""
         self.takes("")
         return self.text.startswith('"', self.place)
 
@@ -210,14 +210,14 @@ class _Reader:
         return self.text[start:end].strip(_SPACE)
 
     def quoted_name(self) -> str:
-        """Returns the name of a field in quotes, the first of which is behind."""
+        """Returns the name of a field in quotes, whose opening quote has been read."""
         start = self.place - 1
         try:
             found, self.place = _STRING.raw_decode(self.text, start)
         except ValueError:
-            raise ValueError(f"{self.text!r} has a name in quotes at character {start} that is no string in JSON") from None
+            raise ValueError(f"{self.text!r} has a name in quotes at character {start} that is not a JSON string") from None
         if not self.takes(":"):
-            raise ValueError(f"{self.text!r} has no colon behind the name {found!r}")
+            raise ValueError(f"{self.text!r} has no colon after the name {found!r}")
         return str(found)
 
     def word(self) -> str:
