@@ -38,3 +38,13 @@ returns-refused code before values shape Right conditions AllHold other wrong = 
 pub returns-first : (status : ℕ) (before after : Held) (values : List Value) (shape : Shape) (code : ℕ) (Right : Type 0) (conditions : List (ℕ × Type 0)) (AllHold : Type 0) → Right →
     ReturnsColumn status before after values shape conditions AllHold → ReturnsColumn status before after values shape ((code, Right) ∷ conditions) AllHold
 returns-first status before after values shape code Right conditions AllHold right told = record { rows = told.rows; dtype = told.dtype; checks = inr (inr (right, told.checks)) }
+
+-- A kernel returns an error, a limit only if the first condition holds.
+pub returns-limit-after : (status : ℕ) (before : Held) (values : List Value) (shape : Shape) (code : ℕ) (Right : Type 0) (exceeded : Limit → Type 0) (fault : PolarsError) → status ≢ ok → status ≡ error_status fault →
+    IsLimitOrMemory (λ limit. Right × exceeded limit) fault → ReturnsColumn status before before values shape ((code, Right) ∷ []) (IsOkOrLimit status exceeded)
+returns-limit-after status before values shape code Right exceeded OutOfMemory other number refusal =
+    returns-none status before values shape ((code, Right) ∷ []) (IsOkOrLimit status exceeded) other (inl number)
+returns-limit-after status before values shape code Right exceeded (SizeLimit limit) other number refusal =
+    returns-first status before before values shape code Right [] (IsOkOrLimit status exceeded) refusal.0
+    (returns-failed status before values shape exceeded (SizeLimit limit) other number refusal.1)
+returns-limit-after status before values shape code Right exceeded ComputeError other number refusal = absurd refusal

@@ -1,5 +1,6 @@
 pub mod BareElements
 pub mod BlockTakes
+pub mod CheckedTakes
 pub mod Common
 pub mod Dictionaries
 pub mod Elements

@@ -1,6 +1,7 @@
 pub mod BareBlocks
 pub mod BareElements
 pub mod Blocks
+pub mod CheckedTakes
 pub mod Compress
 pub mod Dictionary
 pub mod Elements

@@ -37,7 +37,7 @@ use sel_ffi::status::{
 use std::alloc::Global;
 
 /// Returns whether the buffer can be a validity: it is a bitmap, or the handle has no buffer.
-pub fn may_be_validity(of: &BufferRef) -> bool
+pub(crate) fn may_be_validity(of: &BufferRef) -> bool
     ensures { result ≡ may_be_validity of.now.buffer }
 {
     match of.shared() {
@@ -55,7 +55,11 @@ pub fn may_be_validity(of: &BufferRef) -> bool
 ///
 /// # Errors
 /// `ValidityLength` if the bitmap has fewer than `first + len` bits; `OutOfMemory`.
-pub fn validity_from(of: &BufferRef, first: usize, len: usize) -> Result<Option<Bitmap>, MakeError>
+pub(crate) fn validity_from(
+    of: &BufferRef,
+    first: usize,
+    len: usize,
+) -> Result<Option<Bitmap>, MakeError>
     requires { may_be_validity of.now.buffer ≡ true }
     ensures value { IfOk result (λ validity. validity ≡ validity_over of.now.buffer first len) }
     ensures covers { IfOk result (λ validity. Covers validity len) }

@@ -21,7 +21,8 @@ use sel_ffi::status::{
     INDEX_OUT_OF_BOUNDS, OUT_OF_MEMORY, UNSUPPORTED_TYPE, put, put_again, status_of,
     status_of_maker,
 };
-use sel_kernels::gather::{indices_in_bounds, take_unchecked};
+use sel_kernels::gather::checked::take;
+use sel_kernels::gather::indices_in_bounds;
 use std::alloc::Global;
 
 /// Stores in `out` the rows of `column` at `indices`; a null index gives a null row. A take of the
@@ -74,12 +75,13 @@ fn take_at_into(alloc: Global, column: &ArrayRef, indices: &IdxArr, out: &mut Ha
     ensures { TakesRows result (Some column.now) (primitive_rows indices.now) []
         out.old.tree out.new.tree }
 {
-    if !indices_in_bounds(indices, column.len()) {
-        return INDEX_OUT_OF_BOUNDS;
-    }
-    match take_unchecked(alloc, column, indices) {
-        Ok(taken) => put(alloc, taken, out),
-        Err(fault) => status_of(fault),
+    let taken = match take(alloc, column, indices) {
+        Ok(taken) => taken,
+        Err(fault) => return status_of(fault),
+    };
+    match taken {
+        Some(taken) => put(alloc, taken, out),
+        None => INDEX_OUT_OF_BOUNDS,
     }
 }
 

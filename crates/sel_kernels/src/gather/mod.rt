@@ -19,6 +19,7 @@ mod bit_slice;
 pub mod bitmap;
 mod blocks;
 pub mod boolean;
+pub mod checked;
 pub mod fixed_size_list;
 pub(crate) mod generic_binary;
 mod near;

@@ -36,6 +36,29 @@ pub fn take_primitive_unchecked<T: NativeType>(
     ensures refusal { IfErr result IsOutOfMemory }
 {
     let values = take_values(alloc, arr.values.as_slice(), indices, T::LEAST)?;
+    array_of_taken(alloc, arr, indices, values, T::LEAST)
+}
+
+/// Returns the column of the values at `indices`, with the validity of the rows.
+///
+/// # Requires
+/// Every non-null index is less than `arr.len()`, and a null index gave some value of `arr`, or
+/// `_filler` if there is none.
+#[tactic(auto, using(crate::proofs::Selects::row_lengths))]
+pub(crate) fn array_of_taken<T: NativeType>(
+    alloc: Global,
+    arr: &PrimitiveArray<T>,
+    indices: &IdxArr,
+    values: Vec<T>,
+    _filler: T,
+) -> PolarsResult<PrimitiveArray<T>>
+    requires inside { IsTrue (all_within (length (primitive_rows arr.now))
+        (primitive_rows indices.now)) }
+    requires items { values.items ≡ map (near_value arr.now.values _filler) indices.now.values }
+    ensures rows { IfOk result (λ taken. primitive_rows taken ≡
+        take_rows (primitive_rows arr.now) (primitive_rows indices.now)) }
+    ensures refusal { IfErr result IsOutOfMemory }
+{
     let validity = take_validity(alloc, &arr.validity, indices)?;
     let values = Buffer::from_vec(values)?;
     Ok(PrimitiveArray { values, validity })
@@ -86,7 +109,7 @@ fn take_places<T: Copy>(
 /// Returns the value at each index that is in bounds, and the first value for the others; `filler`
 /// if there are no values.
 #[tactic(auto, using(std::proofs::lemmas::List::take_all))]
-fn take_near_places<T: Copy>(
+pub(crate) fn take_near_places<T: Copy>(
     alloc: Global,
     values: &[T],
     places: &[u32],

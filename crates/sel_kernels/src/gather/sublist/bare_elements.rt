@@ -26,7 +26,8 @@ use std::alloc::Global;
 /// Returns a column whose row k is the element of list k at index k.
 ///
 /// Returns `None` if an index is out of bounds, if the lists, the child or the indices have a
-/// validity, or if the child is not primitive. Fails only with `OutOfMemory`.
+/// validity, or if the child is not primitive; the contract leaves open when. Fails only with
+/// `OutOfMemory`.
 pub(crate) fn elements_at(
     alloc: Global,
     arr: &FixedSizeListArray,
