@@ -34,10 +34,6 @@ below_parted n m places =
 pub below_rest : (n m : ℕ) (places : List ℕ) → all_below n (take m places) ≡ true → all_below n (drop m places) ≡ all_below n places
 below_rest n m places first = sym (below_parted n m places ∙ ap (λ b. b && all_below n (drop m places)) first)
 
--- If one of the first positions is out of bounds, not all are in bounds.
-pub above_first : (n m : ℕ) (places : List ℕ) → all_below n (take m places) ≡ false → all_below n places ≡ false
-above_first n m places first = below_parted n m places ∙ ap (λ b. b && all_below n (drop m places)) first
-
 -- No column is made if the check fails.
 pub none-made : (shape : Shape) (values : List Value) (check : Bool) → check ≡ false → TakesIfWithin (Ok None) shape values check
 none-made shape values check fails = record { rows = tt; dtype = tt; limits = tt; within = tt; outside = fails; refusal = tt }

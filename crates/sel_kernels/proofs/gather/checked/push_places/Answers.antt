@@ -1,4 +1,4 @@
-use Rattle.sel_kernels.proofs.Common.{◌∙◌, all_at, arith, get_or, get_or_default, length, ltb-true, lt-ltb, nat_lt, near_value, sym}
+use Rattle.sel_kernels.proofs.Common.{◌∙◌, all_at, arith, get_or, get_or_default, length, ltb-true, nat_lt, near_value, sym}
 use Rattle.sel_kernels.proofs.{CheckedTakes.push_after, Takes.near_at}
 use Rattle.sel_kernels.proofs.gather.checked.push_places.Goals as goal
 

@@ -1,4 +1,4 @@
-use Rattle.sel_kernels.proofs.Common.{◌≡◌, ◌∙◌, all_within, ap, length, length-number_rows, primitive_rows, sym, true}
+use Rattle.sel_kernels.proofs.Common.{◌∙◌, all_within, ap, length, length-number_rows, primitive_rows, sym}
 use Rattle.sel_kernels.proofs.{CheckedTakes.column-made, CheckedTakes.none-made, Takes.within_as}
 use Rattle.sel_kernels.proofs.gather.checked.take_numbers.Goals as goal
 

@@ -1,5 +1,5 @@
 use Rattle.sel_kernels.proofs.Common.{◌≡◌, ◌+◌, ◌∙◌, ap, arith, drop, length, length-append, near_value, sym, take, take-append-drop}
-use Rattle.sel_kernels.proofs.CheckedTakes.{above_first, below_rest, block_more}
+use Rattle.sel_kernels.proofs.CheckedTakes.{below_rest, block_more}
 use Rattle.sel_kernels.proofs.gather.checked.take_places.Goals as goal
 
 pub loop-rest-preserved : goal.loop-rest-preserved
