@@ -138,7 +138,8 @@ sel_status sel_import(struct ArrowArray *array, const struct ArrowSchema *schema
 sel_status sel_export(const sel_column *of, const sel_type *type, struct ArrowArray *array, struct ArrowSchema *schema);
 
 /* Returns the first format of a schema, at any depth, that sel_import does not support; the string lives as long as the
- * schema. Returns a null pointer if there is no such format, or none before a level that is below 128 others. */
+ * schema. Returns a null pointer if there is no such format, or none before a level that is below 128 others. Children
+ * are read only if their number is that of the format. */
 const char *sel_unsupported_format(const struct ArrowSchema *schema);
 
 /* Returns in `values` the address of the values of a column of integers of 8 to 64 bits, and in `len` the number of
