@@ -141,20 +141,7 @@ sel_status sel_arrow_export_offsets(target *t, const int64_t *offsets) {
     return out ? SEL_OK : SEL_ERROR_OUT_OF_MEMORY;
 }
 
-/* Copies the bytes of the rows, which lie from the first offset on. */
-static sel_status copy_bytes(target *t, size_t first, size_t count) {
-    lent_buffer all = {NULL};
-    const void *at = NULL;
-    size_t len = 0, bit = 0;
-    uint8_t *bytes = sel_arrow_buffer(t, 2, count, 1);
-    sel_status status = bytes ? sel_bytes_of(t->of, &all) : SEL_ERROR_OUT_OF_MEMORY;
-    if (status == SEL_OK) status = sel_buffer_show(&all, &at, &len, &bit);
-    if (status == SEL_OK && count > 0) memcpy(bytes, (const char *)at + first, count);
-    sel_buffer_free(&all);
-    return status;
-}
-
-/* Exports a binary column: as it is, or, if the type has 32-bit offsets, of its bytes those of its rows. */
+/* Exports a binary column: as it is, or, if the type has 32-bit offsets, with its bytes from the first row on. */
 static sel_status export_binary(target *t) {
     if (t->type->format.wide) return sel_arrow_share_binary(t);
     int64_t *offsets = malloc((t->len + 1) * sizeof *offsets);
@@ -163,7 +150,7 @@ static sel_status export_binary(target *t) {
         const int64_t first = offsets[0];
         for (size_t i = 0; i <= t->len; i++) offsets[i] -= first;
         status = sel_arrow_export_offsets(t, offsets);
-        if (status == SEL_OK) status = copy_bytes(t, (size_t)first, (size_t)offsets[t->len]);
+        if (status == SEL_OK) status = sel_arrow_share_bytes(t, (size_t)first);
     }
     free(offsets);
     return status;

@@ -231,6 +231,9 @@ sel_status sel_arrow_share_values(target *t, const sel_column *of);
 sel_status sel_arrow_share_offsets(target *t);
 sel_status sel_arrow_share_binary(target *t);
 
+/* Shares the bytes of a binary column, from byte `from` on, as buffer 2. */
+sel_status sel_arrow_share_bytes(target *t, size_t from);
+
 /* Shares the views as buffer 1, which stays NULL if they have to be cleaned. */
 sel_status sel_arrow_share_views(target *t);
 
