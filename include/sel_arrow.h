@@ -236,10 +236,10 @@ sel_status sel_decode(const sel_column *of, const sel_type *type, sel_column *ou
 /* Returns in `out` the columns for a function that joins them, such as sel_if_then_else, and in `out_type` their common
  * type. The columns are shared if all have the same dictionaries, or dictionaries with equal rows; otherwise those with
  * dictionaries are decoded. An empty type stands for that of the storage. Strings, binary and lists may have offsets of
- * several widths; the fields of structs have the same names, unless they are the entries of maps. The common type has
- * the formats, names and metadata of the first one; it is nullable where one of them is, and says that keys of maps are
- * sorted or dictionaries are ordered where all do. `out` has `len` handles, which are freed and filled if the call
- * succeeds.
+ * several widths; the fields of structs have the same names, unless they are the entries of maps; extension types have
+ * the same names and parameters (ARROW:extension:metadata). The common type has the formats, names and metadata of the
+ * first one; it is nullable where one of them is, and says that keys of maps are sorted or dictionaries are ordered
+ * where all do. `out` has `len` handles, which are freed and filled if the call succeeds.
  * Errors: SEL_ERROR_NO_COLUMN: a column is empty. SEL_ERROR_LENGTH_MISMATCH: `len` is 0. SEL_ERROR_TYPE_MISMATCH: the
  * types differ, or a column does not have the storage of its type. SEL_ERROR_ARROW_DICTIONARY: a dictionary has no
  * values. SEL_ERROR_INDEX_OUT_OF_BOUNDS: a key has no row in its dictionary. SEL_ERROR_ROW_LIMIT,
