@@ -49,10 +49,10 @@ static sel_status copy_validity(target *t) {
 }
 
 /* The nulls of a field that is not nullable are all below null lists or structs, so that it needs no validity. Keys keep it: the key of a
- * null may have no row in its dictionary. */
+ * null may have no row in its dictionary. So do the values of a dictionary, which are no field. */
 static bool keeps_validity(const target *t) {
     bool is_nullable = t->type->flags & ARROW_FLAG_NULLABLE;
-    return is_nullable || (t->type->value_type && sel_null_count(t->of) > 0);
+    return is_nullable || ((t->type->value_type || t->is_dictionary) && sel_null_count(t->of) > 0);
 }
 
 sel_status sel_arrow_export_validity(target *t) {
@@ -60,7 +60,7 @@ sel_status sel_arrow_export_validity(target *t) {
     sel_status status = sel_arrow_share_validity(t, &has);
     if (status == SEL_OK && has && !t->array->buffers[0]) status = copy_validity(t);
     if (status != SEL_OK) return status;
-    if (has && !is_nullable && shows_null(t, t->array->buffers[0])) return SEL_ERROR_ARROW_NULL;
+    if (has && !is_nullable && !t->is_dictionary && shows_null(t, t->array->buffers[0])) return SEL_ERROR_ARROW_NULL;
     bool keeps = has && keeps_validity(t);
     if (!keeps) sel_arrow_drop_buffer(t, 0);
     t->array->null_count = keeps ? count_nulls(t) : 0;

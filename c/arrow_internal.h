@@ -190,6 +190,7 @@ typedef struct target {
     Array *array;
     size_t len;
     const uint8_t *shown; /* a bit for each row: set if no null list or struct above hides it; NULL if none is hidden */
+    bool is_dictionary;   /* the rows are the values of a dictionary, which are no field: whatever the flags are, some may be null */
 } target;
 
 /* Frees the buffers of an array that is exported: its own, and its owners of shared ones, which private_data has. */
