@@ -114,7 +114,8 @@ typedef struct sel_type {
  *
  * Errors: SEL_ERROR_OUT_OF_MEMORY, SEL_ERROR_TOO_DEEP (a list, struct or dictionary below 128 others, whose children
  * are not read), SEL_ERROR_ARROW_DICTIONARY (an array with a dictionary, and `type` is null),
- * SEL_ERROR_INDEX_OUT_OF_BOUNDS (a key), the status of the rule of columns that is broken, or a SEL_ERROR_ARROW_
+ * SEL_ERROR_INDEX_OUT_OF_BOUNDS (a key), SEL_ERROR_ROW_LIMIT and SEL_ERROR_OFFSET_LIMIT (the lists or values that list
+ * views and runs become exceed a size limit), the status of the rule of columns that is broken, or a SEL_ERROR_ARROW_
  * status. */
 sel_status sel_import(struct ArrowArray *array, const struct ArrowSchema *schema, sel_column *out, sel_type *type);
 
