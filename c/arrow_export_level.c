@@ -177,8 +177,10 @@ static sel_status read_buffer(const target *t, texts *it, size_t i) {
     return status == SEL_OK ? sel_buffer(t->of, i, it->buffers[i], len) : status;
 }
 
-/* Reads the views, the data buffers that they refer to, and the offsets of their bytes one after the other. */
+/* Reads the views, the data buffers that they refer to, and the offsets of their bytes one after the other. Stops at the first offset that does
+ * not fit the type: views may share their bytes, so that the sum of the lengths is not bounded by the memory there is. */
 static sel_status read_texts(const target *t, texts *it, int64_t *offsets) {
+    const int64_t most = t->type->format.wide ? INT64_MAX : INT32_MAX;
     sel_status status = sel_buffer_count(t->of, &it->count);
     if (status != SEL_OK) return status;
     it->views = malloc((t->len + 1) * sizeof *it->views);
@@ -187,7 +189,9 @@ static sel_status read_texts(const target *t, texts *it, int64_t *offsets) {
     for (size_t i = 0; status == SEL_OK && i < t->len; i++) {
         const sel_view *view = &it->views[i];
         bool is_seen = sel_arrow_is_seen(t, i);
-        offsets[i + 1] = offsets[i] + (is_seen ? view->length : 0);
+        int64_t len = is_seen ? view->length : 0;
+        if (len > most - offsets[i]) return SEL_ERROR_ARROW_RANGE;
+        offsets[i + 1] = offsets[i] + len;
         if (is_seen && view->length > 12) status = read_buffer(t, it, view->buffer);
     }
     return status;

@@ -391,6 +391,29 @@ static void values_out_of_range(void) {
     sel_type_free(&nulls);
 }
 
+/* A string of a megabyte in each of 2,048 rows, all of the same bytes: the last of them does not fit 32-bit offsets. */
+static void strings_out_of_range(void) {
+    enum { BYTES = 1 << 20, LEN = 2048 };
+    static uint8_t bytes[BYTES];
+    static uint32_t indices[LEN];
+    sel_view view = {BYTES, 0x61616161, 0, 0};
+    const sel_bytes_ref buffer = {bytes, BYTES};
+    sel_column one = {0}, column = {0}, part = {0};
+    sel_type type = {0};
+    struct ArrowArray array;
+    struct ArrowSchema schema;
+    memset(bytes, 'a', sizeof bytes);
+    CHECK(sel_string_view_new(&view, 1, &buffer, 1, SEL_ALL_VALID, &one) == SEL_OK && sel_take_rows(&one, indices, LEN, SEL_ALL_VALID, &column) == SEL_OK);
+    CHECK(sel_type_new("u", NULL, 0, &type) == SEL_OK);
+    CHECK(sel_export(&column, &type, &array, &schema) == SEL_ERROR_ARROW_RANGE && !array.release && !schema.release);
+    CHECK(sel_slice(&column, 0, 3, &part) == SEL_OK && sel_export(&part, &type, &array, &schema) == SEL_OK);
+    if (array.release) CHECK(((const int32_t *)array.buffers[1])[3] == 3 * BYTES), array.release(&array), schema.release(&schema);
+    sel_free(&one);
+    sel_free(&column);
+    sel_free(&part);
+    sel_type_free(&type);
+}
+
 void test_formats(void) {
     leaves_go_around();
     leaves_behind_an_offset();
@@ -403,4 +426,5 @@ void test_formats(void) {
     unions_are_refused();
     fields_without_nulls();
     values_out_of_range();
+    strings_out_of_range();
 }
