@@ -135,9 +135,9 @@ sel_status sel_import(struct ArrowArray *array, const struct ArrowSchema *schema
  * SEL_ERROR_ARROW_DICTIONARY: the type has a dictionary without values; SEL_ERROR_INDEX_OUT_OF_BOUNDS: a key has no
  * row in its dictionary; SEL_ERROR_OUT_OF_MEMORY; then of each level, before those below it, SEL_ERROR_ARROW_NULL: a
  * null is visible in a field that is not nullable and has another format than n (a dictionary is no field, but its
- * values may have fields); SEL_ERROR_ARROW_RANGE: a row shows a decimal of more than 38 digits, a view beyond byte
- * 2,147,483,647 of a data buffer, or the values or elements of all rows do not fit the type's 32-bit offsets. On error
- * there is nothing to release. */
+ * values may have fields), or a byte of a visible w:N or decimal of 256 bits is null; SEL_ERROR_ARROW_RANGE: a row
+ * shows a decimal of more than 38 digits, a view beyond byte 2,147,483,647 of a data buffer, or the values or elements
+ * of all rows do not fit the type's 32-bit offsets. On error there is nothing to release. */
 sel_status sel_export(const sel_column *of, const sel_type *type, struct ArrowArray *array, struct ArrowSchema *schema);
 
 /* Returns the first format of a schema, at any depth, that sel_import does not support; the string lives as long as the
