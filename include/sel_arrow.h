@@ -5,6 +5,7 @@
  *     copied on import                              copied on export
  *     buffers that are not aligned for their type   bits that do not begin at a byte
  *     32-bit offsets, which become 64-bit ones      offsets that the type has in 32 bits
+ *     64-bit offsets of binary without any bytes
  *     128-bit integers                              128-bit integers
  *     views, if a null slot has one of more than    views, if one is hidden by a null or has bytes that are not 0
  *     12 bytes                                      behind its own
@@ -92,8 +93,9 @@ typedef struct sel_type {
  * that uses one of its buffers is freed. The next call of sel_free (also of an empty handle) or sel_selection_free, or
  * the next release of an exported array or of a moved child of one, releases it, on the thread of that call. If imports
  * have more than 64 buffers in use, including those that the library allocated for them, some more calls of sel_free
- * may be needed: at most one for each 64 of these buffers. Until the release nobody may write to the array's buffers.
- * The release may call this library. If it frees the last user of another array, that array is released afterwards.
+ * may be needed: at most one for each 64 of these buffers. The other functions of this header free handles of their
+ * own, so that any of them may release it. Until the release nobody may write to the array's buffers. The release may
+ * call this library. If it frees the last user of another array, that array is released afterwards.
  *
  * Formats, with their storage: n; b; c C s S i I l L; e f g, as u16, u32, u64; tdD tdm tts ttm ttu ttn ts_:.. tD_ tiM
  * tiD, as i32 or i64; tin, as u128; d:P,S and d:P,S,B, as i32, i64, i128 or 32 bytes; w:N, as fixed-size lists of u8,
