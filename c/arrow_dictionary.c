@@ -202,11 +202,20 @@ sel_status sel_decode(const sel_column *of, const sel_type *type, sel_column *ou
 
 /* ---- the common type of columns */
 
-static bool is_equal_extension(const node *a, const node *b) {
+/* Tests whether the metadata of two fields have equal bytes under a key. A missing key is equal to an empty value. */
+static bool is_equal_value(const node *a, const node *b, const char *key) {
     size_t len = 0, other_len = 0;
-    const char *name = sel_arrow_metadata_value(a->metadata, "ARROW:extension:name", &len);
-    const char *other = sel_arrow_metadata_value(b->metadata, "ARROW:extension:name", &other_len);
-    return name && other ? len == other_len && !memcmp(name, other, len) : name == other;
+    const char *value = sel_arrow_metadata_value(a->metadata, key, &len);
+    const char *other = sel_arrow_metadata_value(b->metadata, key, &other_len);
+    if (!value || !other) return (!value || len == 0) && (!other || other_len == 0);
+    return len == other_len && !memcmp(value, other, len);
+}
+
+/* Tests whether two fields have the same extension type, with the same parameters, or none. */
+static bool is_equal_extension(const node *a, const node *b) {
+    if (sel_arrow_has_extension(a->metadata) != sel_arrow_has_extension(b->metadata)) return false;
+    if (!sel_arrow_has_extension(a->metadata)) return true;
+    return is_equal_value(a, b, "ARROW:extension:name") && is_equal_value(a, b, "ARROW:extension:metadata");
 }
 
 static bool is_equal_name(const node *a, const node *b) { return !strcmp(a->name ? a->name : "", b->name ? b->name : ""); }

@@ -208,18 +208,26 @@ static sel_status export_level(target *t) {
     }
 }
 
-static sel_status export_dictionary(target *t) {
-    t->array->dictionary = calloc(1, sizeof(Array));
-    return t->array->dictionary ? export_node(&t->type->values, t->type->value_type, NULL, t->array->dictionary) : SEL_ERROR_OUT_OF_MEMORY;
+static sel_status export_target(target *t);
+
+static sel_status export_dictionary(const target *t) {
+    const node *type = t->type;
+    target values = {&type->values, type->value_type, calloc(1, sizeof(Array)), sel_len(&type->values), NULL, true};
+    t->array->dictionary = values.array;
+    return values.array ? export_target(&values) : SEL_ERROR_OUT_OF_MEMORY;
+}
+
+static sel_status export_target(target *t) {
+    memset(t->array, 0, sizeof *t->array);
+    t->array->length = (int64_t)t->len;
+    t->array->release = release_array;
+    sel_status status = export_level(t);
+    return status == SEL_OK && t->type->value_type ? export_dictionary(t) : status;
 }
 
 static sel_status export_node(const sel_column *of, const node *type, const uint8_t *shown, Array *array) {
-    target t = {of, type, array, sel_len(of), shown};
-    memset(array, 0, sizeof *array);
-    array->length = (int64_t)t.len;
-    array->release = release_array;
-    sel_status status = export_level(&t);
-    return status == SEL_OK && type->value_type ? export_dictionary(&t) : status;
+    target t = {of, type, array, sel_len(of), shown, false};
+    return export_target(&t);
 }
 
 sel_status sel_export(const sel_column *of, const sel_type *type, struct ArrowArray *array, struct ArrowSchema *schema) {

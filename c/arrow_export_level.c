@@ -49,10 +49,10 @@ static sel_status copy_validity(target *t) {
 }
 
 /* The nulls of a field that is not nullable are all below null lists or structs, so that it needs no validity. Keys keep it: the key of a
- * null may have no row in its dictionary. */
+ * null may have no row in its dictionary. So do the values of a dictionary, which are no field. */
 static bool keeps_validity(const target *t) {
     bool is_nullable = t->type->flags & ARROW_FLAG_NULLABLE;
-    return is_nullable || (t->type->value_type && sel_null_count(t->of) > 0);
+    return is_nullable || ((t->type->value_type || t->is_dictionary) && sel_null_count(t->of) > 0);
 }
 
 sel_status sel_arrow_export_validity(target *t) {
@@ -60,7 +60,7 @@ sel_status sel_arrow_export_validity(target *t) {
     sel_status status = sel_arrow_share_validity(t, &has);
     if (status == SEL_OK && has && !t->array->buffers[0]) status = copy_validity(t);
     if (status != SEL_OK) return status;
-    if (has && !is_nullable && shows_null(t, t->array->buffers[0])) return SEL_ERROR_ARROW_NULL;
+    if (has && !is_nullable && !t->is_dictionary && shows_null(t, t->array->buffers[0])) return SEL_ERROR_ARROW_NULL;
     bool keeps = has && keeps_validity(t);
     if (!keeps) sel_arrow_drop_buffer(t, 0);
     t->array->null_count = keeps ? count_nulls(t) : 0;
@@ -141,20 +141,7 @@ sel_status sel_arrow_export_offsets(target *t, const int64_t *offsets) {
     return out ? SEL_OK : SEL_ERROR_OUT_OF_MEMORY;
 }
 
-/* Copies the bytes of the rows, which lie from the first offset on. */
-static sel_status copy_bytes(target *t, size_t first, size_t count) {
-    lent_buffer all = {NULL};
-    const void *at = NULL;
-    size_t len = 0, bit = 0;
-    uint8_t *bytes = sel_arrow_buffer(t, 2, count, 1);
-    sel_status status = bytes ? sel_bytes_of(t->of, &all) : SEL_ERROR_OUT_OF_MEMORY;
-    if (status == SEL_OK) status = sel_buffer_show(&all, &at, &len, &bit);
-    if (status == SEL_OK && count > 0) memcpy(bytes, (const char *)at + first, count);
-    sel_buffer_free(&all);
-    return status;
-}
-
-/* Exports a binary column: as it is, or, if the type has 32-bit offsets, of its bytes those of its rows. */
+/* Exports a binary column: as it is, or, if the type has 32-bit offsets, with its bytes from the first row on. */
 static sel_status export_binary(target *t) {
     if (t->type->format.wide) return sel_arrow_share_binary(t);
     int64_t *offsets = malloc((t->len + 1) * sizeof *offsets);
@@ -163,7 +150,7 @@ static sel_status export_binary(target *t) {
         const int64_t first = offsets[0];
         for (size_t i = 0; i <= t->len; i++) offsets[i] -= first;
         status = sel_arrow_export_offsets(t, offsets);
-        if (status == SEL_OK) status = copy_bytes(t, (size_t)first, (size_t)offsets[t->len]);
+        if (status == SEL_OK) status = sel_arrow_share_bytes(t, (size_t)first);
     }
     free(offsets);
     return status;
@@ -190,8 +177,10 @@ static sel_status read_buffer(const target *t, texts *it, size_t i) {
     return status == SEL_OK ? sel_buffer(t->of, i, it->buffers[i], len) : status;
 }
 
-/* Reads the views, the data buffers that they refer to, and the offsets of their bytes one after the other. */
+/* Reads the views, the data buffers that they refer to, and the offsets of their bytes one after the other. Stops at the first offset that does
+ * not fit the type: views may share their bytes, so that the sum of the lengths is not bounded by the memory there is. */
 static sel_status read_texts(const target *t, texts *it, int64_t *offsets) {
+    const int64_t most = t->type->format.wide ? INT64_MAX : INT32_MAX;
     sel_status status = sel_buffer_count(t->of, &it->count);
     if (status != SEL_OK) return status;
     it->views = malloc((t->len + 1) * sizeof *it->views);
@@ -200,7 +189,9 @@ static sel_status read_texts(const target *t, texts *it, int64_t *offsets) {
     for (size_t i = 0; status == SEL_OK && i < t->len; i++) {
         const sel_view *view = &it->views[i];
         bool is_seen = sel_arrow_is_seen(t, i);
-        offsets[i + 1] = offsets[i] + (is_seen ? view->length : 0);
+        int64_t len = is_seen ? view->length : 0;
+        if (len > most - offsets[i]) return SEL_ERROR_ARROW_RANGE;
+        offsets[i + 1] = offsets[i] + len;
         if (is_seen && view->length > 12) status = read_buffer(t, it, view->buffer);
     }
     return status;

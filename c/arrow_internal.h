@@ -190,6 +190,7 @@ typedef struct target {
     Array *array;
     size_t len;
     const uint8_t *shown; /* a bit for each row: set if no null list or struct above hides it; NULL if none is hidden */
+    bool is_dictionary;   /* the rows are the values of a dictionary, which are no field: whatever the flags are, some may be null */
 } target;
 
 /* Frees the buffers of an array that is exported: its own, and its owners of shared ones, which private_data has. */
@@ -230,6 +231,9 @@ sel_status sel_arrow_share_values(target *t, const sel_column *of);
 /* Shares the offsets of lists, or the offsets and the bytes of a binary column. */
 sel_status sel_arrow_share_offsets(target *t);
 sel_status sel_arrow_share_binary(target *t);
+
+/* Shares the bytes of a binary column, from byte `from` on, as buffer 2. */
+sel_status sel_arrow_share_bytes(target *t, size_t from);
 
 /* Shares the views as buffer 1, which stays NULL if they have to be cleaned. */
 sel_status sel_arrow_share_views(target *t);

@@ -1,6 +1,7 @@
 /* Malformed arrays: for every format each count, flag, offset and pointer at its extremes, in the array and in its child.
  * Each import returns the status of the first broken rule, and then leaves `out` and the array unchanged; else it releases
- * the array once. Built with AddressSanitizer and UndefinedBehaviorSanitizer, which stop at any read outside of a buffer and any overflow. */
+ * the array once. sel_unsupported_format finds a format exactly if that is the broken rule. Built with AddressSanitizer and
+ * UndefinedBehaviorSanitizer, which stop at any read outside of a buffer and any overflow. */
 #include "sel_arrow.h"
 
 #include <inttypes.h>
@@ -130,6 +131,7 @@ static void imports(specimen *it, uint32_t wanted, const char *what, int64_t val
         holds = holds && releases == 0 && it->array.release == release && !memcmp(&out, &before, sizeof out) && !type.at;
     }
     holds = holds && (status != SEL_OK || exports_again(&out, &type, wanted == ANY));
+    holds = holds && !sel_unsupported_format(&it->schema) == (status != SEL_ERROR_ARROW_FORMAT);
     sel_type_free(&type);
     sel_free(&out);
     holds = holds && releases == (status == SEL_OK);

@@ -14,11 +14,16 @@ static int64_t children_of(enum layout layout) {
 
 static bool is_integer(const char *text) { return strlen(text) == 1 && strchr("cCsSiIlL", text[0]); }
 
+/* Tests whether a schema can have so many children. */
+static bool has_right_count(const Schema *schema, const format *format) {
+    int64_t wanted = children_of(format->layout), count = schema->n_children;
+    return count >= 0 && count <= MAX_COUNT && (wanted < 0 || count == wanted);
+}
+
 /* Checks the number of children of a schema, and that none is missing. */
 static sel_status check_children(const Schema *schema, const format *format) {
-    int64_t wanted = children_of(format->layout), count = schema->n_children;
-    if (count < 0 || count > MAX_COUNT || (wanted >= 0 && count != wanted)) return SEL_ERROR_ARROW_CHILDREN;
-    if (count > 0 && !schema->children) return SEL_ERROR_ARROW_CHILDREN;
+    int64_t count = schema->n_children;
+    if (!has_right_count(schema, format) || (count > 0 && !schema->children)) return SEL_ERROR_ARROW_CHILDREN;
     for (int64_t i = 0; i < count; i++)
         if (!schema->children[i]) return SEL_ERROR_ARROW_CHILDREN;
     return SEL_OK;
@@ -83,7 +88,8 @@ sel_status sel_type_import(const struct ArrowSchema *schema, sel_type *out) {
     return status;
 }
 
-/* Stops the whole search below 128 levels, as an import does: a schema that is below itself has no end. */
+/* Stops the whole search below 128 levels, as an import does: a schema that is below itself has no end. Of a schema with another number of
+ * children than its format has, which an import does not read, no child is looked at. */
 static const char *find_unsupported(const Schema *schema, unsigned depth, bool *stops) {
     size_t metadata_len = 0;
     format format;
@@ -94,7 +100,8 @@ static const char *find_unsupported(const Schema *schema, unsigned depth, bool *
     bool has_ends = format.layout == RUNS && schema->n_children == 2 && schema->children && schema->children[0];
     if (has_ends && check_ends(schema->children[0]) == SEL_ERROR_ARROW_FORMAT) return schema->children[0]->format ? schema->children[0]->format : "";
     const char *found = NULL;
-    for (int64_t i = 0; !found && !*stops && schema->children && i < schema->n_children && i < MAX_COUNT; i++) found = find_unsupported(schema->children[i], depth + 1, stops);
+    int64_t count = schema->children && has_right_count(schema, &format) ? schema->n_children : 0;
+    for (int64_t i = 0; !found && !*stops && i < count; i++) found = find_unsupported(schema->children[i], depth + 1, stops);
     return found ? found : find_unsupported(schema->dictionary, depth + 1, stops);
 }
 

@@ -59,9 +59,19 @@ sel_status sel_arrow_share_offsets(target *t) {
 }
 
 sel_status sel_arrow_share_binary(target *t) {
-    bool has;
     sel_status status = sel_arrow_share_offsets(t);
-    return status == SEL_OK ? share(t, 2, sel_bytes_of, t->of, &has) : status;
+    return status == SEL_OK ? sel_arrow_share_bytes(t, 0) : status;
+}
+
+sel_status sel_arrow_share_bytes(target *t, size_t from) {
+    lent_buffer owner = {NULL};
+    const void *at = NULL;
+    size_t len = 0, first = 0;
+    sel_status status = sel_bytes_of(t->of, &owner);
+    if (status == SEL_OK) status = sel_buffer_show(&owner, &at, &len, &first);
+    if (status == SEL_OK) keep(t, 2, (const char *)at + from, &owner);
+    sel_buffer_free(&owner);
+    return status;
 }
 
 /* Tests whether a view can be exported as it is: it can be seen, its indices fit, and the bytes behind a short one's own are 0. */

@@ -302,6 +302,36 @@ static void hidden_keys_go_around(void) {
     }
 }
 
+/* A dictionary may have nulls whatever its flags are, since it is no field; the fields below may not. */
+static void dictionaries_may_have_nulls(void) {
+    static const char *const names[] = {"x"};
+    static const uint8_t first_two[2] = {0, 1};
+    for (int kind = 0; kind < 3; kind++) {
+        sel_column column = {0}, again = {0};
+        sel_type type = {0}, same = {0};
+        struct ArrowArray array;
+        struct ArrowSchema schema;
+        forget_pieces();
+        piece values = words(text);
+        if (kind > 0) values = piece_over(piece_of("+s", 4, 0, 1, kind == 1 ? second_null : NULL, NULL, NULL), 1, &values, names);
+        if (kind > 0) values.schema->children[0]->flags = 0;
+        values.schema->flags = 0;
+        piece keys = piece_with(piece_of("C", 2, 0, 2, NULL, first_two, NULL), values);
+        CHECK(import_piece(keys, &column, &type) == SEL_OK && shows(&column, "[0,1]"));
+        sel_status status = sel_export(&column, &type, &array, &schema);
+        CHECK(status == (kind == 2 ? SEL_ERROR_ARROW_NULL : SEL_OK));
+        if (status == SEL_OK) {
+            CHECK(same_schema(&schema, keys.schema) && array.dictionary->null_count == 1 && array.dictionary->buffers[0]);
+            CHECK(sel_import(&array, &schema, &again, &same) == SEL_OK && sel_type_equal(&type, &same));
+            schema.release(&schema);
+        }
+        sel_free(&column);
+        sel_free(&again);
+        sel_type_free(&type);
+        sel_type_free(&same);
+    }
+}
+
 /* Returns no fixed-size lists of two, one level of them above the other, over keys of a dictionary without rows. */
 static piece lists_without_rows(int depth) {
     static const char *const names[] = {"item"};
@@ -375,6 +405,7 @@ void test_dictionaries(void) {
     keys_go_around();
     null_lists_have_no_keys();
     hidden_keys_go_around();
+    dictionaries_may_have_nulls();
     keys_are_checked();
     nested_keys_are_decoded();
     columns_are_joined();

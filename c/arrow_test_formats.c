@@ -294,6 +294,28 @@ static void runs_are_refused(void) {
     CHECK(sel_import(runs.array, runs.schema, &out, NULL) == SEL_ERROR_ARROW_NULL && !out.at);
 }
 
+/* Runs of lists and list views of lists may have more elements than a column has rows. */
+static void expanded_lists_have_a_limit(void) {
+    enum { ELEMENTS = 1 << 20, LISTS = 1 << 12 };
+    static const int32_t lists[2] = {0, ELEMENTS};
+    static int32_t starts[LISTS], sizes[LISTS];
+    const int32_t ends[1] = {LISTS};
+    sel_column out = {0};
+    for (int i = 0; i < LISTS; i++) sizes[i] = 1;
+    for (int is_view = 0; is_view < 2; is_view++) {
+        for (int64_t length = LISTS - 1; length <= LISTS; length++) {
+            forget_pieces();
+            piece elements = piece_of("n", ELEMENTS, 0, 0, NULL, NULL, NULL);
+            piece list = piece_over(piece_of("+l", 1, 0, 2, NULL, lists, NULL), 1, &elements, NULL);
+            piece both[2] = {piece_of("i", 1, 0, 2, NULL, ends, NULL), list};
+            piece it = is_view ? piece_over(piece_of("+vl", length, 0, 3, NULL, starts, sizes), 1, &list, NULL)
+                               : piece_over(piece_of("+r", length, 0, 0, NULL, NULL, NULL), 2, both, NULL);
+            CHECK(import_piece(it, &out, NULL) == (length < LISTS ? SEL_OK : SEL_ERROR_ROW_LIMIT) && (length < LISTS) == (out.at != NULL));
+            sel_free(&out);
+        }
+    }
+}
+
 static void unions_are_refused(void) {
     static const char *const formats[] = {"+us:0,1", "+ud:0,1", "+us:", "tsx:", "w:", "d:39,0", "d:10,0,32", "d:77,0,256", "d:5,x", "nonsense", ""};
     for (size_t i = 0; i < sizeof formats / sizeof *formats; i++) {
@@ -369,6 +391,29 @@ static void values_out_of_range(void) {
     sel_type_free(&nulls);
 }
 
+/* A string of a megabyte in each of 2,048 rows, all of the same bytes: the last of them does not fit 32-bit offsets. */
+static void strings_out_of_range(void) {
+    enum { BYTES = 1 << 20, LEN = 2048 };
+    static uint8_t bytes[BYTES];
+    static uint32_t indices[LEN];
+    sel_view view = {BYTES, 0x61616161, 0, 0};
+    const sel_bytes_ref buffer = {bytes, BYTES};
+    sel_column one = {0}, column = {0}, part = {0};
+    sel_type type = {0};
+    struct ArrowArray array;
+    struct ArrowSchema schema;
+    memset(bytes, 'a', sizeof bytes);
+    CHECK(sel_string_view_new(&view, 1, &buffer, 1, SEL_ALL_VALID, &one) == SEL_OK && sel_take_rows(&one, indices, LEN, SEL_ALL_VALID, &column) == SEL_OK);
+    CHECK(sel_type_new("u", NULL, 0, &type) == SEL_OK);
+    CHECK(sel_export(&column, &type, &array, &schema) == SEL_ERROR_ARROW_RANGE && !array.release && !schema.release);
+    CHECK(sel_slice(&column, 0, 3, &part) == SEL_OK && sel_export(&part, &type, &array, &schema) == SEL_OK);
+    if (array.release) CHECK(((const int32_t *)array.buffers[1])[3] == 3 * BYTES), array.release(&array), schema.release(&schema);
+    sel_free(&one);
+    sel_free(&column);
+    sel_free(&part);
+    sel_type_free(&type);
+}
+
 void test_formats(void) {
     leaves_go_around();
     leaves_behind_an_offset();
@@ -377,7 +422,9 @@ void test_formats(void) {
     list_views_are_refused();
     runs_become_values();
     runs_are_refused();
+    expanded_lists_have_a_limit();
     unions_are_refused();
     fields_without_nulls();
     values_out_of_range();
+    strings_out_of_range();
 }

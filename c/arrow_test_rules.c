@@ -145,6 +145,33 @@ static void decimals_have_128_bits(void) {
     sel_type_free(&common);
 }
 
+#define EXTENSION "\x14\0\0\0" "ARROW:extension:name" "\6\0\0\0" "tensor"
+#define PARAMETERS "\x18\0\0\0" "ARROW:extension:metadata"
+
+/* Columns of an extension type are joined if it has the same parameters; none are the same as empty ones. */
+static void extension_types_have_parameters(void) {
+    static const char name_alone[] = "\1\0\0\0" EXTENSION, empty[] = "\2\0\0\0" EXTENSION PARAMETERS "\0\0\0\0";
+    static const char wide[] = "\2\0\0\0" EXTENSION PARAMETERS "\5\0\0\0" "[2,3]", high[] = "\2\0\0\0" EXTENSION PARAMETERS "\5\0\0\0" "[3,2]";
+    static const char no_name[] = "\1\0\0\0" PARAMETERS "\5\0\0\0" "[2,3]";
+    static const struct { const char *one, *other; sel_status status; } given[] = {
+        {wide, wide, SEL_OK}, {wide, high, SEL_ERROR_TYPE_MISMATCH}, {wide, name_alone, SEL_ERROR_TYPE_MISMATCH}, {empty, wide, SEL_ERROR_TYPE_MISMATCH},
+        {name_alone, empty, SEL_OK}, {empty, name_alone, SEL_OK}, {no_name, NULL, SEL_OK}, {no_name, wide, SEL_ERROR_TYPE_MISMATCH},
+    };
+    for (size_t i = 0; i < sizeof given / sizeof *given; i++) {
+        sel_column columns[2] = {{0}, {0}}, out[2] = {{0}, {0}};
+        sel_type types[2] = {{0}, {0}}, common = {0};
+        for (int k = 0; k < 2; k++) {
+            struct ArrowSchema schema = type_of_format("l");
+            schema.metadata = k == 0 ? given[i].one : given[i].other;
+            CHECK(sel_type_import(&schema, &types[k]) == SEL_OK && sel_int64_new(numbers, 4, SEL_ALL_VALID, &columns[k]) == SEL_OK);
+        }
+        CHECK(sel_common_type(columns, types, 2, out, &common) == given[i].status);
+        CHECK(given[i].status == SEL_OK ? sel_type_equal(&common, &types[0]) : !common.at && !out[0].at);
+        free_pairs(columns, out, types);
+        sel_type_free(&common);
+    }
+}
+
 /* Of several errors the first one that the header lists is returned, at whatever depth they are. */
 static void errors_come_in_order(void) {
     sel_column fields = {0}, columns[2] = {{0}, {0}}, out[2] = {{0}, {0}};
@@ -211,6 +238,7 @@ void test_rules(void) {
     keys_of_keys_are_decoded();
     joined_maps_are_sorted_if_all_are();
     decimals_have_128_bits();
+    extension_types_have_parameters();
     errors_come_in_order();
     schemas_are_read_whole();
     slices_of_fixed_bytes_may_begin_late();

@@ -74,6 +74,8 @@ static void metadata_is_checked(void) {
     schema.format = "w:4";
     schema.metadata = "\2\0\0\0\1\0\0\0k\0\0\0\0\x14\0\0\0" "ARROW:extension:name" "\4\0\0\0" "uuid";
     CHECK(sel_type_import(&schema, &out) == SEL_OK && prints(&out, "extension<uuid, fixed_size_binary[4]>"));
+    schema.format = "tin"; /* its storage is that of the extension type sel.uint128 */
+    CHECK(sel_type_import(&schema, &out) == SEL_OK && prints(&out, "extension<uuid, month_day_nano_interval>"));
     sel_type_free(&out);
 }
 

@@ -93,7 +93,8 @@ static void put_storage(writer *w, const node *of) {
 static void put_type(writer *w, const node *of) {
     size_t len = 0;
     const char *extension = sel_arrow_metadata_value(of->metadata, "ARROW:extension:name", &len);
-    bool has_extension = extension && !(of->format.layout == NUMBERS && of->format.storage == SEL_TYPE_UINT128);
+    bool is_uint128 = of->format.storage == SEL_TYPE_UINT128 && of->text[0] == 'w';
+    bool has_extension = extension && !is_uint128;
     if (has_extension) put(w, "extension<"), put_bytes(w, extension, len), put(w, ", ");
     if (of->value_type) put(w, "dictionary<");
     put_storage(w, of);

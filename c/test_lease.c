@@ -160,16 +160,18 @@ static void make_views(producer *p) {
 
 /* ---- tests */
 
-/* The address of the values of an exported array, and that of the producer's, are the same. */
-static void exports_at(const sel_column *column, int64_t buffer, const void *at) {
+/* The address of a buffer of an array that is exported with a type, and that of the producer's, are the same. */
+static void exports_with_type_at(const sel_column *column, const sel_type *type, int64_t buffer, const void *at) {
     struct ArrowArray array;
     struct ArrowSchema schema;
-    if (!works(sel_export(column, NULL, &array, &schema))) return;
+    if (!works(sel_export(column, type, &array, &schema))) return;
     IS(array.buffers[buffer] == at && array.offset == 0);
     array.release(&array);
     schema.release(&schema);
     IS(!array.release && !schema.release);
 }
+
+static void exports_at(const sel_column *column, int64_t buffer, const void *at) { exports_with_type_at(column, NULL, buffer, at); }
 
 static void integers_keep_their_addresses(void) {
     static const int64_t offsets[] = {0, 1, 8, 13};
@@ -211,6 +213,27 @@ static void bytes_keep_their_addresses(void) {
     exports_at(&column, 0, p.buffers[0][0]);
     exports_at(&column, 1, offsets);
     exports_at(&column, 2, bytes);
+    ends(&p, &column);
+}
+
+/* With 32-bit offsets, which are new, a binary column has the producer's bytes from its first row on. */
+static void bytes_with_narrow_offsets_keep_their_addresses(void) {
+    static const int32_t offsets[5] = {2, 5, 5, 9, 14};
+    producer p;
+    sel_column column = {0}, part = {0};
+    sel_type type = {0};
+    begin(&p);
+    const void *starts = put(&p, offsets, sizeof offsets);
+    add(&p, "z", 4, 0, 0, 3, NULL, starts, put(&p, "--onethreetwelve", 16));
+    const char *bytes = p.buffers[0][2];
+    if (!import(&p, &column)) return;
+    if (works(sel_type_new("z", NULL, 0, &type))) {
+        exports_with_type_at(&column, &type, 2, bytes + offsets[0]);
+        for (size_t first = 0; first < 4; first++)
+            if (works(sel_slice(&column, first, 4 - first, &part))) exports_with_type_at(&part, &type, 2, bytes + offsets[first]);
+    }
+    sel_free(&part);
+    sel_type_free(&type);
     ends(&p, &column);
 }
 
@@ -528,7 +551,7 @@ static void moved_children_release(void) {
 
 int main(void) {
     static void (*const tests[])(void) = {integers_keep_their_addresses, booleans_keep_their_addresses, bytes_keep_their_addresses,
-                                          views_keep_their_addresses, empty_arrays_are_released, failed_imports_lend_nothing,
+                                          bytes_with_narrow_offsets_keep_their_addresses, views_keep_their_addresses, empty_arrays_are_released, failed_imports_lend_nothing,
                                           arrays_are_released_apart, round_trips_end, strings_share_their_bytes,
                                           nested_arrays_keep_their_addresses, values_are_borrowed, other_types_are_not_borrowed,
                                           selections_keep_their_mask, moved_children_release};

@@ -5,12 +5,14 @@
  *     copied on import                              copied on export
  *     buffers that are not aligned for their type   bits that do not begin at a byte
  *     32-bit offsets, which become 64-bit ones      offsets that the type has in 32 bits
+ *     64-bit offsets of binary without any bytes
  *     128-bit integers                              128-bit integers
  *     views, if a null slot has one of more than    views, if one is hidden by a null or has bytes that are not 0
  *     12 bytes                                      behind its own
  *     views of strings with offsets, which are new  strings that the type has with offsets
  *     list views and runs, which become lists and   offsets of a part of a list column that do not begin at 0, if
- *     values                                        its elements are nested, strings or views
+ *     values                                        its elements are nested, strings, views or decimals of 128
+ *                                                   bits, or not nullable
  *
  * The bytes, values and children that copied offsets and views refer to are not copied, except for 128-bit integers,
  * list views, runs, and strings that are exported with offsets.
@@ -91,8 +93,9 @@ typedef struct sel_type {
  * that uses one of its buffers is freed. The next call of sel_free (also of an empty handle) or sel_selection_free, or
  * the next release of an exported array or of a moved child of one, releases it, on the thread of that call. If imports
  * have more than 64 buffers in use, including those that the library allocated for them, some more calls of sel_free
- * may be needed: at most one for each 64 of these buffers. Until the release nobody may write to the array's buffers.
- * The release may call this library. If it frees the last user of another array, that array is released afterwards.
+ * may be needed: at most one for each 64 of these buffers. The other functions of this header free handles of their
+ * own, so that any of them may release it. Until the release nobody may write to the array's buffers. The release may
+ * call this library. If it frees the last user of another array, that array is released afterwards.
  *
  * Formats, with their storage: n; b; c C s S i I l L; e f g, as u16, u32, u64; tdD tdm tts ttm ttu ttn ts_:.. tD_ tiM
  * tiD, as i32 or i64; tin, as u128; d:P,S and d:P,S,B, as i32, i64, i128 or 32 bytes; w:N, as fixed-size lists of u8,
@@ -113,7 +116,8 @@ typedef struct sel_type {
  *
  * Errors: SEL_ERROR_OUT_OF_MEMORY, SEL_ERROR_TOO_DEEP (a list, struct or dictionary below 128 others, whose children
  * are not read), SEL_ERROR_ARROW_DICTIONARY (an array with a dictionary, and `type` is null),
- * SEL_ERROR_INDEX_OUT_OF_BOUNDS (a key), the status of the rule of columns that is broken, or a SEL_ERROR_ARROW_
+ * SEL_ERROR_INDEX_OUT_OF_BOUNDS (a key), SEL_ERROR_ROW_LIMIT and SEL_ERROR_OFFSET_LIMIT (the lists or values that list
+ * views and runs become exceed a size limit), the status of the rule of columns that is broken, or a SEL_ERROR_ARROW_
  * status. */
 sel_status sel_import(struct ArrowArray *array, const struct ArrowSchema *schema, sel_column *out, sel_type *type);
 
@@ -132,13 +136,15 @@ sel_status sel_import(struct ArrowArray *array, const struct ArrowSchema *schema
  * Errors: SEL_ERROR_NO_COLUMN; SEL_ERROR_TYPE_MISMATCH: the column does not have the storage of the type;
  * SEL_ERROR_ARROW_DICTIONARY: the type has a dictionary without values; SEL_ERROR_INDEX_OUT_OF_BOUNDS: a key has no
  * row in its dictionary; SEL_ERROR_OUT_OF_MEMORY; then of each level, before those below it, SEL_ERROR_ARROW_NULL: a
- * null is visible in a field that is not nullable and has another format than n; SEL_ERROR_ARROW_RANGE: a row shows a
- * decimal of more than 38 digits, a view beyond byte 2,147,483,647 of a data buffer, or the values or elements of all
- * rows do not fit the type's 32-bit offsets. On error there is nothing to release. */
+ * null is visible in a field that is not nullable and has another format than n (a dictionary is no field, but its
+ * values may have fields), or a byte of a visible w:N or decimal of 256 bits is null; SEL_ERROR_ARROW_RANGE: a row
+ * shows a decimal of more than 38 digits, a view beyond byte 2,147,483,647 of a data buffer, or the values or elements
+ * of all rows do not fit the type's 32-bit offsets. On error there is nothing to release. */
 sel_status sel_export(const sel_column *of, const sel_type *type, struct ArrowArray *array, struct ArrowSchema *schema);
 
 /* Returns the first format of a schema, at any depth, that sel_import does not support; the string lives as long as the
- * schema. Returns a null pointer if there is no such format, or none before a level that is below 128 others. */
+ * schema. Returns a null pointer if there is no such format, or none before a level that is below 128 others. Children
+ * are read only if their number is that of the format. */
 const char *sel_unsupported_format(const struct ArrowSchema *schema);
 
 /* Returns in `values` the address of the values of a column of integers of 8 to 64 bits, and in `len` the number of
@@ -234,10 +240,10 @@ sel_status sel_decode(const sel_column *of, const sel_type *type, sel_column *ou
 /* Returns in `out` the columns for a function that joins them, such as sel_if_then_else, and in `out_type` their common
  * type. The columns are shared if all have the same dictionaries, or dictionaries with equal rows; otherwise those with
  * dictionaries are decoded. An empty type stands for that of the storage. Strings, binary and lists may have offsets of
- * several widths; the fields of structs have the same names, unless they are the entries of maps. The common type has
- * the formats, names and metadata of the first one; it is nullable where one of them is, and says that keys of maps are
- * sorted or dictionaries are ordered where all do. `out` has `len` handles, which are freed and filled if the call
- * succeeds.
+ * several widths; the fields of structs have the same names, unless they are the entries of maps; extension types have
+ * the same names and parameters (ARROW:extension:metadata). The common type has the formats, names and metadata of the
+ * first one; it is nullable where one of them is, and says that keys of maps are sorted or dictionaries are ordered
+ * where all do. `out` has `len` handles, which are freed and filled if the call succeeds.
  * Errors: SEL_ERROR_NO_COLUMN: a column is empty. SEL_ERROR_LENGTH_MISMATCH: `len` is 0. SEL_ERROR_TYPE_MISMATCH: the
  * types differ, or a column does not have the storage of its type. SEL_ERROR_ARROW_DICTIONARY: a dictionary has no
  * values. SEL_ERROR_INDEX_OUT_OF_BOUNDS: a key has no row in its dictionary. SEL_ERROR_ROW_LIMIT,

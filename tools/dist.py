@@ -449,8 +449,22 @@ def check_unbuilt(folder: pathlib.Path) -> None:
     print("a missing library, and one of other sources: ok")
 
 
+def check_prefixes() -> None:
+    """Checks that nothing is installed into the checkout or removed from it, whose headers have the names of installed ones."""
+    for prefix in ("", str(ROOT), f"{ROOT}/c/.."):
+        try:
+            absolute(prefix)
+        except SystemExit as stop:
+            expect("PREFIX" in str(stop.code), "the message does not name PREFIX")
+        else:
+            sys.exit(f"failed: the prefix {prefix!r} is accepted")
+    expect(absolute("/opt/sel") == "/opt/sel", "an absolute prefix is not taken as it is")
+    print("an empty prefix, and the checkout as prefix: ok")
+
+
 def check() -> None:
     require_built(BUILD)
+    check_prefixes()
     with tempfile.TemporaryDirectory(prefix="sel dist ") as made, tempfile.TemporaryDirectory(prefix="sel-dist-") as plain:
         folder, work = pathlib.Path(made), pathlib.Path(plain)
         check_unbuilt(folder / "unbuilt")
@@ -469,7 +483,11 @@ def check() -> None:
 
 
 def absolute(prefix: str) -> str:
-    return os.path.abspath(os.path.expanduser(prefix))
+    """Returns the path of a prefix. Exits if it is empty, or the checkout, whose headers are not to be overwritten or removed."""
+    path = os.path.abspath(os.path.expanduser(prefix))
+    if not prefix or pathlib.Path(path).resolve() == ROOT:
+        sys.exit(f"PREFIX is {'empty' if not prefix else 'the checkout'}: name another folder by PREFIX=folder")
+    return path
 
 
 def main() -> None:

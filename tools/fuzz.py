@@ -38,7 +38,7 @@ FLAGS = ["-std=c11", "-g", "-O1", "-Wall", "-Wextra", "-Werror", *SANITIZED, "-f
 RANDOM = [TESTS / "random" / f"{name}.c" for name in ("draw", "generate", "model", "steps")]
 # the sources of each target, and below the longest input of each in bytes
 TARGETS: Dict[str, List[pathlib.Path]] = {
-    "arrow": [TESTS / "fuzz" / "arrow.c", TESTS / "fuzz" / "producer.c", TESTS / "random" / "draw.c", TESTS / "memory.c"],
+    "arrow": [TESTS / "fuzz" / "arrow.c", TESTS / "fuzz" / "producer.c", TESTS / "random" / "draw.c", TESTS / "memory.c", ROOT / "c" / "arrow_test_pieces.c"],
     "calls": [TESTS / "fuzz" / "calls.c", *RANDOM, *CHECKER],
     "text": [TESTS / "fuzz" / "text.c"],
 }

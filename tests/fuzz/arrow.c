@@ -1,8 +1,9 @@
 /* Fuzz target: the Arrow interface. The bytes make an array and its schema, whose buffers are as long as the array says. What is
- * imported is filtered, taken, exported and imported again, and must be equal, its type too; an array is released once, or stays with
- * the producer, and nothing of it is written. */
+ * imported has the rows that an independent reader finds in the buffers. It is filtered, taken, exported and imported again, and must be
+ * equal, its type too; an array is released once, or stays with the producer, and nothing of it is written. */
 #include "producer.h"
 
+#include "../../c/arrow_test.h"
 #include "../memory.h"
 
 #include <stdlib.h>
@@ -68,6 +69,24 @@ static void check_kernels(struct draws *draws, const sel_column *column, const s
     sel_free(&taken);
 }
 
+/* Compares the rows of an export with those of the array that was imported. */
+static void check_rows(const sel_column *column, const sel_type *type, const struct ArrowArray *from, const struct ArrowSchema *from_schema) {
+    static char found[1 << 16], wanted[1 << 16];
+    struct ArrowArray array;
+    struct ArrowSchema schema;
+    if (sel_export(column, type, &array, &schema) != SEL_OK) {
+        return;
+    }
+    require(array.length == from->length);
+    for (int64_t row = 0; row < array.length; row += 1) {
+        write_row(from, from_schema, row, wanted, sizeof wanted);
+        write_row(&array, &schema, row, found, sizeof found);
+        require(strcmp(found, wanted) == 0);
+    }
+    array.release(&array);
+    schema.release(&schema);
+}
+
 static void check_imported(struct draws *draws, const sel_column *column, const sel_type *type) {
     size_t len = 0;
     uint8_t none[1];
@@ -89,8 +108,11 @@ int LLVMFuzzerTestOneInput(const uint8_t *input, size_t len) {
     uint64_t hash = producer_hash();
     sel_status status = sel_import(&array, &schema, &column, &type);
     require(status != SEL_ERROR_OUT_OF_MEMORY);
+    const char *unsupported = sel_unsupported_format(&schema);
+    require(status == SEL_OK ? unsupported == NULL : status != SEL_ERROR_ARROW_FORMAT || unsupported != NULL);
     if (status == SEL_OK) {
         require(array.release == NULL);
+        check_rows(&column, &type, &before, &schema);
         check_imported(&draws, &column, &type);
         sel_free(&column);
         sel_type_free(&type);
