@@ -9,7 +9,8 @@ tools/clib.py --test           checks the headers, and runs the tests of c/ over
 tools/clib.py --check          builds and tests
 
 With --cpu NAME as the last argument the library is built for these processors (x86-64-v3: with AVX2) instead of x86-64-v2, into
-build/NAME/. Its code does not check the processor that it runs on; the loader does, for the file that `make install` copies.
+build/NAME/. Its code does not check the processor that it runs on; the loader does, for the file that `make install` copies. SEL_BUILD names
+another folder than build/.
 """
 
 from __future__ import annotations
@@ -207,7 +208,7 @@ def check(cpu: str) -> None:
     """Checks the headers and what the built library exports, and runs the tests of c/ over it."""
     folder = folder_of(cpu)
     if not (folder / "libsel.a").exists():
-        sys.exit(f"{folder.relative_to(ROOT)}/libsel.a is not there: make lib builds it")
+        sys.exit(f"{folder}/libsel.a is not there: make lib builds it")
     check_header("sel.h")
     if foreign_symbols(folder):
         sys.exit(f"the shared library exports {', '.join(foreign_symbols(folder))}")

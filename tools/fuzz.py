@@ -7,8 +7,8 @@ tools/fuzz.py --store                     stores a small set of the inputs with 
 
 TARGET is `arrow`, `calls` or `text`. The C code around the library and the test code are instrumented; the proved functions are linked
 as they are. Inputs are stored in tests/fuzz/inputs/TARGET.zip; those that a run finds are kept in build/fuzz/TARGET-found/, and
-an input that makes a target fail is written to build/fuzz/TARGET-failed/. Prints the number of runs and the coverage of each target, and
-the seed.
+an input that makes a target fail is written to build/fuzz/TARGET-failed/. SEL_BUILD names another folder than build/, with the library and
+for these inputs. Prints the number of runs and the coverage of each target, and the seed.
 """
 
 from __future__ import annotations
@@ -29,11 +29,10 @@ sys.dont_write_bytecode = True
 sys.path.insert(0, str(ROOT / "tools"))
 
 from commands import CHECKER, CLANG, INCLUDE, SANITIZED, WRAPPED, has, run_printing  # noqa: E402
-from package import SOURCES  # noqa: E402
+from package import BUILD, SOURCES, archive  # noqa: E402
 
 TESTS = ROOT / "tests"
 INPUTS = TESTS / "fuzz" / "inputs"
-BUILD = ROOT / "build"
 FLAGS = ["-std=c11", "-g", "-O1", "-Wall", "-Wextra", "-Werror", *SANITIZED, "-fsanitize=fuzzer", *INCLUDE]
 RANDOM = [TESTS / "random" / f"{name}.c" for name in ("draw", "generate", "model", "steps")]
 # the sources of each target, and below the longest input of each in bytes
@@ -51,7 +50,7 @@ def built(target: str, folder: pathlib.Path) -> pathlib.Path:
     """Compiles a target. Exits if that fails."""
     program = folder / target
     wrapped = WRAPPED if TESTS / "memory.c" in TARGETS[target] else []
-    run_printing(*CLANG, *FLAGS, *TARGETS[target], *SOURCES, BUILD / "libsel.a", *wrapped, "-o", program)
+    run_printing(*CLANG, *FLAGS, *TARGETS[target], *SOURCES, archive(), *wrapped, "-o", program)
     return program
 
 
@@ -156,8 +155,7 @@ def main() -> int:
     if not has("fuzzer"):
         print("not run: the fuzz targets, without clang and libFuzzer")
         return 0 if given.check else 1
-    if not (BUILD / "libsel.a").exists():
-        sys.exit("build/libsel.a is not there: make lib builds it")
+    archive()  # exits if it is missing
     if given.store:
         return store(targets)
     return run_all(targets, 5 if given.check else round(60 * given.minutes))

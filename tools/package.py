@@ -13,7 +13,7 @@ from prover import crates_below, lines
 
 ROOT = pathlib.Path(__file__).resolve().parent.parent
 # the folder of the libraries that are built; tools/dist.py --check names another one
-BUILD = pathlib.Path(os.environ.get("SEL_BUILD") or ROOT / "build")
+BUILD = pathlib.Path(os.environ.get("SEL_BUILD") or ROOT / "build").absolute()
 
 # changes when a function of the header is removed or changes its meaning
 ABI = 1
@@ -58,6 +58,14 @@ def filled(template: str, prefix: str) -> bytes:
 def folder_of(cpu: str, build: pathlib.Path = BUILD) -> pathlib.Path:
     """Returns the folder of the library for these processors, which is build/ for the least ones."""
     return build if cpu == LEAST_CPU else build / cpu
+
+
+def archive() -> pathlib.Path:
+    """Returns the archive of the built library. Exits if it is missing."""
+    made = BUILD / "libsel.a"
+    if not made.exists():
+        sys.exit(f"{made} is not there: make lib builds it")
+    return made
 
 
 def built_for(build: pathlib.Path = BUILD) -> List[str]:

@@ -5,7 +5,7 @@ tools/soak.py [--minutes N] [--seed N]   for N minutes (1 if no number is given)
 tools/soak.py --check                    100,000 calls alone and 100,000 with threads: what `make test` runs
 
 A failure names the seed of its round; `build/soak --seed SEED --calls 1` runs that round again. Without --seed the seed is chosen by
-chance, and printed.
+chance, and printed. SEL_BUILD names another folder than build/, with the library and for the program.
 """
 
 from __future__ import annotations
@@ -19,11 +19,11 @@ from typing import List
 
 ROOT = pathlib.Path(__file__).resolve().parent.parent
 TESTS = ROOT / "tests"
-BUILD = ROOT / "build"
 sys.dont_write_bytecode = True
 sys.path.insert(0, str(ROOT / "tools"))
 
 from commands import CC, CHECKER, INCLUDE, WARN, WRAPPED, run_printing  # noqa: E402
+from package import BUILD, archive  # noqa: E402
 
 FLAGS = ["-std=c11", "-g", "-O2", *WARN, *INCLUDE, "-pthread"]
 CALLS = 100_000
@@ -33,7 +33,7 @@ def built() -> pathlib.Path:
     """Compiles the program. Exits if that fails."""
     program = BUILD / "soak"
     sources = [*sorted((TESTS / "random").glob("*.c")), *CHECKER]
-    run_printing(*CC, *FLAGS, *sources, BUILD / "libsel.a", *WRAPPED, "-o", program)
+    run_printing(*CC, *FLAGS, *sources, archive(), *WRAPPED, "-o", program)
     return program
 
 
@@ -48,8 +48,6 @@ def main() -> int:
     parser.add_argument("--seed", type=int, default=random.SystemRandom().randrange(1, 2**40))
     parser.add_argument("--check", action="store_true")
     given = parser.parse_args()
-    if not (BUILD / "libsel.a").exists():
-        sys.exit("build/libsel.a is not there: make lib builds it")
     program = built()
     limit: List[str] = ["--calls", str(CALLS)] if given.check else ["--seconds", str(round(30 * given.minutes))]
     seed = ["--seed", str(given.seed)]

@@ -22,6 +22,7 @@ sys.dont_write_bytecode = True
 sys.path.insert(0, str(ROOT / "tools"))
 
 from commands import CC, INCLUDE  # noqa: E402
+from package import archive  # noqa: E402
 
 FLAGS = ["-std=c11", "-O2", "-Wall", "-Wextra"]
 ROWS, LONGER, ROUNDS = 10_000_000, 1_000, 41
@@ -41,7 +42,7 @@ def measured(rows: int = ROWS, longer: int = LONGER, rounds: int = ROUNDS) -> Ti
     """Builds and runs lending.c."""
     with tempfile.TemporaryDirectory() as folder:
         program = pathlib.Path(folder) / "lending"
-        subprocess.run([*CC, *FLAGS, *INCLUDE, pathlib.Path(__file__).with_suffix(".c"), ROOT / "build" / "libsel.a", "-o", program], check=True)
+        subprocess.run([*CC, *FLAGS, *INCLUDE, pathlib.Path(__file__).with_suffix(".c"), archive(), "-o", program], check=True)
         output = subprocess.run([program, str(rows), str(longer), str(rounds)], stdout=subprocess.PIPE, text=True, check=True).stdout
     found: Times = {}
     for line in output.splitlines():
@@ -111,8 +112,7 @@ def main() -> None:
     asked = sys.argv[1:]
     if asked not in ([], ["--write"], ["quick"]):
         sys.exit(__doc__)
-    if not (ROOT / "build" / "libsel.a").exists():
-        sys.exit("build/libsel.a is missing: make lib builds it")
+    archive()  # exits if it is missing
     if asked == ["quick"]:
         return check()
     os.sched_setaffinity(0, {max(os.sched_getaffinity(0))})

@@ -17,9 +17,12 @@ import sys
 import tempfile
 from typing import Dict, List, Set, Tuple
 
-import upstream
+sys.dont_write_bytecode = True
+sys.path.insert(0, str(pathlib.Path(__file__).resolve().parent.parent))
 
-ROOT = pathlib.Path(__file__).resolve().parent.parent.parent
+import upstream  # noqa: E402
+from package import BUILD  # noqa: E402
+
 # the rounds of a case by its number of rows, and those of the run that shows what only prepares it
 ROUNDS, FEW_ROUNDS = {16384: 150, 1048576: 15}, 1
 # what compares the results of a case before it is timed
@@ -33,7 +36,7 @@ GROUPS = {"filter": "filters", "take": "takes", "choose": "chooses"}
 def symbols() -> Set[str]:
     """Returns the names of the functions in the libraries for C, of each processor that they are built for."""
     found = [subprocess.run(["nm", "--defined-only", library], stdout=subprocess.PIPE, stderr=subprocess.DEVNULL, text=True, check=True).stdout
-             for library in sorted((ROOT / "build").rglob("libsel.a"))]
+             for library in sorted(BUILD.rglob("libsel.a"))]
     return {line.split()[-1] for shown in found for line in shown.splitlines() if len(line.split()) == 3}
 
 

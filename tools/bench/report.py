@@ -12,6 +12,8 @@ from typing import Dict, Tuple
 
 import numpy
 
+from package import BUILD
+
 # the best and the median time per row of each contender, in ns
 Times = Dict[str, Tuple[float, float]]
 # a case: its kernel, its number of rows, what is varied, and its times
@@ -54,7 +56,7 @@ COLORS = (("sel", "#2a6fdb", "#7fb0ff"), ("loop", "#2f8f4e", "#7bd598"), ("numpy
 
 def built_for() -> str:
     """Returns the processors that tools/clib.py has built the library for."""
-    path = pathlib.Path(__file__).resolve().parents[2] / "build" / "cpu"
+    path = BUILD / "cpu"
     return path.read_text().strip() if path.exists() else "x86-64-v2"
 
 

@@ -4,6 +4,8 @@ tools/bench/lending.py imports and exports without a copy, with tools/bench/tabl
 
 tools/bench/run.py        writes docs/BENCHMARKS.md and docs/bench-*.svg; if UPSTREAM names a folder, or two, with tools/bench/upstream.py beside upstream's kernels
 tools/bench/run.py quick  compares each result with numpy's, and writes nothing
+
+SEL_BUILD names another folder than build/, for the other files of tools/bench that use the library too.
 """
 
 from __future__ import annotations
@@ -29,6 +31,7 @@ sys.dont_write_bytecode = True
 sys.path.insert(0, str(ROOT / "tools"))
 
 from commands import CC, INCLUDE, SYSTEM_PYTHON  # noqa: E402
+from package import BUILD  # noqa: E402
 
 FLAGS = ["-O3", "-march=native", "-std=c11", "-Wall", "-Wextra", "-fPIC", "-shared"]
 ROUNDS, ROUND_NS = 21, 1_500_000
@@ -53,7 +56,7 @@ def with_numpy() -> bool:
 def timers(folder: pathlib.Path) -> ctypes.CDLL:
     """Builds bench.c, linked with build/libsel.so, and loads it."""
     built = folder / "bench.so"
-    subprocess.run([*CC, *FLAGS, *INCLUDE, HERE / "bench.c", f"-L{ROOT / 'build'}", "-lsel", f"-Wl,-rpath,{ROOT / 'build'}", "-o", built], check=True)
+    subprocess.run([*CC, *FLAGS, *INCLUDE, HERE / "bench.c", f"-L{BUILD}", "-lsel", f"-Wl,-rpath,{BUILD}", "-o", built], check=True)
     return ctypes.PyDLL(str(built))
 
 
@@ -159,9 +162,9 @@ def main() -> None:
     if not with_numpy():
         print("not run: the benchmark, which needs numpy", file=sys.stderr)
         sys.exit(0 if quick else 1)
-    if not (ROOT / "build" / "libsel.so").exists():
+    if not (BUILD / "libsel.so").exists():
         subprocess.run([ROOT / "tools" / "clib.py"], check=True)
-    os.environ.setdefault("SEL_LIBRARY", str(ROOT / "build" / "libsel.so"))
+    os.environ.setdefault("SEL_LIBRARY", str(BUILD / "libsel.so"))
     sys.path[:0] = [str(ROOT / "bindings" / "python"), str(HERE)]
     import scaling
     import words

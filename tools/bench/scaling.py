@@ -16,6 +16,11 @@ import time
 from typing import Dict, List
 
 ROOT = pathlib.Path(__file__).resolve().parent.parent.parent
+sys.dont_write_bytecode = True
+sys.path.insert(0, str(ROOT / "tools"))
+
+from package import BUILD  # noqa: E402
+
 ROWS, COLUMNS, ROUNDS, THREADS = 2_000_000, 8, 25, 4
 OPERATIONS = ("filter", "take")
 # what malloc needs to keep freed blocks of any size, so that no page is new
@@ -62,7 +67,7 @@ def best_time(operation: str, threads: int) -> float:
 
 def measured(operation: str, threads: int, setting: Dict[str, str]) -> float:
     """Returns the same of a process of its own, in which memory is set so."""
-    env = {**os.environ, "SEL_LIBRARY": str(ROOT / "build" / "libsel.so"), **setting}
+    env = {**os.environ, "SEL_LIBRARY": str(BUILD / "libsel.so"), **setting}
     ran = subprocess.run([sys.executable, __file__, operation, str(threads)], env=env, stdout=subprocess.PIPE, text=True, check=True)
     return float(ran.stdout)
 

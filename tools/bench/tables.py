@@ -19,13 +19,14 @@ sys.dont_write_bytecode = True
 sys.path.insert(0, str(ROOT / "tools"))
 
 from commands import CC, INCLUDE, WRAPPED  # noqa: E402
+from package import archive  # noqa: E402
 
 
 def lines_of(source: str, *flags: str) -> List[List[str]]:
     """Builds a program with the library for C, runs it, and returns the fields of each line that it prints."""
     with tempfile.TemporaryDirectory() as folder:
         made = pathlib.Path(folder) / "program"
-        subprocess.run([*CC, *FLAGS, *INCLUDE, HERE / source, ROOT / "build" / "libsel.a", *flags, "-o", made], check=True)
+        subprocess.run([*CC, *FLAGS, *INCLUDE, HERE / source, archive(), *flags, "-o", made], check=True)
         return [line.split("|") for line in subprocess.run([made], stdout=subprocess.PIPE, text=True, check=True).stdout.splitlines()]
 
 

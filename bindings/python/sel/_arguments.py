@@ -7,7 +7,8 @@ from typing import Any
 
 from . import _arrays
 from ._arrow import Typed, imported_if_arrow
-from ._checks import ROW_INDEX, SIZE, integers_within, listed, shown
+from ._checks import ROW_INDEX, SIZE, Limits, integers_within, listed, shown
+from ._conversions import converted
 from ._errors import WrongArgument
 from ._logical import ArrowType, decoded
 from ._makers import made_of
@@ -17,7 +18,7 @@ from ._readers import rows_of
 from ._statuses import UNSUPPORTED_TYPE
 from ._types import NUMBERS, Type
 
-__all__ = ["column_of", "column_of_kind", "columns_of", "indices_of", "mask_of", "picks_of", "plain_column_of", "sizes_of"]
+__all__ = ["column_of", "columns_of", "indices_of", "integers_of", "mask_of", "picks_of", "plain_column_of", "sizes_of"]
 
 # The formats of booleans and of the integers that count: the storage of other types has other meanings.
 _PLAIN_FORMATS = ("b", "c", "C", "s", "S", "i", "I", "l", "L")
@@ -32,33 +33,26 @@ def plain_column_of(column: Owner, logical: ArrowType | None, name: str) -> Owne
     return column
 
 
-_HINTS = {"u32": "column[indices] takes integers of any type", "null": "without any value but None, give its type, as in Column(values, {!r})"}
+def _typed_of(values: Any) -> Typed | None:
+    """Returns a column, or Arrow data of another library as one, and its type; none for other values."""
+    return (values, getattr(values, "_logical", None)) if isinstance(values, Owner) else imported_if_arrow(values)
 
 
-def column_of_kind(values: Owner, kind: str, name: str) -> Owner:
-    """Returns a column of indices or of booleans, decoded if it has a dictionary. Raises TypeError for a logical type, WrongArgument for another kind."""
-    column = plain_column_of(values, getattr(values, "_logical", None), name)
-    found = column._kind()
-    if found != kind:
-        hint = _HINTS["null"].format(kind) if found == "null" else _HINTS.get(kind, "") if found in NUMBERS else ""
-        raise WrongArgument(UNSUPPORTED_TYPE, f"{name}: a column of type {found}, where {kind} is needed{'; ' if hint else ''}{hint}")
-    return column
+def integers_of(found: Typed, kind: str, limits: Limits, name: str) -> Owner:
+    """Returns a column of integers of any type, or of nulls, as one of a kind, whose range the limits are. It is decoded if it has a dictionary.
 
-
-def _of_arrow(found: Typed, name: str) -> tuple[Any, Any]:
-    """Returns the rows of a column of another library as a masked array of numpy, or as a list."""
+    Raises IndexError for an integer outside the limits, TypeError for a logical type, and WrongArgument for another kind.
+    """
     column = plain_column_of(*found, name)
-    kind = column._kind()
-    if kind != "bool" and kind not in NUMBERS:
-        raise TypeError(f"{name}: a column of type {kind}, where integers or booleans are needed")
-    return (_arrays.opened(_arrays.array_of(column), name), None) if _arrays.can_be_array(column) else (None, rows_of(column))
+    if column._kind() not in ("null", *NUMBERS):
+        raise WrongArgument(UNSUPPORTED_TYPE, f"{name}: a column of type {column._kind()}, where integers are needed")
+    made = converted(column, kind)
+    # row by row for the error alone, which names the row that does not fit
+    return made_of(integers_within(rows_of(column), name, limits, nulls=True), Type(kind), name) if made is None else made
 
 
 def _array_or_list(values: Any, name: str, dimensions: int = 1) -> tuple[Any, Any]:
     """Returns either a masked array of numpy's own types, or a list of Python values."""
-    found = imported_if_arrow(values) if dimensions == 1 else None
-    if found is not None:
-        return _of_arrow(found, name)
     if not _arrays.is_array(values):
         return None, listed(values, name)
     array = _arrays.opened(values, name, dimensions)
@@ -67,8 +61,9 @@ def _array_or_list(values: Any, name: str, dimensions: int = 1) -> tuple[Any, An
 
 def indices_of(values: Any, name: str) -> Owner:
     """Returns the column of row indices; `None` and masked values are null."""
-    if isinstance(values, Owner):
-        return column_of_kind(values, "u32", name)
+    found = _typed_of(values)
+    if found is not None:
+        return integers_of(found, "u32", ROW_INDEX, name)
     array, entries = _array_or_list(values, name)
     if array is None:
         return made_of(integers_within(entries, name, ROW_INDEX, nulls=True), Type("u32"), name)
@@ -76,9 +71,15 @@ def indices_of(values: Any, name: str) -> Owner:
 
 
 def mask_of(values: Any, name: str) -> Owner:
-    """Returns the column of a mask of booleans; `None` and masked values are null."""
-    if isinstance(values, Owner):
-        return column_of_kind(values, "bool", name)
+    """Returns the column of a mask of booleans, decoded if it has a dictionary; `None` and masked values are null."""
+    found = _typed_of(values)
+    if found is not None:
+        column = plain_column_of(*found, name)
+        kind = column._kind()
+        if kind != "bool":
+            hint = "; without any value but None, give its type, as in Column(values, 'bool')" if kind == "null" else ""
+            raise WrongArgument(UNSUPPORTED_TYPE, f"{name}: a column of type {kind}, where bool is needed{hint}")
+        return column
     array, entries = _array_or_list(values, name)
     if array is None:
         return made_of(entries, Type("bool"), name)
@@ -87,7 +88,8 @@ def mask_of(values: Any, name: str) -> Owner:
 
 def sizes_of(values: Any, name: str) -> Memory:
     """Returns sizes as an array of size_t."""
-    array, entries = _array_or_list(values, name)
+    found = _typed_of(values)
+    array, entries = _array_or_list(values if found is None else rows_of(plain_column_of(*found, name)), name)
     if array is not None:
         entries = _arrays.checked(array, name, "iu").tolist()
     return words(SIZE_CODE, integers_within(entries, name, SIZE))

@@ -16,7 +16,7 @@ from ._owner import Owner
 from ._readers import validity_bits
 from ._types import NUMBERS
 
-__all__ = ["array_of", "buffer_of", "can_be_array", "checked", "is_array", "is_of_objects", "is_of_values", "made_of_array", "made_with_type", "opened", "picks_of_array", "plain_array_of", "positions_of_array"]
+__all__ = ["array_of", "buffer_of", "checked", "is_array", "is_of_objects", "is_of_values", "made_of_array", "made_with_type", "opened", "picks_of_array", "plain_array_of", "positions_of_array"]
 
 
 def _numpy() -> Any:
@@ -42,18 +42,6 @@ def _validity_of(flags: Any) -> tuple[Memory, int, bool]:
 def is_array(values: object) -> bool:
     """Returns whether the value is an array of numpy, or an object other than a column that numpy can make one of."""
     return hasattr(values, "__array__") and not isinstance(values, Owner)
-
-
-def can_be_array(owner: Owner) -> bool:
-    """Returns whether numpy is installed and has a type of the values of a column without a logical type."""
-    kind = owner._kind()
-    if kind != "bool" and (kind not in NUMBERS or NUMBERS[kind][0] not in CODES):
-        return False
-    try:
-        _numpy()
-    except ImportError:
-        return False
-    return True
 
 
 def opened(values: Any, name: str, dimensions: int = 1) -> Any:

@@ -8,16 +8,17 @@ from ctypes import byref, c_bool, c_size_t
 from typing import TYPE_CHECKING, Any, overload
 
 from . import _arrays
-from ._arguments import column_of, column_of_kind, columns_of, indices_of, mask_of, picks_of, plain_column_of, sizes_of
+from ._arguments import column_of, columns_of, indices_of, integers_of, mask_of, picks_of, sizes_of
 from ._arrow import Typed, imported_if_arrow
-from ._checks import FIELD_NUMBER, LIST_INDEX, ROW_OFFSET, SIZE, boolean, integer_within, is_integer, listed, position_of, shown, utf8_of
+from ._checks import FIELD_NUMBER, LIST_INDEX, ROW_INDEX, ROW_OFFSET, SIZE, boolean, integer_within, is_integer, listed, position_of, shown, utf8_of
+from ._conversions import filled
 from ._equality import has_equal_rows
 from ._errors import BrokenText, WrongArgument, error_of
 from ._indexing import selected
 from ._library import attempt, call, lib, status_of
 from ._logical import ArrowType, as_logical_of, common_type, decoded, has_dictionary, nullable, of_format, storage_type, with_arrow_types
 from ._makers import made_of
-from ._memory import _NOTHING, NO_VALIDITY, unpacked
+from ._memory import _NOTHING, unpacked
 from ._names import VALID_NAMES, short_names
 from ._owner import Owner, concatenated, derived, from_several
 from ._readers import printed, rows_of, start_of_rows, text_of, validity_bits
@@ -121,19 +122,24 @@ class Column(Owner):
     def parse(type: str | Type, rows: str) -> Column:
         """Returns the column of a type with the rows of a text, both as `str` prints them, with JSON's white space and escapes.
 
-        The names of fields in the text of a type are left out. Raises TypeError if the rows are not a str; BrokenText, a ValueError, with the
-        place of the first character with which no such text goes on, or of the first value that does not fit the type; ValueError for a
-        logical type, whose rows are not parsed; and LimitPassed, an OverflowError.
+        The text of a type is one that `parse_type` reads. Names of fields and `not null` are left out: the column has the type of the storage,
+        and its rows are printed as they are read. Rows of other logical types, such as floats and dates, are not parsed.
+
+        Raises TypeError if the rows are not a str; BrokenText, a ValueError, with the place of the first character with which no such text
+        goes on, or of the first value that does not fit the type; and LimitPassed, an OverflowError, for a type of more than 64 levels and if
+        another limit is exceeded.
 
         >>> sel.Column.parse("list<utf8>", '[["Ada", "Grace"], null]')
         Column(list<utf8>, [["Ada","Grace"],null])
+        >>> sel.Column.parse('struct<"from, to": int64, n: int8 not null>', "[(1, 2), null]")
+        Column(struct<i64,i8>, [(1,2),null])
         """
-        if isinstance(type, Type) and isinstance(with_arrow_types(type), ArrowType):
-            raise ValueError(f"type: rows of the logical type {type} are not parsed from text; Column(values, type) makes a column of it")
         if not isinstance(type, (str, Type)):
             raise TypeError(f"type: {shown(type)} is neither a Type nor the text of one")
         if not isinstance(rows, str):
             raise TypeError(f"rows: {shown(rows)} is of type {rows.__class__.__name__}, not str")
+        if isinstance(type, Type):
+            check_levels(type)
         made, place = Owner(), c_size_t()
         short, places = short_names(str(type))
         name, text = utf8_of(short, "type"), utf8_of(rows, "rows")
@@ -141,10 +147,12 @@ class Column(Owner):
         if status in (TYPE_SYNTAX, ROW_SYNTAX, ROW_TYPE_MISMATCH):
             before = len((name if status == TYPE_SYNTAX else text)[: place.value].decode(errors="ignore"))
             if status == TYPE_SYNTAX:
-                raise BrokenText(status, status_of(status), places[before], f"; {VALID_NAMES}")
+                raise BrokenText(status, status_of(status), places[before], f"; {_fault_of(type)}")
             raise BrokenText(status, status_of(status), before)
         if status != OK:
             raise error_of(status, status_of(status))
+        if isinstance(type, str):
+            parse_type(type)  # names of fields that Arrow cannot have
         return Column._owning(made)
 
     @staticmethod
@@ -321,8 +329,9 @@ class Column(Owner):
 
         Indices count from the end if they are negative. A slice shares memory with this column if its step is 1. A mask is a
         sequence, an array or a column of booleans, one for each row. In an array or a column, a null index gives a null row and a
-        null boolean counts as false; in a sequence, `None` raises TypeError, because it does not say which of the two is meant.
-        The cost is in proportion to the rows that are returned, and to the key.
+        null boolean counts as false; in a sequence, `None` raises TypeError, because it does not say which of the two is meant, and
+        so does a column of type null. The cost is in proportion to the rows that are returned, and to the key. A column of integers
+        of which some are negative is read in a loop over its rows in Python.
 
         Raises IndexError for an index that no row has, and ValueError for a mask of another length.
 
@@ -428,11 +437,14 @@ class Column(Owner):
     def take(self, indices: Column | Iterable[SupportsIndex | None] | Array) -> Column:
         """Returns the rows at the indices, null where an index is null or masked.
 
-        Raises IndexError for an index that no row has; negative ones do not count from the end. A column of indices has the type `u32`, or
-        WrongArgument, a TypeError, is raised; `column[indices]` takes integers of any type.
+        Raises IndexError for an index that no row has; negative ones do not count from the end. A column of indices has integers of any
+        type, or the type null; WrongArgument, a TypeError, is raised for another type. Its integers are converted without a loop over them in
+        Python.
 
         >>> sel.Column(["a", "b", "c"]).take([2, None, 0, 2])
         Column(utf8, ["c",null,"a","c"])
+        >>> sel.Column(["a", "b", "c"]).take(sel.Column([2, None], "i64"))
+        Column(utf8, ["c",null])
         """
         return self._new("sel_take", indices_of(indices, "indices"), logical=nullable(self._logical))
 
@@ -457,9 +469,10 @@ class Column(Owner):
         return answer.value
 
     def fixed_get(self, index: SupportsIndex | Column, null_on_oob: Boolean = True) -> Column:
-        """Returns the element of each fixed-size list at the index, or at its row in a column of 64-bit indices.
+        """Returns the element of each fixed-size list at the index, or at its row in a column of indices, of any integer type or null.
 
-        An index out of bounds gives null, or raises IndexError if `null_on_oob` is false or the index is outside the 64-bit integers.
+        A null index and one out of bounds give null, or raise IndexError if `null_on_oob` is false. An index outside the 64-bit integers raises
+        IndexError.
 
         >>> pairs = sel.Column([[1, 2], [3, 4], None], "fixed<2,i64>")
         >>> pairs.fixed_get(1), pairs.fixed_get(sel.Column([0, -1, 0]))
@@ -467,7 +480,7 @@ class Column(Owner):
         """
         flag = boolean(null_on_oob, "null_on_oob")
         if isinstance(index, Column):
-            return self._new("sel_fixed_size_list_get_each", column_of_kind(index, "i64", "index"), flag, logical=self._element_type())
+            return self._new("sel_fixed_size_list_get_each", integers_of((index, index._logical), "i64", LIST_INDEX, "index"), flag, logical=self._element_type())
         return self._new("sel_fixed_size_list_get", integer_within(index, "index", LIST_INDEX), flag, logical=self._element_type())
 
     def list_element(self, index: SupportsIndex) -> Column:
@@ -498,9 +511,7 @@ class Column(Owner):
         one, bits = made_of([value], self.type, "value"), validity_bits(self)
         if bits is None:  # no row is null, or all are and the type has no other value
             return self.share()
-        mask = Owner()
-        call("sel_boolean_new", bits, bits.size(), len(self), *NO_VALIDITY, byref(mask._handle))
-        return Column._owning(derived(mask, "sel_if_then_else_broadcast_false", self, one), self._logical)
+        return Column._owning(filled(self, one, bits), self._logical)
 
     def reverse(self) -> Column:
         """Returns the rows in reverse order, as `column[::-1]` does.
@@ -630,6 +641,15 @@ class Column(Owner):
         return nullable(self._field_type(0), "")
 
 
+def _fault_of(type: str | Type) -> str:
+    """Returns why the rows of a type are not parsed: it is a logical type, or a text that names no type."""
+    try:
+        wanted = parse_type(type) if isinstance(type, str) else type
+    except (ValueError, OverflowError):
+        return VALID_NAMES
+    return f"rows of the logical type {wanted} are not parsed from text, and Column(values, type) makes a column of it"
+
+
 def _typed_if_column(values: Any) -> Typed | None:
     """Returns a column, or Arrow data of another library as one, and its type; none for other values."""
     return (values, values._logical) if isinstance(values, Column) else imported_if_arrow(values)
@@ -734,11 +754,13 @@ def _types_of(columns: Iterable[Owner]) -> list[ArrowType | None]:
 def propagate_dictionary(keys: Column, values: Column) -> tuple[Column, Column]:
     """Returns 32-bit keys and strings without null strings: the key of a null string becomes null.
 
+    The keys are integers of any type, or nulls. Raises IndexError for a key that no string has, and WrongArgument, a TypeError, for other types.
+
     >>> sel.propagate_dictionary(sel.Column([0, 1, 2, None], "u32"), sel.Column(["a", None, "c"]))
     (Column(u32, [0,null,1,null]), Column(utf8, ["a","c"]))
     """
     new_keys, new_values = Owner(), Owner()
-    old_keys = plain_column_of(column_of(keys, "keys"), getattr(keys, "_logical", None), "keys")
+    old_keys = integers_of((column_of(keys, "keys"), getattr(keys, "_logical", None)), "u32", ROW_INDEX, "keys")
     words = values.decoded() if isinstance(values, Column) else column_of(values, "values")
     call("sel_propagate_dictionary", old_keys, words, byref(new_keys._handle), byref(new_values._handle))
     return Column._owning(new_keys), Column._owning(new_values)

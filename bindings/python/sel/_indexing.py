@@ -10,6 +10,8 @@ from . import _arrays
 from ._arguments import plain_column_of
 from ._arrow import Typed, imported_if_arrow
 from ._checks import booleans, integer, is_boolean, position_of, shown
+from ._conversions import converted
+from ._errors import OutOfBounds
 from ._makers import made_of
 from ._memory import NO_VALIDITY, words
 from ._owner import Owner, derived
@@ -82,6 +84,12 @@ def _by_column(column: Owner, found: Typed, name: str) -> Owner:
         return _filtered(column, key, name)
     if kind not in NUMBERS:
         raise TypeError(f"{name}: a column of type {kind}, where integers or booleans are needed")
+    rows = converted(key, "u32")
+    if rows is not None:
+        try:
+            return _taken(column, rows)
+        except OutOfBounds:  # the loop below names the index
+            pass
     return _taken(column, made_of(_positions(rows_of(key), name, len(column), nulls=True), Type("u32"), name))
 
 

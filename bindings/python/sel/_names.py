@@ -4,8 +4,12 @@ from __future__ import annotations
 
 import datetime
 import re
+from typing import List, Tuple
 
-__all__ = ["LOGICAL_NAMES", "LONG_NAMES", "VALID_NAMES", "format_of_value", "logical_format", "short_names"]
+__all__ = ["LOGICAL_NAMES", "LONG_NAMES", "SPACE", "VALID_NAMES", "end_of_word", "format_of_value", "logical_format", "short_names"]
+
+# White space as in JSON.
+SPACE = " \t\n\r"
 
 # The short name of each longer one.
 LONG_NAMES = {
@@ -25,7 +29,7 @@ _FORMATS = {
     **{f"duration[{unit}]": f"tD{unit[0]}" for unit in ("s", "ms", "us", "ns")}, "month_interval": "tiM", "day_time_interval": "tiD",
     "month_day_nano_interval": "tin",
 }
-_TIMESTAMP = re.compile(r"timestamp\[(s|ms|us|ns)(?:,(?:tz=)?([^\]]+))?\]")
+_TIMESTAMP = re.compile(r"timestamp\[(s|ms|us|ns)(?:,(?:tz=|(?!tz=))([^\]]+))?\]")
 _DECIMAL = re.compile(r"decimal(32|64|128|256)?\((\d+),(-?\d+)\)")
 _FIXED_BINARY = re.compile(r"fixed_size_binary\[(\d+)\]")
 
@@ -60,48 +64,96 @@ LOGICAL_NAMES = ("logical types are halffloat, float, double, date32, date64, ti
                  "decimal128(9, 2), fixed_size_binary[16] and the like")
 
 _TOKEN = re.compile(r"[A-Za-z0-9_]+|.", re.DOTALL)
-_WORD = re.compile(r"[A-Za-z0-9_]+")
+# A string in JSON up to its closing quote, or up to the first character that no string goes on with.
+_QUOTED = re.compile(r'"(?:[^"\\\x00-\x1f]|\\(?:["\\/bfnrt]|u[0-9A-Fa-f]{4}))*')
+_SPACES = re.compile(rf"[{SPACE}]*")
+# `not null` behind a type, which is in the same word or before it.
+_NOT_NULL, _NOT_NULL_ALONE = re.compile(rf"(?<=[^{SPACE}])[{SPACE}]+not null[{SPACE}]*\Z"), re.compile(rf"[{SPACE}]*not null[{SPACE}]*\Z")
+# What no type has: it stands where one is missing, so that the library finds the place.
+_MISSING = "?"
+
+_Tokens = List[Tuple[str, int]]
+
+
+def end_of_word(text: str, start: int, ends: str) -> int:
+    """Returns the end of the word from a place on: at one of these characters, which belong to it within square or round brackets."""
+    depth = 0
+    for place in range(start, len(text)):
+        letter = text[place]
+        depth += {"[": 1, "(": 1, "]": -1, ")": -1}.get(letter, 0)
+        if letter in "<>" or (letter in ends and depth <= 0):
+            return place
+    return len(text)
 
 
 def short_names(text: str) -> tuple[str, list[int]]:
-    """Returns the text of a type with short names and without names of fields, and the place in `text` of each of its characters.
+    """Returns the text of a type with short names, without names of fields and `not null`, and the place in `text` of each of its characters.
 
     There is one place more, the length of the text. What is no longer name stays as it is, also if it is wrong.
 
-    >>> short_names("list<item: string>")[0]
-    'list<utf8>'
+    >>> short_names("list<item: string>")[0], short_names('struct<"a, b": int8 not null, c: bool>')[0]
+    ('list<utf8>', 'struct<i8,bool>')
     """
-    tokens = _with_sizes_first(_without_field_names([(match[0], match.start()) for match in _TOKEN.finditer(text)]))
+    tokens = _with_sizes_first(_tokens_of(text))
     short = [(LONG_NAMES.get(token, token), place) for token, place in tokens]
     places = [place + number if token == word else place
               for (word, place), (token, _) in zip(short, tokens) for number in range(len(word))]
     return "".join(word for word, _ in short), [*places, len(text)]
 
 
-def _without_field_names(tokens: list[tuple[str, int]]) -> list[tuple[str, int]]:
-    """Returns the tokens without the names of fields, which are behind `<` or `,` and before a colon, and the spaces around them."""
-    kept: list[tuple[str, int]] = []
-    position, depth, is_first = 0, 0, False
-    while position < len(tokens):
-        token = tokens[position][0]
-        after = position + 1
-        while after < len(tokens) and tokens[after][0].isspace():
-            after += 1
-        if depth > 0 and is_first and _WORD.fullmatch(token) and after < len(tokens) and tokens[after][0] == ":":
-            position, is_first = after + 1, False
-            while position < len(tokens) and tokens[position][0].isspace():
-                position += 1
-            continue
-        depth += {"<": 1, ">": -1}.get(token, 0)
-        is_first = token in "<," or (is_first and token.isspace())
-        kept.append(tokens[position])
-        position += 1
+def _spaces(text: str, place: int) -> int:
+    """Returns the end of the white space at a place."""
+    found = _SPACES.match(text, place)
+    return place if found is None else found.end()
+
+
+def _end_of_name(text: str, start: int, may_be_empty: bool) -> tuple[int, bool]:
+    """Returns the end of the name of a field and its colon, which begin at a place, and whether they are well-formed; the place itself for no name."""
+    quoted = _QUOTED.match(text, start)
+    if quoted is not None:
+        end = quoted.end()
+        if not text.startswith('"', end):
+            return end, False
+        end = _spaces(text, end + 1)
+    else:
+        end = end_of_word(text, start, ",:")
+        if not text.startswith(":", end) or (end == start and not may_be_empty):
+            return start, True
+    return (end + 1, True) if text.startswith(":", end) else (end, False)
+
+
+def _tokens_of(text: str) -> _Tokens:
+    """Returns the words and signs of the text of a type with their places, without names of fields, `not null`, and white space around words."""
+    kept: _Tokens = []
+    opened: list[str] = []  # the words before the brackets that are open
+    place, is_field = 0, False
+    while place < len(text):
+        start, has_name = _spaces(text, place), False
+        if is_field:
+            place, is_read = _end_of_name(text, start, opened[-1] == "struct")
+            if not is_read:
+                return [*kept, (_MISSING, place)]
+            start, has_name = _spaces(text, place), place > start
+        end = end_of_word(text, start, ",")
+        word, sign = text[start:end], text[end : end + 1]
+        if opened and sign != "<":
+            word = (_NOT_NULL_ALONE if kept[-1][0] == ">" else _NOT_NULL).sub("", word)
+        word = word.rstrip(SPACE)
+        if has_name and not word:
+            kept.append((_MISSING, end))
+        kept += [(match[0], start + match.start()) for match in _TOKEN.finditer(word)]
+        kept += [(sign, end)] if sign else []
+        if sign == "<":
+            opened.append(word)
+        elif sign == ">" and opened:
+            opened.pop()
+        place, is_field = end + 1, bool(opened) and sign != ">"
     return kept
 
 
-def _with_sizes_first(tokens: list[tuple[str, int]]) -> list[tuple[str, int]]:
+def _with_sizes_first(tokens: _Tokens) -> _Tokens:
     """Returns the tokens with `fixed_size_list<..>[n]` written as `fixed_size_list<n,..>`."""
-    moved: list[tuple[str, int]] = []
+    moved: _Tokens = []
     opened: list[int] = []
     position = 0
     while position < len(tokens):

@@ -11,7 +11,7 @@ from typing import Any
 from ._checks import LIST_SIZE, integer_within, is_boolean, is_integer, shown
 from ._errors import BrokenRule, SelError, error_of
 from ._library import status_of
-from ._names import LOGICAL_NAMES, LONG_NAMES, VALID_NAMES, format_of_value, logical_format
+from ._names import LOGICAL_NAMES, LONG_NAMES, SPACE, VALID_NAMES, end_of_word, format_of_value, logical_format
 from ._statuses import TOO_DEEP
 
 __all__ = ["KINDS", "NUMBERS", "Type", "check_levels", "name_in_text", "parse_type", "type_of_values"]
@@ -84,11 +84,9 @@ def check_levels(type: Type) -> None:
             raise _error_too_deep()
 
 
-# White space as in JSON.
-_SPACE = " \t\n\r"
-_COMMA = re.compile(rf"[{_SPACE}]*,[{_SPACE}]*")
-_SIZE_FIRST, _SIZE_LAST = re.compile(rf"[{_SPACE}]*([0-9]+)[{_SPACE}]*,"), re.compile(r"\[([0-9]+)\]")
-_NOT_NULL = re.compile(rf"[{_SPACE}]not null[{_SPACE}]*\Z")
+_COMMA = re.compile(rf"[{SPACE}]*,[{SPACE}]*")
+_SIZE_FIRST, _SIZE_LAST = re.compile(rf"[{SPACE}]*([0-9]+)[{SPACE}]*,"), re.compile(r"\[([0-9]+)\]")
+_NOT_NULL = re.compile(rf"[{SPACE}]not null[{SPACE}]*\Z")
 _STRING = json.JSONDecoder()
 
 # What the texts of some logical types leave out.
@@ -120,21 +118,10 @@ def parse_type(text: str) -> Type:
         raise TypeError(f"text: {shown(text)} is of type {type(text).__name__}, not str")
     reader = _Reader(text)
     found = reader.type(0)
-    rest = text[reader.place :].strip(_SPACE)
+    rest = text[reader.place :].strip(SPACE)
     if rest:
         raise ValueError(f"{text!r} has {rest!r} after the end of its type")
     return found
-
-
-def _end_of_word(text: str, start: int, ends: str) -> int:
-    """Returns the end of the word from a place on: at one of these characters, which belong to it within square or round brackets."""
-    depth = 0
-    for place in range(start, len(text)):
-        letter = text[place]
-        depth += {"[": 1, "(": 1, "]": -1, ")": -1}.get(letter, 0)
-        if letter in "<>" or (letter in ends and depth <= 0):
-            return place
-    return len(text)
 
 
 def name_in_text(name: str, may_be_empty: bool) -> str:
@@ -143,7 +130,7 @@ def name_in_text(name: str, may_be_empty: bool) -> str:
     >>> name_in_text("unit price", True), name_in_text("a, b: i8", True)
     ('unit price', '"a, b: i8"')
     """
-    is_read = _end_of_word(name + ":", 0, ",:") == len(name) and name.strip(_SPACE) == name and not name.startswith('"')
+    is_read = end_of_word(name + ":", 0, ",:") == len(name) and name.strip(SPACE) == name and not name.startswith('"')
     return name if is_read and (name or may_be_empty) else json.dumps(name, ensure_ascii=False)
 
 
@@ -180,16 +167,16 @@ class _Reader:
 
     def takes(self, sign: str) -> bool:
         """Returns whether a sign comes next, behind white space, and skips it if it does."""
-        while self.text[self.place : self.place + 1] in tuple(_SPACE):
+        while self.text[self.place : self.place + 1] in tuple(SPACE):
             self.place += 1
         found = self.text.startswith(sign, self.place)
         self.place += len(sign) if found else 0
         return found
 
-    def takes_quote(self) -> bool:
-        """Skips white space, and returns whether a quote comes next."""
+    def comes(self, sign: str) -> bool:
+        """Skips white space, and returns whether a sign comes next."""
         self.takes("")
-        return self.text.startswith('"', self.place)
+        return self.text.startswith(sign, self.place)
 
     def matches(self, pattern: re.Pattern[str]) -> str | None:
         """Returns the group of a pattern that comes next, and skips it; none if it does not."""
@@ -203,11 +190,11 @@ class _Reader:
         """Returns the name of a field, which is behind white space and before a colon; none if there is no name."""
         if self.takes('"'):
             return self.quoted_name()
-        end = _end_of_word(self.text, self.place, ",:")
+        end = end_of_word(self.text, self.place, ",:")
         if self.text[end : end + 1] != ":":
             return None
         start, self.place = self.place, end + 1
-        return self.text[start:end].strip(_SPACE)
+        return self.text[start:end].strip(SPACE)
 
     def quoted_name(self) -> str:
         """Returns the name of a field in quotes, whose opening quote has been read."""
@@ -222,11 +209,11 @@ class _Reader:
 
     def word(self) -> str:
         """Returns the name of a type without the spaces around it and around commas; `not null` behind it is left."""
-        start, end = self.place, _end_of_word(self.text, self.place, ",")
+        start, end = self.place, end_of_word(self.text, self.place, ",")
         found = _NOT_NULL.search(self.text, start, end)
         self.place = end if found is None else found.start()
         before, sign, zone = self.text[start : self.place].partition("tz=")
-        return (_COMMA.sub(",", before) + sign + zone).strip(_SPACE)
+        return (_COMMA.sub(",", before) + sign + zone).strip(SPACE)
 
     def type(self, level: int) -> Type:
         """Returns the type that comes next, below so many others."""
@@ -255,7 +242,10 @@ class _Reader:
         if digits is not None or may_have_size_last:
             while not self.takes(">"):
                 fields.append(self.field(kind, level))
-                if not self.takes(",") and not self.text.startswith(">", self.place):
+                has_comma = self.takes(",")
+                if has_comma and self.comes(">"):
+                    raise ValueError(f"{kind} has no type after its last comma")
+                if not has_comma and not self.comes(">"):
                     raise ValueError(f"{kind} is not closed, or it does not have exactly one child type")
             digits = self.matches(_SIZE_LAST) if digits is None else digits
         if digits is None:
@@ -266,7 +256,7 @@ class _Reader:
 
     def field(self, kind: str, level: int) -> tuple[str | None, Type]:
         """Returns the name and the type of a field or of the elements of lists, which come next."""
-        is_quoted, name = self.takes_quote(), self.name()
+        is_quoted, name = self.comes('"'), self.name()
         if name == "" and kind != "struct" and not is_quoted:
             raise ValueError(f"{kind}: the name before the colon is missing")
         child = self.type(level + 1)

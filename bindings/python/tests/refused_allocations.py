@@ -154,6 +154,17 @@ class Refused(unittest.TestCase):
         total += self.check(lambda: sel.concat([coded, others]), "other dictionaries")
         self.assertGreater(total, 1000)
 
+    def test_indices(self) -> None:
+        """Indices of other types than the library takes, which several calls convert."""
+        gc.collect()
+        column, pairs = Column(["a", None, "longer than twelve"]), Column([[1, 2], None, [3, 4]], "fixed<2,i64>")
+        for kind in ("null", "u8", "i32", "i64", "u64", "i128"):
+            for rows in table([None] * 3) if kind == "null" else table([0, 2, 1], [0, None, 1]):
+                key = Column(rows, kind)
+                uses: list[Callable[[], Any]] = [lambda: column.take(key), lambda: Table({"a": column, "b": pairs}).take(key), lambda: pairs.fixed_get(key), lambda: sel.propagate_dictionary(key, column)]
+                for number, use in enumerate(uses if kind == "null" else [*uses, lambda: column[key]]):
+                    self.assertGreater(self.check(use, (kind, number)), 0)
+
     def test_calls_that_take_their_children(self) -> None:
         """With all lines of the suite, those of errors too: a child that a call has not taken is freed by its owner."""
         if not (test_rows.SUITE / "rows").is_dir():

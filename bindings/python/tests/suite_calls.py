@@ -14,7 +14,7 @@ from sel import Column, Type, _readers
 from sel._library import Handle, call
 from sel._memory import NO_VALIDITY, packed, words
 from sel._owner import Owner, derived, from_several
-from sel._types import type_of_values
+from sel._types import NUMBERS, type_of_values
 
 __all__ = ["CALLS", "NOT_PUBLIC", "STATUSES", "Arguments", "Rows"]
 
@@ -26,6 +26,9 @@ NOT_PUBLIC = {
     "if_then_else_broadcast_true": "choose takes one value, of the type of the other side, and no column of another length or type for it",
     "if_then_else_broadcast_false": "choose takes one value, of the type of the other side, and no column of another length or type for it",
     "if_then_else_broadcast_both": "choose infers the type of two values, and takes no columns for them",
+    "take": "take also takes indices of other integer types and of type null, and converts them",
+    "fixed_size_list_get_each": "fixed_get also takes indices of other integer types and of type null, and converts them",
+    "dictionary": "propagate_dictionary also takes keys of other integer types and of type null, and converts them",
 }
 
 # Statuses by the names of tests/README.md; include/sel.h numbers them.
@@ -211,6 +214,29 @@ def _numpy_indices(given: Arguments, column: Column, indices: Column) -> Column:
     return column.take(numpy.ma.array([value or 0 for value in values], mask=[value is None for value in values], dtype="int64"))
 
 
+def _with_indices(number: int, kind: str, run: Callable[..., Any], internal: Callable[..., Any]) -> list[Use]:
+    """Returns the uses of a call whose column of indices has to be of a kind, from other integers and nulls to which the package converts it."""
+
+    def is_converted(given: Arguments, expected: Any) -> bool:
+        return given.columns[number].type.kind in ("null", *NUMBERS) and not given.has_type(number, kind)
+
+    return [Use(run, lambda given, expected: not is_converted(given, expected)), _internal(internal, applies=is_converted)]
+
+
+def _take(given: Arguments, column: Column, indices: Column) -> Column:
+    return Column._owning(derived(column, "sel_take", indices))
+
+
+def _get_each(given: Arguments, lists: Column, indices: Column) -> Column:
+    return Column._owning(derived(lists, "sel_fixed_size_list_get_each", indices, *given.others))
+
+
+def _propagated(given: Arguments, keys: Column, values: Column) -> tuple[Column, Column]:
+    made = Owner(), Owner()
+    call("sel_propagate_dictionary", keys, values, *[byref(one._handle) for one in made])
+    return Column._owning(made[0]), Column._owning(made[1])
+
+
 def _type_of_item(given: Arguments) -> Type:
     wanted: Type = given.type.children[0]
     return wanted
@@ -241,7 +267,7 @@ CALLS = {
         Use(lambda given, column, mask: column.filter(given.columns[1].values), lambda given, expected: given.has_type(1, "bool")),
         Use(lambda given, column, mask: column[mask], _is_mask)]),
     "take": Call("trU", [
-        Use(lambda given, column, indices: column.take(indices)),
+        *_with_indices(1, "u32", lambda given, column, indices: column.take(indices), _take),
         Use(lambda given, column, indices: column.take(given.columns[1].values), lambda given, expected: given.has_type(1, "u32")),
         Use(lambda given, column, indices: column[indices], lambda given, expected: given.has_type(1, "u32")),
         Use(_numpy_indices, lambda given, expected: numpy is not None and given.has_type(1, "u32"))]),
@@ -262,7 +288,7 @@ CALLS = {
         Use(lambda given, lists: lists.list_element(given.others[0]), lambda given, expected: bool(given.type.kind == "list"))], _type_of_item),
     "index_is_oob": Call("tri", [Use(lambda given, lists: lists.index_is_oob(given.others[0]))], result="flag"),
     "fixed_size_list_get": Call("trif", [Use(lambda given, lists: lists.fixed_get(*given.others))], _type_of_item),
-    "fixed_size_list_get_each": Call("trIf", [Use(lambda given, lists, indices: lists.fixed_get(indices, *given.others))], _type_of_item),
+    "fixed_size_list_get_each": Call("trIf", _with_indices(1, "i64", lambda given, lists, indices: lists.fixed_get(indices, *given.others), _get_each), _type_of_item),
     "unit_list": Call("tr", [Use(lambda given, column: column.unit_list())], lambda given: Type("list", (given.type,))),
     "reverse": Call("tr", [
         Use(lambda given, column: column.reverse()),
@@ -277,7 +303,7 @@ CALLS = {
     "struct_new": Call("cnv", [_internal(_struct_new)], _type_of_struct),
     "flatten": Call("cwn", [Use(lambda given, *columns: sel.flatten(columns, *given.others))], lambda given: given.columns[0].type),
     "collect_rows": Call("cp", [Use(lambda given, *columns: sel.collect_rows(columns, given.others[0]))], lambda given: given.columns[0].type),
-    "dictionary": Call("US", [Use(lambda given, keys, values: sel.propagate_dictionary(keys, values))], result="dictionary"),
+    "dictionary": Call("US", _with_indices(0, "u32", lambda given, keys, values: sel.propagate_dictionary(keys, values), _propagated), result="dictionary"),
     "equal": Call("trtr", [
         Use(lambda given, first, second: first.equals(second)),
         Use(lambda given, first, second: second.equals(first))], result="flag"),

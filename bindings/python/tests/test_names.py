@@ -2,11 +2,16 @@
 
 from __future__ import annotations
 
+import json
+import random
 import unittest
+from typing import Any
 
+import model
 import sel
 from cases import table
-from sel import Column, parse_type
+from sel import Column, Type, parse_type
+from sel._logical import nested_type, nullable
 from sel._names import LONG_NAMES, VALID_NAMES, short_names
 from sel._types import KINDS
 
@@ -77,6 +82,69 @@ class Names(unittest.TestCase):
                 Column.parse(text, "[]")
             self.assertEqual((caught.exception.status, caught.exception.place), (32, place), text)
             self.assertIn(f"at character {place};", str(caught.exception))
+
+
+# Texts of types whose fields have names, rows as they are printed, and the types of the columns that are parsed.
+PARSED = (
+    ('struct<"a b": i64>', "[(1),null]", "struct<i64>"), ("struct<a b: i64>", "[(1),null]", "struct<i64>"), ('struct<"from, to": int64, n: int8 not null>', "[(1,2)]", "struct<i64,i8>"),
+    ('struct< "x: i64>" :list<"<": string>,"\\"\\u00e9":bool >', '[(["a",null],true)]', "struct<list<utf8>,bool>"), ("struct<m[s:t]: i64, a]: i8, : bool>", "[(1,2,null)]", "struct<i64,i8,bool>"),
+    ('list<"": i8 not null>', "[[1],null,[]]", "list<i8>"), ("list<list<i8> not null>", "[[[1],[]]]", "list<list<i8>>"), ("list<not null: null>", "[[null]]", "list<null>"),
+    ("fixed_size_list<fixed_size_list<x: i8 not null>[1] not null>[2]", "[[[1],[2]]]", "fixed<2,fixed<1,i8>>"), ("fixed_size_list <item: i64>[2]", "[[1,2]]", "fixed<2,i64>"),
+    ("fixed<2, x y: i8 not null>", "[[1,2]]", "fixed<2,i8>"), ("struct<int8: int8, string: string>", '[(1,"a")]', "struct<i8,utf8>"), ("struct<a: struct<>, b: null>", "[((),null)]", "struct<struct<>,null>"),
+)
+LETTERS = 'ab: ,<>[]()"\\{}=\u00e9\U0001f600\t\n'
+
+
+class Parsed(unittest.TestCase):
+    """`Column.parse` reads the texts that `parse_type` reads, and what `str` gives for a column that it returns."""
+
+    def check(self, text: str | Type, rows: str, storage: str) -> None:
+        column = Column.parse(text, rows)
+        self.assertEqual((str(column), str(column.type), str(column.storage)), (rows, storage, storage), text)
+        for again in (Column.parse(text, str(column)), Column.parse(str(column.type), str(column)), Column.parse(column.type, str(column))):
+            self.assertEqual((again, again.type), (column, column.type))
+
+    def test_names_of_fields(self) -> None:
+        for text, rows, storage in PARSED:
+            self.assertEqual(str(Column([], text).storage), storage)
+            for wanted in table(text, parse_type(text), str(parse_type(text))):
+                self.check(wanted, rows, storage)
+
+    def random_type(self, rng: random.Random, depth: int) -> tuple[Type, Type]:
+        """Returns a type with names of fields, and its storage. Below names the text of i128 is that of a decimal."""
+        if depth == 0 or rng.random() < 0.2:
+            kind = Type(rng.choice([leaf for leaf in model.LEAVES if leaf != "i128"]))
+            return kind, kind
+        word = rng.choice(("list", "fixed", "struct"))
+        children = [self.random_type(rng, depth - 1) for _ in range(rng.randrange(4) if word == "struct" else 1)]
+        width = rng.randrange(1, 4) if word == "fixed" else 0
+        fields = [nullable(one, is_nullable=False) if rng.random() < 0.2 else one for one, _ in children]
+        names: list[Any] = [rng.choice((None, "".join(rng.choice(LETTERS) for _ in range(rng.randrange(6))))) for _ in fields]
+        return nested_type(word, fields, width, names), Type(word, tuple(two for _, two in children), width)
+
+    def test_texts_of_random_types(self) -> None:
+        rng = random.Random(6)
+        for _ in range(400):
+            wanted, storage = self.random_type(rng, 3)
+            rows = str(Column(model.random_rows(rng, storage, rng.randrange(4)), storage))
+            self.assertEqual(parse_type(str(wanted)), wanted)
+            for given in table(wanted, str(wanted), str(wanted).replace(", ", " ,\t").replace("<", "< ") if '"' not in str(wanted) else str(wanted)):
+                self.check(given, rows, str(storage))
+
+    def test_names_in_quotes_that_do_not_fit(self) -> None:
+        for text, place in (('struct<"a: int64>', 17), ('struct<"a" int64>', 11), ('struct<"a">', 10), ('struct<"a\\x": int64>', 9), ('"a": int64', 0), ('struct<"a"b: int64>', 10), ("struct<a: >", 10),
+                            ("struct<i8, b: >", 14), ("struct<a:", 9), ('struct<"a b": i8, "c, d": i65>', 28), ("struct<a b: i8 not null, c d: x>", 30), ("list<: int8>", 5), ("struct<i8,>", 10)):
+            with self.assertRaises(sel.BrokenText, msg=text) as caught:
+                Column.parse(text, "[]")
+            self.assertEqual((caught.exception.status, caught.exception.place), (32, place), text)
+            with self.assertRaises(ValueError, msg=text):
+                parse_type(text)
+        for text in (json.dumps("a\0b"), "a\0b", '"\\ud800"', "\ud800"):
+            with self.assertRaises(ValueError, msg=text):
+                Column.parse(f"struct<{text}: i8>", "[]")
+        for text in ("i64 not null", "struct<not null>", "struct<a: not null>", "list<list not null<i8>>"):
+            with self.assertRaises(ValueError, msg=text):
+                Column.parse(text, "[]")
 
 
 if __name__ == "__main__":

@@ -116,9 +116,16 @@ class Texts(unittest.TestCase):
         for text in ("decimal32(10, 2)", "decimal128(39, 0)", "decimal256(77, 1)", "decimal128(0, 0)"):
             with self.assertRaisesRegex(ValueError, "there is no type 'decimal"):
                 parse_type(text)
-        for zone in ("a, b", "a ,b", " UTC"):
+        for zone in ("a, b", "a ,b", " UTC", "tz=", "tz=UTC"):
             wanted = of_format(f"tsm:{zone}")
             self.assertEqual((str(wanted), parse_type(str(wanted))), (f"timestamp[ms, tz={zone}]", wanted))
+        for text in ("timestamp[ms, tz=]", "timestamp[ms,tz=]", "timestamp[ns ,  tz=]", "timestamp[s,]", "timestamp[s, ]"):
+            for use in table(parse_type, lambda text: Column([], text), lambda text: parse_type(f"struct<a: i8, b: {text} not null>")):
+                with self.assertRaisesRegex(ValueError, r"there is no type 'timestamp\["):
+                    use(text)
+        for text in ("struct<i8,>", "struct<a: double , >", "list<i8,>", "fixed<2,i8,>", "fixed_size_list<i8,>[2]"):
+            with self.assertRaisesRegex(ValueError, "no type after its last comma"):
+                parse_type(text)
         for text in ("fixed_size_binary[4294967296]", "fixed_size_binary[" + "9" * 10000 + "]"):
             with self.assertRaises(OverflowError):
                 parse_type(text)
@@ -184,8 +191,19 @@ class Types(unittest.TestCase):
             self.assertEqual(caught.exception.status, 12)
 
     def test_rows_of_logical_types_are_not_parsed(self) -> None:
-        for wanted in (Column([0.5]).type, Type("list", (parse_type("double"),))):
-            with self.assertRaisesRegex(ValueError, "logical type .*double"):
+        double = parse_type("double")
+        for wanted, place in table((double, 0), (Type("list", (double,)), 5), ("double", 0), ("struct<a: double>", 10), ('struct<"a, b": i8, c: list<double>>', 27)):
+            with self.assertRaisesRegex(sel.BrokenText, "rows of the logical type .*double.* are not parsed") as caught:
+                Column.parse(wanted, "[]")
+            self.assertEqual((caught.exception.status, caught.exception.place), (32, place))
+        for wanted in table(of_format("+m", [of_format("+s", [parse_type("utf8"), parse_type("i8")], ["key", "value"])]), coded_type("i", Column(["a"]))):
+            with self.assertRaisesRegex(sel.BrokenText, "rows of the logical type .* are not parsed"):
+                Column.parse(wanted, "[]")
+        for levels in (129, 2000):
+            wanted = Type("i8")
+            for _ in range(levels + 1):
+                wanted = Type("list", (wanted,))
+            with self.assertRaises(sel.LimitPassed):
                 Column.parse(wanted, "[]")
 
 

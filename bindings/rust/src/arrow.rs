@@ -121,7 +121,15 @@ impl ArrowArray {
     }
 }
 
+/// `ARROW_FLAG_NULLABLE` in `include/sel_arrow.h`.
+const NULLABLE: i64 = 2;
+
 impl ArrowSchema {
+    /// Returns whether a row may be null.
+    pub(crate) fn is_nullable(&self) -> bool {
+        self.flags & NULLABLE != 0
+    }
+
     /// Returns a released schema, for a producer to write to. It must write one that meets the conditions of
     /// [`from_raw`](Self::from_raw).
     pub const fn empty() -> ArrowSchema {

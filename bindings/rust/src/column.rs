@@ -36,7 +36,8 @@ use std::{fmt, ptr};
 /// Two columns are equal by `==` if they have the same type and the same rows; values in null slots are ignored.
 /// [`equals`](Column::equals) ignores the types. Comparison, [`Clone`], [`fmt::Display`] and [`fmt::Debug`] cannot return an
 /// error: if an allocation fails, they call [`handle_alloc_error`], which aborts, as collections of the standard library
-/// do. [`try_clone`](Column::try_clone), [`equals`](Column::equals) and [`to_text`](Column::to_text) return the error.
+/// do. [`try_eq`](Column::try_eq), [`equals`](Column::equals), [`try_clone`](Column::try_clone) and
+/// [`to_text`](Column::to_text) return the error.
 ///
 /// ```
 /// # use sel::{Column, Error};
@@ -285,8 +286,20 @@ impl Column {
         Ok(is_equal)
     }
 
-    /// Returns whether both columns have the same type and the same rows.
-    fn try_eq(&self, other: &Column) -> Result<bool, Error> {
+    /// Returns whether both columns have the same type and the same rows, as `==` does; values in null slots are ignored.
+    ///
+    /// # Errors
+    /// [`Error::OutOfMemory`].
+    ///
+    /// ```
+    /// # use sel::{Column, Error};
+    /// # fn main() -> Result<(), Error> {
+    /// let small = Column::from_values(&[1i8])?;
+    /// assert!(small.try_eq(&small.slice(0, 1)?)? && !small.try_eq(&Column::from_values(&[1i64])?)?);
+    /// # Ok(())
+    /// # }
+    /// ```
+    pub fn try_eq(&self, other: &Column) -> Result<bool, Error> {
         let may_be_equal = self.kind == other.kind && self.len() == other.len();
         Ok(may_be_equal && self.data_type()? == other.data_type()? && self.equals(other)?)
     }

@@ -7,7 +7,8 @@ use crate::memory::try_collect;
 use std::fmt;
 use std::str::FromStr;
 
-/// The type of a column: its kind, with the types of its children.
+/// The type of a column: its kind, with the types of its children. A later version may have more types: a `match` needs an arm for
+/// others.
 ///
 /// A type is printed and parsed in the notation of [`Column::parse`], which reads types of at most 64 levels.
 ///
@@ -22,6 +23,7 @@ use std::str::FromStr;
 /// # }
 /// ```
 #[derive(Clone, Debug, PartialEq, Eq, Hash)]
+#[non_exhaustive]
 pub enum DataType {
     /// Nulls only: `null`.
     Null,

@@ -3,7 +3,8 @@
 use crate::error::Error;
 use std::fmt;
 
-/// A kind of column, in the order of `enum sel_type_id` in `include/sel.h`.
+/// A kind of column, in the order of `enum sel_type_id` in `include/sel.h`. A later version may have more kinds: a `match` needs an
+/// arm for others.
 ///
 /// It prints as the types of the kind begin in the notation of [`Column::parse`](crate::Column::parse).
 ///
@@ -13,6 +14,7 @@ use std::fmt;
 /// assert_eq!(kinds, ["i64", "utf8", "list", "fixed"]);
 /// ```
 #[derive(Clone, Copy, Debug, PartialEq, Eq, Hash)]
+#[non_exhaustive]
 pub enum Kind {
     /// Nulls only.
     Null,

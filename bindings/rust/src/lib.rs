@@ -48,7 +48,8 @@
 //!
 //! # Errors and panics
 //! Functions return an [`Error`], and none panics. Cloning, comparison and formatting cannot return an error: they abort if an
-//! allocation fails (see [`Column`]), and `==` of a [`TypedColumn`] panics if a size limit would be exceeded.
+//! allocation fails (see [`Column`]), and `==` of a [`TypedColumn`] panics if a size limit would be exceeded, which
+//! [`TypedColumn::try_eq`] returns as an error. [`Error`], [`Kind`] and [`DataType`] may get more variants.
 //!
 //! # The functions of the C headers
 //!

@@ -3,10 +3,11 @@
 use crate::arrow::{ArrowArray, ArrowSchema};
 use crate::arrow_type::{common_type, ArrowType};
 use crate::column::{infallible, Column};
-use crate::error::Error;
+use crate::error::{status, Error};
 use crate::kernels;
 use crate::kind::Kind;
 use crate::memory::collect;
+use crate::selection::Selection;
 use std::ptr;
 
 /// A column with its logical type: kernels return columns of the type that the result has in Arrow.
@@ -31,8 +32,8 @@ use std::ptr;
 /// # Equality
 /// Two columns are equal by `==` if they have equal types and the same rows. Keys are compared by the values of the
 /// dictionary that they refer to, and floats by their bits; values in null slots are ignored. If an allocation fails, `==`
-/// aborts, as that of [`Column`] does, and it panics if a column without its dictionaries would exceed a size limit. To get
-/// these errors, compare the results of [`decode`](TypedColumn::decode).
+/// aborts, as that of [`Column`] does, and it panics if a column without its dictionaries would exceed a size limit. Use
+/// [`try_eq`](TypedColumn::try_eq), which returns these errors, for columns with dictionaries whose values may be large.
 ///
 /// ```
 /// # use sel::{ArrowType, Column, Error, TypedColumn};
@@ -55,6 +56,19 @@ pub struct TypedColumn {
 /// Returns the columns of several typed columns in one type.
 fn joined(columns: &[&TypedColumn]) -> Result<(Vec<Column>, ArrowType), Error> {
     common_type(&collect(columns.iter().map(|it| (&it.column, Some(&it.arrow_type))))?)
+}
+
+type IfThenElse = fn(&Column, &Column, &Column) -> Result<Column, Error>;
+
+/// Returns what a kernel chooses of the rows of two columns in one type.
+fn chosen(
+    kernel: IfThenElse,
+    mask: &Column,
+    if_true: &TypedColumn,
+    if_false: &TypedColumn,
+) -> Result<TypedColumn, Error> {
+    let (columns, arrow_type) = joined(&[if_true, if_false])?;
+    Ok(TypedColumn { column: kernel(mask, &columns[0], &columns[1])?, arrow_type })
 }
 
 impl TypedColumn {
@@ -127,18 +141,47 @@ impl TypedColumn {
         Ok(TypedColumn { column, arrow_type: self.arrow_type.try_clone()? })
     }
 
+    /// Returns a column of the type of this one, or of the nullable one.
+    fn like_nullable(&self, column: Column, is_nullable: bool) -> Result<TypedColumn, Error> {
+        if is_nullable {
+            Ok(TypedColumn { column, arrow_type: self.arrow_type.as_nullable()? })
+        } else {
+            self.like(column)
+        }
+    }
+
+    /// Returns a column of elements of the lists of this one. Fixed-size binary values and decimals of 256 bits are no lists, although
+    /// their storage is.
+    fn elements(&self, column: Column) -> Result<TypedColumn, Error> {
+        if self.arrow_type.child_count() == 0 {
+            return Err(Error::of(status::UNSUPPORTED_TYPE));
+        }
+        Ok(TypedColumn { column, arrow_type: self.arrow_type.child(0)?.as_field("", true)? })
+    }
+
     /// Returns the rows where the mask is true.
     pub fn filter(&self, mask: &Column) -> Result<TypedColumn, Error> {
         self.like(self.column.filter(mask)?)
     }
 
+    /// Returns the rows whose bit in `mask` is set, of `len` bits packed with the least significant bit first.
+    pub fn filter_bits(&self, mask: &[u8], len: usize) -> Result<TypedColumn, Error> {
+        self.like(self.column.filter_bits(mask, len)?)
+    }
+
+    /// Returns the rows that `selection` selects.
+    pub fn filter_selection(&self, selection: &Selection) -> Result<TypedColumn, Error> {
+        self.like(self.column.filter_selection(selection)?)
+    }
+
     /// Returns the rows at the indices. The result is nullable if an index is null.
     pub fn take(&self, indices: &Column) -> Result<TypedColumn, Error> {
-        let column = self.column.take(indices)?;
-        if indices.null_count() == 0 {
-            return self.like(column);
-        }
-        Ok(TypedColumn { column, arrow_type: self.arrow_type.as_nullable()? })
+        self.like_nullable(self.column.take(indices)?, indices.null_count() > 0)
+    }
+
+    /// Returns the rows at the indices; `None` gives a null row. The result is nullable if an index is `None`.
+    pub fn take_rows(&self, indices: &[Option<u32>]) -> Result<TypedColumn, Error> {
+        self.like_nullable(self.column.take_rows(indices)?, indices.contains(&None))
     }
 
     /// Returns `len` rows from row `offset` on.
@@ -146,10 +189,39 @@ impl TypedColumn {
         self.like(self.column.slice(offset, len)?)
     }
 
+    /// Returns the rows in reverse order.
+    pub fn reverse(&self) -> Result<TypedColumn, Error> {
+        self.like(self.column.reverse()?)
+    }
+
     /// Returns the element of each list at the index, null if there is none. The result is nullable and has no name.
     pub fn list_get(&self, index: i64) -> Result<TypedColumn, Error> {
-        let column = self.column.list_get(index)?;
-        Ok(TypedColumn { column, arrow_type: self.arrow_type.child(0)?.as_field("", true)? })
+        self.elements(self.column.list_get(index)?)
+    }
+
+    /// Returns whether the index is out of bounds of a valid list.
+    pub fn list_index_is_oob(&self, index: i64) -> Result<bool, Error> {
+        self.column.list_index_is_oob(index)
+    }
+
+    /// Returns the element of each fixed-size list at the index; if `null_on_oob`, null if there is none. The result is nullable and
+    /// has no name. Fixed-size binary values and decimals are no lists: [`Error::WrongArgument`].
+    pub fn fixed_size_list_get(&self, index: i64, null_on_oob: bool) -> Result<TypedColumn, Error> {
+        self.elements(self.column.fixed_size_list_get(index, null_on_oob)?)
+    }
+
+    /// Returns the element of each fixed-size list at its own index, as [`fixed_size_list_get`](TypedColumn::fixed_size_list_get)
+    /// does.
+    pub fn fixed_size_list_get_each(&self, indices: &Column, null_on_oob: bool) -> Result<TypedColumn, Error> {
+        self.elements(self.column.fixed_size_list_get_each(indices, null_on_oob)?)
+    }
+
+    /// Returns a column of lists, each of which has the row as its only element. The elements have the type of this column and
+    /// the name `item`; the lists are nullable and have no name.
+    pub fn unit_list(&self) -> Result<TypedColumn, Error> {
+        let column = self.column.unit_list()?;
+        let item = self.arrow_type.as_field("item", self.arrow_type.to_schema()?.is_nullable())?;
+        Ok(TypedColumn { column, arrow_type: ArrowType::new("+L", &[&item])? })
     }
 
     /// Returns a field of structs. A row of it at a null struct value is whatever the column holds there. The result is nullable
@@ -182,8 +254,34 @@ impl TypedColumn {
 
     /// Returns the rows of `if_true` where the mask is true, and else those of `if_false`.
     pub fn if_then_else(mask: &Column, if_true: &TypedColumn, if_false: &TypedColumn) -> Result<TypedColumn, Error> {
-        let (columns, arrow_type) = joined(&[if_true, if_false])?;
-        Ok(TypedColumn { column: kernels::if_then_else(mask, &columns[0], &columns[1])?, arrow_type })
+        chosen(kernels::if_then_else, mask, if_true, if_false)
+    }
+
+    /// Returns the only row of `if_true` where the mask is true, and else the rows of `if_false`.
+    pub fn if_then_else_broadcast_true(
+        mask: &Column,
+        if_true: &TypedColumn,
+        if_false: &TypedColumn,
+    ) -> Result<TypedColumn, Error> {
+        chosen(kernels::if_then_else_broadcast_true, mask, if_true, if_false)
+    }
+
+    /// Returns the rows of `if_true` where the mask is true, and else the only row of `if_false`.
+    pub fn if_then_else_broadcast_false(
+        mask: &Column,
+        if_true: &TypedColumn,
+        if_false: &TypedColumn,
+    ) -> Result<TypedColumn, Error> {
+        chosen(kernels::if_then_else_broadcast_false, mask, if_true, if_false)
+    }
+
+    /// Returns the only row of `if_true` where the mask is true, and else the only row of `if_false`.
+    pub fn if_then_else_broadcast_both(
+        mask: &Column,
+        if_true: &TypedColumn,
+        if_false: &TypedColumn,
+    ) -> Result<TypedColumn, Error> {
+        chosen(kernels::if_then_else_broadcast_both, mask, if_true, if_false)
     }
 
     /// Concatenates columns row by row, as [`flatten`](crate::flatten) does.
@@ -204,8 +302,23 @@ impl TypedColumn {
 }
 
 impl TypedColumn {
-    /// Returns whether both columns have equal types and the same rows, with the values of dictionaries in place of keys.
-    fn try_eq(&self, other: &TypedColumn) -> Result<bool, Error> {
+    /// Returns whether both columns have equal types and the same rows, with the values of dictionaries in place of keys, as `==` does.
+    ///
+    /// # Errors
+    /// [`Error::Limit`] if a column without its dictionaries would exceed a size limit; [`Error::OutOfMemory`].
+    ///
+    /// ```
+    /// # use sel::{ArrowType, Column, Error, TypedColumn};
+    /// # fn main() -> Result<(), Error> {
+    /// // each value is a list of two billion nulls, which need no buffer
+    /// let long = Column::new_fixed_size_list(1 << 31, 1, Column::new_null(1 << 31)?, None)?;
+    /// let keys = Column::from_values(&[0u8, 0])?;
+    /// let coded = TypedColumn::new(keys, ArrowType::dictionary("C", &long, None, false)?)?;
+    /// assert_eq!(coded.try_eq(&coded.reverse()?), Err(Error::Limit(8)));
+    /// # Ok(())
+    /// # }
+    /// ```
+    pub fn try_eq(&self, other: &TypedColumn) -> Result<bool, Error> {
         let may_be_equal = self.arrow_type == other.arrow_type && self.column.len() == other.column.len();
         Ok(may_be_equal && self.decode()?.column.equals(&other.decode()?.column)?)
     }

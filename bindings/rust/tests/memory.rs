@@ -149,5 +149,9 @@ fn typed_columns_are_joined_or_out_of_memory() {
     let typed = TypedColumn::of_storage(Column::from_values(&[1i64]).expect("a column")).expect("a typed column");
     assert!(fail_each(|| TypedColumn::flatten(&[&typed, &typed], &[1, 1], 1)) >= 9);
     assert!(fail_each(|| TypedColumn::collect_rows(&[&typed, &typed], &[Some((1, 0)), None])) >= 11);
+    assert!(fail_each(|| typed.take_rows(&[Some(0), None])) >= 2);
+    assert!(fail_each(|| typed.unit_list()) >= 2);
+    let mask = Column::from_values(&[true]).expect("a column");
+    assert!(fail_each(|| TypedColumn::if_then_else_broadcast_both(&mask, &typed, &typed)) >= 6);
     assert_eq!(fail_each(|| typed.slice(0, 1)), 0);
 }

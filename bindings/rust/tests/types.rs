@@ -1,11 +1,11 @@
 //! Logical types beside columns, dictionaries and streams.
 
 use sel::{
-    common_type, export_stream, unsupported_format, ArrowArrayStream, ArrowType, Batch, Column, Error, StreamReader,
-    TypedColumn,
+    common_type, export_stream, unsupported_format, ArrowArrayStream, ArrowType, Batch, Column, Error, Selection,
+    StreamReader, TypedColumn,
 };
 use std::cell::Cell;
-use std::panic::panic_any;
+use std::panic::{catch_unwind, panic_any, AssertUnwindSafe};
 use std::rc::Rc;
 
 const FORMATS: [(&str, &str, &str); 16] = [
@@ -241,8 +241,25 @@ fn kernels_keep_the_type() -> Result<(), Error> {
     shows(&TypedColumn::if_then_else(&mask, &dates, &others)?, "[1,8,3]", "date32[day]");
     shows(&TypedColumn::flatten(&[&dates, &others], &[3, 3], 1)?, "[1,null,3,7,8,9]", "date32[day]");
     shows(&TypedColumn::collect_rows(&[&dates, &others], &[Some((1, 0)), None])?, "[7,null]", "date32[day]");
+    shows(&dates.filter_bits(&[0b101], 3)?, "[1,3]", "date32[day]");
+    shows(&dates.filter_selection(&Selection::new(&mask)?)?, "[1,3]", "date32[day]");
+    shows(&dates.take_rows(&[Some(2), None])?, "[3,null]", "date32[day]");
+    shows(&dates.reverse()?, "[3,null,1]", "date32[day]");
+    shows(&dates.unit_list()?, "[[1],[null],[3]]", "large_list<item: date32[day]>");
+    let one = typed("tdD", Column::from_values(&[0i32]))?;
+    shows(&TypedColumn::if_then_else_broadcast_true(&mask, &one, &dates)?, "[0,null,0]", "date32[day]");
+    shows(&TypedColumn::if_then_else_broadcast_false(&mask, &dates, &one)?, "[1,0,3]", "date32[day]");
+    shows(&TypedColumn::if_then_else_broadcast_both(&mask, &one, &others.slice(2, 1)?)?, "[0,9,0]", "date32[day]");
     let times = typed("tts", Column::from_values(&[7i32, 8, 9]))?;
     assert_eq!(TypedColumn::if_then_else(&mask, &dates, &times).err(), Some(Error::WrongArgument(4)));
+    let time = times.slice(0, 1)?;
+    for found in [
+        TypedColumn::if_then_else_broadcast_true(&mask, &time, &dates),
+        TypedColumn::if_then_else_broadcast_false(&mask, &dates, &time),
+        TypedColumn::if_then_else_broadcast_both(&mask, &one, &time),
+    ] {
+        assert_eq!(found.err(), Some(Error::WrongArgument(4)));
+    }
     assert_eq!(typed("g", Column::from_values(&[1i64])).err(), Some(Error::WrongArgument(4)));
     Ok(())
 }
@@ -267,9 +284,81 @@ fn keys_are_compared_by_the_values_of_their_dictionary() -> Result<(), Error> {
     assert_eq!(first()?.arrow_type(), other()?.arrow_type());
     assert_eq!(first()?.column(), other()?.column());
     assert!(first()? == same()? && first()? != other()? && same()? != other()?);
+    assert_eq!((first()?.try_eq(&same()?), first()?.try_eq(&other()?)), (Ok(true), Ok(false)));
     assert!(lists_of(first()?)? == lists_of(same()?)? && lists_of(first()?)? != lists_of(other()?)?);
     assert_ne!(first()?, first()?.decode()?);
     assert_ne!(first()?, first()?.slice(0, 2)?);
+    Ok(())
+}
+
+#[test]
+fn kernels_keep_dictionaries() -> Result<(), Error> {
+    let words = coded(&[Some("a"), Some("b"), None], &[Some(0), Some(1), None, Some(2)])?;
+    let text = "dictionary<i16, string_view>";
+    shows(&words.filter_bits(&[0b1010], 4)?, "[1,2]", text);
+    shows(&words.filter_selection(&Selection::from_bits(&[0b0101], 4)?)?, "[0,null]", text);
+    shows(&words.take_rows(&[Some(1), None])?, "[1,null]", text);
+    shows(&words.reverse()?, "[2,null,1,0]", text);
+    let lists = words.unit_list()?;
+    shows(&lists, "[[0],[1],[null],[2]]", "large_list<item: dictionary<i16, string_view>>");
+    shows(&lists.decode()?, r#"[["a"],["b"],[null],[null]]"#, "large_list<item: string_view>");
+    assert!(lists.list_get(0)?.try_eq(&words)? && !lists.list_index_is_oob(-1)? && lists.list_index_is_oob(1)?);
+    // values of one dictionary keep their keys, those of two are decoded
+    let mask = Column::from_bools(&[true, false, true, false])?;
+    shows(&TypedColumn::if_then_else_broadcast_true(&mask, &words.slice(1, 1)?, &words)?, "[1,1,1,2]", text);
+    let other = coded(&[Some("x"), Some("b")], &[Some(0)])?;
+    let chosen = TypedColumn::if_then_else_broadcast_false(&mask, &words, &other)?;
+    shows(&chosen, r#"["a","x",null,"x"]"#, "string_view");
+    let chosen = TypedColumn::if_then_else_broadcast_both(&mask, &other, &words.slice(0, 1)?)?;
+    shows(&chosen, r#"["x","a","x","a"]"#, "string_view");
+    Ok(())
+}
+
+#[test]
+fn elements_of_fixed_size_lists_have_their_type() -> Result<(), Error> {
+    let strict = ArrowType::new("g", &[])?.as_field("price", false)?;
+    let pairs = Column::parse("fixed<2,u64>", "[[1,2],[3,4],null]")?;
+    let pairs = TypedColumn::new(pairs, ArrowType::new("+w:2", &[&strict])?)?;
+    let indices = Column::from_values(&[0i64, -1, 5])?;
+    for (found, rows) in [
+        (pairs.fixed_size_list_get(-1, false)?, "[2,4,null]"),
+        (pairs.fixed_size_list_get(2, true)?, "[null,null,null]"),
+        (pairs.fixed_size_list_get_each(&indices, false)?, "[1,4,null]"),
+        (pairs.fixed_size_list_get_each(&indices.reverse()?, true)?, "[null,4,null]"),
+    ] {
+        shows(&found, rows, "double");
+        assert_eq!(found.arrow_type(), &ArrowType::new("g", &[])?.as_field("", true)?);
+        assert!(found.to_arrow().is_ok());
+    }
+    assert_eq!(pairs.fixed_size_list_get(2, false).err(), Some(Error::OutOfBounds(7)));
+    assert_eq!(pairs.list_get(0).err(), Some(Error::WrongArgument(3)));
+    // the storage of these is a list of bytes
+    for (format, rows) in [("w:3", "[[1,2,3]]".to_string()), ("d:9,2,256", format!("[[{}0]]", "0,".repeat(31)))] {
+        let storage = if format == "w:3" { "fixed<3,u8>" } else { "fixed<32,u8>" };
+        let bytes = typed(format, Column::parse(storage, &rows))?;
+        assert_eq!(bytes.fixed_size_list_get(0, true).err(), Some(Error::WrongArgument(3)));
+        let first = Column::from_values(&[0i64])?;
+        assert_eq!(bytes.fixed_size_list_get_each(&first, true).err(), Some(Error::WrongArgument(3)));
+        assert_eq!(bytes.reverse()?, bytes);
+    }
+    Ok(())
+}
+
+#[test]
+fn comparison_returns_limits() -> Result<(), Error> {
+    // each value is a list of two billion nulls, which need no buffer
+    let long = Column::new_fixed_size_list(1 << 31, 1, Column::new_null(1 << 31)?, None)?;
+    let coded = ArrowType::dictionary("C", &long, None, false)?;
+    let of = |keys: &[u8]| TypedColumn::new(Column::from_values(keys)?, coded.clone());
+    let two = [of(&[0, 0])?, of(&[0, 0])?];
+    assert_eq!(two[0].try_eq(&two[1]), Err(Error::Limit(8)));
+    assert!(catch_unwind(AssertUnwindSafe(|| two[0] == two[1])).is_err());
+    let numbers = Column::from_options(&[Some(1i64), None])?;
+    assert_eq!(numbers.try_eq(&numbers.slice(0, 2)?), Ok(true));
+    for other in ["[1,2]", "[1]", "[null,1]"] {
+        assert_eq!(numbers.try_eq(&Column::parse("i64", other)?), Ok(false), "{other}");
+    }
+    assert_eq!(numbers.try_eq(&Column::parse("i8", "[1,null]")?), Ok(false));
     Ok(())
 }
 
@@ -282,6 +371,11 @@ fn nulls_make_a_type_nullable() -> Result<(), Error> {
     let with_null = column.take(&Column::from_options(&[Some(0u32), None])?)?;
     assert_eq!(with_null.arrow_type(), &strict.as_field("strict", true)?);
     assert!(with_null.to_arrow().is_ok());
+    assert_eq!(column.take_rows(&[Some(1), Some(0)])?.arrow_type(), &strict);
+    assert_eq!(column.take_rows(&[Some(0), None])?.arrow_type(), &strict.as_field("strict", true)?);
+    assert_eq!(column.unit_list()?.arrow_type().to_string(), "large_list<item: double not null>");
+    assert_eq!(with_null.unit_list()?.arrow_type().to_string(), "large_list<item: double>");
+    assert!(column.unit_list()?.to_arrow().is_ok());
     assert!(TypedColumn::collect_rows(&[&column], &[Some((0, 0)), None])?.to_arrow().is_ok());
     Ok(())
 }

