@@ -2,6 +2,7 @@
 use Rattle.std.proofs.lemmas.Grind.{common_steps}
 use Rattle.std.proofs.Common.{◌≡◌, ◌≢◌, ◌≤◌, ℕ, arith, List, [], ◌∷◌, inl, inr, refl}
 use Rattle.sel_c.proofs.Common.{Limit, PolarsError, rows, type_of, Shape, Value, ArrayRef, Held, error_status, ok, out_of_memory, Makes, ReturnsFirst, ExceedsNone, IsLimitOrMemory, IsOkOrLimit, ReturnsColumn}
+use Rattle.sel_bits.specs.declared.faults.PolarsError.TheVariants.{ComputeError, OutOfMemory, SizeLimit}
 use Rattle.sel_c.proofs.Limits.{returns-error}
 
 -- A column that exceeds no limit is stored, unless memory runs out.

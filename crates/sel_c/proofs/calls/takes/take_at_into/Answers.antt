@@ -5,13 +5,14 @@ use Rattle.sel_c.proofs.calls.takes.take_at_into.Goals as goal
 
 pub returns-in-Some : goal.returns-in-Some
 returns-in-Some c =
-    let told = rw c.in-Ok.is at c.take.ensures in
-    returns-first _ _ _ _ _ _ _ _ _ c.in-Some.ensures.within
-    (returns-made _ _ _ _ _ _ _ c.put.ensures.column c.put.ensures.status c.in-Some.ensures.rows c.in-Some.ensures.dtype c.in-Some.ensures.limits)
+    let told = c.in-Ok.ensures in
+    returns-first _ _ _ _ _ _ _ _ _ (rw c.in-Some.is at told.within)
+    (returns-made _ _ _ _ _ _ _ c.put.ensures.column c.put.ensures.status (rw c.in-Some.is at told.rows) (rw c.in-Some.is at told.dtype) (rw c.in-Some.is at told.limits))
 
 pub returns-in-None : goal.returns-in-None
 returns-in-None c =
-    returns-refused index_out_of_bounds c.args.out.now.tree _ _ _ _ _ (omega arith) (λ all. absurd (cc (all, c.in-None.ensures.outside)))
+    let fails = rw c.in-None.is at c.in-Ok.ensures.outside in
+    returns-refused index_out_of_bounds c.args.out.now.tree _ _ _ _ _ (omega arith) (λ all. absurd (cc (all, fails)))
 
 pub returns-in-Err : goal.returns-in-Err
 returns-in-Err c =
