@@ -87,7 +87,7 @@ class Keys(unittest.TestCase):
         ):
             for key in keys:
                 for given in (key, Both(key)) if needed == "bool is" else (key,):
-                    with self.assertRaisesRegex(sel.WrongArgument, f"a column of type {key.type}, where {needed} needed") as caught:
+                    with self.assertRaisesRegex(sel.WrongArgument, f"a column of type {key.type.kind}, where {needed} needed") as caught:
                         use(given)
                     self.assertEqual(caught.exception.status, 3)
                     self.assertEqual("give its type" in str(caught.exception), str(key.type) == "null")
