@@ -606,7 +606,8 @@ class Column(Owner):
         the column has the stream's type and no rows. A table is a column of structs. A source with both gives its array.
 
         Raises TypeError for a source with neither, BrokenRule, a ValueError, for an array that breaks the format's rules or has a type
-        without a column here, and what the stream reports: MemoryError, ValueError, NotImplementedError or else OSError.
+        without a column here, LimitPassed, an OverflowError, for more than 128 levels and if the lists and values that list views and
+        runs become exceed a size limit, and what the stream reports: MemoryError, ValueError, NotImplementedError or else OSError.
 
         >>> sel.Column.from_arrow(sel.Column(["a", None]))
         Column(utf8, ["a",null])

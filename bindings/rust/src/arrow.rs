@@ -225,9 +225,10 @@ impl Column {
     ///
     /// # Errors
     /// [`Error::Arrow`] if the array or the schema is released, has an unsupported format, other buffers or children than
-    /// its format has, or a length, an offset or a null count out of range, or for a null in a field that is not nullable;
-    /// [`Error::Malformed`] if its values break a rule of columns, or for more than 4,294,967,295 rows; [`Error::Limit`] for
-    /// more than 128 levels of lists and structs; [`Error::OutOfMemory`].
+    /// its format has, a length, an offset or a null count out of range, or nulls among run ends; [`Error::Malformed`] if its
+    /// values break a rule of columns, or for more than 4,294,967,295 rows; [`Error::Limit`] for more than 128 levels of lists
+    /// and structs, or if the lists and values that list views and runs become exceed a size limit; [`Error::OutOfMemory`].
+    /// Whether a field that is not nullable has nulls is checked by an export, not here.
     ///
     /// # Safety
     /// The array is of the type that the schema describes, and its buffers are as long as this type and its length
