@@ -28,6 +28,7 @@ import time
 from collections.abc import Iterator
 from concurrent.futures import Future, ThreadPoolExecutor
 from types import FrameType
+from typing import Any
 
 ROOT = pathlib.Path(__file__).resolve().parent.parent
 sys.dont_write_bytecode = True
@@ -114,8 +115,13 @@ class Board:
         return failed == 0 and len(self.results) == self.total
 
 
+# Starts a command in a process group of its own. In a session of its own, which is what there is before Python 3.11, it would have the same
+# share of the processors as every other session, whatever its niceness (sched_autogroup_enabled of Linux).
+GROUP: dict[str, Any] = {"process_group": 0} if sys.version_info >= (3, 11) else {"start_new_session": True}
+
+
 class Children:
-    """The commands that run. Each has a session of its own, so that it can be ended with all that it has started."""
+    """The commands that run. Each has a process group of its own, so that it can be ended with all that it has started."""
 
     def __init__(self) -> None:
         self.running: set[subprocess.Popen[str]] = set()
@@ -130,7 +136,7 @@ class Children:
             if self.is_interrupted:
                 sys.exit(1)
             ran = subprocess.Popen(command, cwd=ROOT, env=env, text=True, errors="replace", stdin=subprocess.DEVNULL,
-                                   stdout=subprocess.PIPE, stderr=subprocess.STDOUT, start_new_session=True)
+                                   stdout=subprocess.PIPE, stderr=subprocess.STDOUT, **GROUP)
             self.running.add(ran)
         timer = threading.Timer(limit or 0.0, send, (ran, signal.SIGKILL))
         try:
