@@ -9,7 +9,6 @@ use Rattle.sel_bits.specs.Place.{place}
 use Rattle.sel_arrow.specs.Value.{Value, Null}
 use Rattle.sel_arrow.specs.Masked.{valid_at}
 use Rattle.sel_arrow.specs.declared.fixed_size_list.FixedSizeListArray.{FixedSizeListArray}
-use Rattle.sel_arrow.specs.declared.view.View.{View}
 use Rattle.sel_kernels.specs.Blocks.{block_at}
 use Rattle.sel_kernels.specs.Entries.{place_of}
 
@@ -41,10 +40,6 @@ near_place n place = if nat_lt place n then place else 0
 -- The value at that position; the filler if there are no values.
 abbrev pub near_value : {A : Type 0} → List A → A → ℕ → A
 near_value values filler place = slice_index_or values (near_place (length values) place) filler
-
--- The view of no bytes.
-abbrev pub no_bytes : View
-no_bytes = record { length = 0; prefix = 0; buffer_idx = 0; offset = 0 }
 
 -- The number if it can be an index of a row, otherwise 0.
 abbrev pub narrowed : ℤ → ℕ

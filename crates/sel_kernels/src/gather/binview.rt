@@ -1,10 +1,9 @@
 //! Gather for binary view and string view columns.
 
-ghost use Rattle.std.specs.Prelude.{◌≡◌, IsTrue, length, map, IfOk, IfErr};
+ghost use Rattle.std.specs.Prelude.{◌≡◌, IsTrue, length, IfOk, IfErr};
 ghost use Rattle.sel_bits.specs.Faults.{IsOutOfMemory};
 ghost use Rattle.sel_arrow.specs.Columns.{binview_rows, primitive_rows, utf8view_rows};
 ghost use Rattle.sel_kernels.specs.Pick.{all_within, take_rows};
-ghost use Rattle.sel_kernels.specs.Steps.{near_value, no_bytes};
 
 use crate::gather::primitive::take_values;
 use crate::gather::validity::take_validity;
@@ -16,8 +15,8 @@ use sel_bits::buffer::Buffer;
 use sel_bits::faults::PolarsResult;
 use std::alloc::Global;
 
-/// The view for null slots if there are no views to take: no bytes.
-pub(crate) const NO_BYTES: View = View {
+// The view for null slots if there are no views to take: no bytes.
+const NO_BYTES: View = View {
     length: 0,
     prefix: 0,
     buffer_idx: 0,
@@ -25,6 +24,7 @@ pub(crate) const NO_BYTES: View = View {
 };
 
 /// Returns the views at `indices`; the data buffers are shared.
+#[tactic(auto, using(crate::proofs::Selects::row_lengths))]
 pub(crate) fn take_views(
     alloc: Global,
     values: &BinaryViewArray,
@@ -36,29 +36,6 @@ pub(crate) fn take_views(
     ensures refusal { IfErr result IsOutOfMemory }
 {
     let views = take_values(alloc, values.views.as_slice(), indices, NO_BYTES)?;
-    array_of_taken(alloc, values, indices, views)
-}
-
-/// Returns the column of the views at `indices`, with the validity of the rows; the data buffers
-/// are shared.
-///
-/// # Requires
-/// Every non-null index is less than `values.len()`, and a null index gave some view of `values`,
-/// or `NO_BYTES` if there is none.
-#[tactic(auto, using(crate::proofs::Selects::row_lengths))]
-pub(crate) fn array_of_taken(
-    alloc: Global,
-    values: &BinaryViewArray,
-    indices: &IdxArr,
-    views: Vec<View>,
-) -> PolarsResult<BinaryViewArray>
-    requires inside { IsTrue (all_within (length (binview_rows values.now))
-        (primitive_rows indices.now)) }
-    requires items { views.items ≡ map (near_value values.now.views no_bytes) indices.now.values }
-    ensures rows { IfOk result (λ taken. binview_rows taken ≡
-        take_rows (binview_rows values.now) (primitive_rows indices.now)) }
-    ensures refusal { IfErr result IsOutOfMemory }
-{
     let validity = take_validity(alloc, &values.validity, indices)?;
     let views = Buffer::from_vec(views)?;
     let buffers = values.buffers.try_clone()?;

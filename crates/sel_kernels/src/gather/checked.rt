@@ -1,24 +1,20 @@
 //! Gather with a check of the indices.
 
-ghost use Rattle.std.specs.Prelude.{◌≡◌, ◌+◌, ◌++◌, ◌≤◌, All, IsTrue, false, true, length, map, vec_len, vec_capacity, IfOk, IfErr, IfSome, IfNone};
+ghost use Rattle.std.specs.Prelude.{◌≡◌, ◌+◌, ◌++◌, ◌≤◌, IsTrue, false, true, length, map, vec_len, vec_capacity, IfOk, IfErr, IfSome, IfNone};
 ghost use Rattle.sel_bits.specs.Faults.{IsOutOfMemory};
-ghost use Rattle.sel_arrow.specs.Columns.{binview_rows, primitive_rows, utf8view_rows};
+ghost use Rattle.sel_arrow.specs.Columns.{primitive_rows};
 ghost use Rattle.sel_arrow.specs.Rows.{rows, type_of};
-ghost use Rattle.sel_arrow.specs.Shape.{of_binary_view, of_utf8_view};
 ghost use Rattle.sel_kernels.specs.CheckedTakes.{TakesIfWithin};
 ghost use Rattle.sel_kernels.specs.Pick.{all_below, all_within, take_rows};
 ghost use Rattle.sel_kernels.specs.Steps.{near_value};
 
-use crate::gather::binview::{self, NO_BYTES};
-use crate::gather::primitive::{self, take_near_places};
+use crate::gather::primitive::{array_of_taken, take_near_places};
 use crate::gather::{idx_slice_in_bounds, indices_in_bounds, take_unchecked};
 use sel_arrow::array::Array;
 use sel_arrow::array_ref::ArrayRef;
-use sel_arrow::binview::BinaryViewArray;
 use sel_arrow::column::Column;
 use sel_arrow::match_numbers;
 use sel_arrow::primitive::{ArrowPrimitive, IdxArr, PrimitiveArray};
-use sel_arrow::utf8view::Utf8ViewArray;
 use sel_bits::faults::PolarsResult;
 use std::alloc::Global;
 
@@ -38,8 +34,6 @@ pub fn take(alloc: Global, values: &ArrayRef, indices: &IdxArr) -> PolarsResult<
         (all_within (length (rows values.now.column)) (primitive_rows indices.now)) }
 {
     match_numbers! { values.as_column(), column => take_numbers(alloc, column, indices),
-        Column::BinaryView(column) => take_views(alloc, column, indices),
-        Column::Utf8View(column) => take_texts(alloc, column, indices),
         _ => take_after_check(alloc, values, indices),
     }
 }
@@ -77,46 +71,7 @@ fn take_numbers<T: ArrowPrimitive>(
     match take_values(alloc, values.values.as_slice(), indices, T::LEAST)? {
         None => Ok(None),
         Some(taken) => {
-            let array = primitive::array_of_taken(alloc, values, indices, taken, T::LEAST)?;
-            Ok(Some(array.into_ref()))
-        }
-    }
-}
-
-/// Returns the binary views at `indices`, or `None` if a non-null index is out of bounds.
-fn take_views(
-    alloc: Global,
-    values: &BinaryViewArray,
-    indices: &IdxArr,
-) -> PolarsResult<Option<ArrayRef>>
-    ensures { TakesIfWithin result of_binary_view
-        (take_rows (binview_rows values.now) (primitive_rows indices.now))
-        (all_within (length (binview_rows values.now)) (primitive_rows indices.now)) }
-{
-    match take_values(alloc, values.views.as_slice(), indices, NO_BYTES)? {
-        None => Ok(None),
-        Some(taken) => {
-            let array = binview::array_of_taken(alloc, values, indices, taken)?;
-            Ok(Some(array.into_ref()))
-        }
-    }
-}
-
-/// Returns the strings at `indices`, or `None` if a non-null index is out of bounds.
-fn take_texts(
-    alloc: Global,
-    values: &Utf8ViewArray,
-    indices: &IdxArr,
-) -> PolarsResult<Option<ArrayRef>>
-    ensures { TakesIfWithin result of_utf8_view
-        (take_rows (utf8view_rows values.now) (primitive_rows indices.now))
-        (all_within (length (utf8view_rows values.now)) (primitive_rows indices.now)) }
-{
-    match take_values(alloc, values.bytes.views.as_slice(), indices, NO_BYTES)? {
-        None => Ok(None),
-        Some(taken) => {
-            let bytes = binview::array_of_taken(alloc, &values.bytes, indices, taken)?;
-            let array = Utf8ViewArray { bytes };
+            let array = array_of_taken(alloc, values, indices, taken, T::LEAST)?;
             Ok(Some(array.into_ref()))
         }
     }
