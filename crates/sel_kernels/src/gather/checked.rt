@@ -169,7 +169,8 @@ fn push_if_below<T: Copy>(values: &[T], places: &[u32], filler: T, taken: &mut V
 fn push_places<T: Copy>(values: &[T], places: &[u32], filler: T, taken: &mut Vec<T>)
     requires below { IsTrue (all_below (length values.now) places.now) }
     requires room { vec_len taken.old + length places.now ≤ vec_capacity taken.old }
-    ensures items { taken.new.items ≡ taken.old.items ++ map (near_value values.now filler) places.now }
+    ensures items { taken.new.items ≡
+        taken.old.items ++ map (near_value values.now filler) places.now }
     ensures len { vec_len taken.new ≡ vec_len taken.old + length places.now }
     ensures capacity { vec_capacity taken.new ≡ vec_capacity taken.old }
 {
