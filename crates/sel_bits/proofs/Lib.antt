@@ -1,6 +1,7 @@
 pub mod AllTrue
 pub mod BitLists
 pub mod BlockParts
+pub mod Carving
 pub mod Combining
 pub mod Counts
 pub mod Extended
@@ -14,6 +15,8 @@ pub mod Padded
 pub mod Parts
 pub mod Prefix
 pub mod Shifts
+pub mod TwoListSends
+pub mod TwoListSteps
 pub mod WholeWords
 pub mod WordsOf
 pub mod ZeroWords

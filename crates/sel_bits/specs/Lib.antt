@@ -1,8 +1,10 @@
+pub mod Behind
 pub mod Bits
 pub mod Choose
 pub mod Copying
 pub mod Faults
 pub mod Limits
+pub mod Lying
 pub mod Moving
 pub mod Offsets
 pub mod Packing
@@ -11,4 +13,5 @@ pub mod Ranges
 pub mod Reading
 pub mod Signs
 pub mod Storage
+pub mod TwoLists
 pub mod Words

@@ -3,12 +3,14 @@ use Rattle.std.specs.Prelude.{◌≡◌, ℕ, List, length, take, drop}
 use Rattle.std.specs.Arc.{arc_slice_items}
 use Rattle.sel_bits.specs.Bits.{Bits, bits_from}
 use Rattle.sel_bits.specs.declared.storage.Storage.{Storage}
-use Rattle.sel_bits.specs.declared.storage.Storage.TheVariants.{Own, Lent}
+use Rattle.sel_bits.specs.declared.storage.Storage.TheVariants.{Own, Lent, Front, Back}
 
 -- The values of a storage.
 abbrev pub storage_items : {X : Type 0} → Storage X → List X
 storage_items (Own values) = arc_slice_items values
 storage_items (Lent list) = list.value.items
+storage_items (Front lists) = lists.value.front.items
+storage_items (Back lists) = lists.value.back.items
 
 -- The list xs is a part of the list ys.
 abbrev pub IsPart : {X : Type 0} → List X → List X → Type 0

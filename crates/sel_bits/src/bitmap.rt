@@ -4,7 +4,7 @@
 ghost use Rattle.std.specs.Prelude.{◌≡◌, ◌≢◌, ℕ, ◌+◌, ◌-◌, ◌*◌, ◌/◌, ◌%◌, ◌^◌, ◌<◌, ◌≤◌, [], ◌∷◌, ◌++◌, Bool, false, length, take, drop, slice_index_or, replicate, IfOk, IfErr, IfSome, IfNone, IsTrue, ◌↔◌, vec_len, if◌then◌else◌};
 ghost use Rattle.sel_bits.specs.Faults.{IsOutOfMemory};
 ghost use Rattle.sel_bits.specs.Bits.{bits_from, count_true, count_false, leading_ones, leading_zeros, trailing_zeros, unsliced};
-ghost use Rattle.sel_bits.specs.Storage.{BitsOf};
+ghost use Rattle.sel_bits.specs.Storage.{BitsOf, storage_items};
 ghost use Rattle.sel_bits.specs.Words.{word_of};
 
 use crate::buffer::Buffer;
@@ -93,11 +93,19 @@ impl Bitmap {
         ensures refusal { IfErr result IsOutOfMemory }
     {
         let bytes = Storage::from_vec(bytes)?;
-        Ok(Bitmap {
+        Ok(Bitmap::of_bytes(bytes, len))
+    }
+
+    /// Returns a bitmap of the first `len` bits of shared bytes.
+    pub(crate) fn of_bytes(bytes: Storage<u8>, len: usize) -> Bitmap
+        requires { len ≤ 8 * length (storage_items bytes) }
+        ensures { result ≡ unsliced (bits_from (storage_items bytes) 0 len) }
+    {
+        Bitmap {
             bytes,
             offset: 0,
             len,
-        })
+        }
     }
 
     /// Returns a bitmap of the `len` bits from bit `first` of lent bytes on, without a copy.

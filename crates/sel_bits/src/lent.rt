@@ -1,7 +1,7 @@
 //! Values in memory that a caller outside the library has lent.
 
 ghost use Rattle.std.specs.Prelude.{◌≡◌, ◌^◌, ◌<◌, ◌≤◌, List, [], length};
-ghost use Rattle.std.specs.Vec.{vec_capacity, vec_ptr};
+ghost use Rattle.std.specs.Vec.{vec_capacity, vec_len, vec_ptr};
 ghost use Rattle.std_alloc.specs.Vec.Ownership.{lodged};
 
 use std::marker::Model;
@@ -43,7 +43,8 @@ impl<T> Lent<T> {
 
     /// Returns the values as a list that neither grows nor frees them.
     pub(crate) fn into_vec(self) -> Vec<T, Lodged>
-        ensures { result.items ≡ self.items }
+        ensures { (result.items ≡ self.items) × (vec_ptr result ≡ self.at) ×
+            (vec_len result ≡ self.len) × (vec_capacity result ≡ self.room) }
     {
         let Lent { at, len, room } = self;
         unsafe { lodge(at, len, room) }
@@ -51,7 +52,8 @@ impl<T> Lent<T> {
 
     /// Returns the memory of the list.
     pub(crate) fn of_vec(list: Vec<T, Lodged>) -> Lent<T>
-        ensures { result.items ≡ list.items }
+        ensures { (result.items ≡ list.items) × (result.at ≡ vec_ptr list) ×
+            (result.len ≡ vec_len list) × (result.room ≡ vec_capacity list) }
     {
         let at = list.as_ptr();
         let room = list.capacity();
@@ -61,7 +63,8 @@ impl<T> Lent<T> {
     /// Returns the memory of the list, which is at `at` and has room for `room` values.
     fn of_vec_at(list: Vec<T, Lodged>, at: *mut T, room: usize) -> Lent<T>
         requires { (vec_ptr list ≡ at) × (vec_capacity list ≡ room) }
-        ensures { result.items ≡ list.items }
+        ensures { (result.items ≡ list.items) × (result.at ≡ at) ×
+            (result.len ≡ vec_len list) × (result.room ≡ room) }
     {
         let len = list.dislodge();
         Lent { at, len, room }

@@ -2,7 +2,9 @@
 #![tactic(auto)]
 
 pub mod aligned_words;
+pub mod bit_sink;
 pub mod bitmap;
+pub mod bits_behind;
 pub mod block_copy;
 pub mod blocks;
 pub mod buffer;
@@ -16,4 +18,5 @@ pub mod offsets;
 pub mod operations;
 pub mod packer;
 pub mod storage;
+pub mod two_lists;
 pub mod words;

@@ -97,6 +97,17 @@ impl<O: Offset> OffsetsBuffer<O> {
         Ok(OffsetsBuffer { offsets })
     }
 
+    /// Returns these offsets without validation and without a copy.
+    ///
+    /// # Requires
+    /// There is at least one offset, and none is negative or less than the one before.
+    pub fn of_rising_buffer(offsets: Buffer<O>) -> OffsetsBuffer<O>
+        requires { IsOffsets O.number offsets }
+        ensures { map O.number offsets ≡ map pos result }
+    {
+        OffsetsBuffer { offsets }
+    }
+
     /// Returns the offsets, one more than there are rows.
     pub fn as_slice(&self) -> &[O]
         ensures numbers { map O.number result.now ≡ map pos self.now }

@@ -2,7 +2,7 @@
 #![tactic(auto, using(crate::proofs::Combining::combining))]
 
 ghost use Rattle.std.specs.Prelude.{◌≡◌, ℕ, ◌+◌, ◌*◌, ◌/◌, ◌<◌, ◌≤◌, ◌&&◌, ◌||◌, ◌++◌, Bool, not, map, length, take, drop, IfOk, IfErr, if◌then◌else◌};
-ghost use Rattle.std.specs.Vec.{vec_len, vec_capacity};
+ghost use Rattle.std.specs.Vec.{vec_len, vec_capacity, vec_ptr};
 ghost use Rattle.std.specs.Int.{bytes_low_first};
 ghost use Rattle.sel_bits.specs.Faults.{IsOutOfMemory};
 ghost use Rattle.sel_bits.specs.Bits.{bits_from, unsliced, zip_with, zip_three};
@@ -12,7 +12,7 @@ ghost use Rattle.sel_bits.specs.Words.{is_set, word_of};
 use crate::bitmap::Bitmap;
 use crate::faults::PolarsResult;
 use crate::words::{low_bits, whole_word};
-use std::alloc::Global;
+use std::alloc::{Allocator, Global};
 
 impl Bitmap {
     /// Returns a bitmap with the bitwise AND of two bitmaps.
@@ -248,10 +248,11 @@ fn whole_words_by<R: BitRule>(
 /// # Requires
 /// `out` has spare capacity for eight bytes.
 #[inline(always)]
-fn push_word(word: u64, out: &mut Vec<u8>)
+pub(crate) fn push_word<A: Allocator>(word: u64, out: &mut Vec<u8, A>)
     requires room { vec_len out.old + 8 ≤ vec_capacity out.old }
     ensures items { out.new.items ≡ out.old.items ++ bytes_low_first 0 8 word }
     ensures capacity { vec_capacity out.new ≡ vec_capacity out.old }
+    ensures place { vec_ptr out.new ≡ vec_ptr out.old }
 {
     let bytes = word.to_le_bytes();
     for i in 0..8usize {

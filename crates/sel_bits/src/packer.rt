@@ -6,6 +6,7 @@ ghost use Rattle.sel_bits.specs.Faults.{IsOutOfMemory};
 ghost use Rattle.sel_bits.specs.Bits.{unsliced};
 ghost use Rattle.sel_bits.specs.Words.{bits, word_of};
 
+use crate::bit_sink::BitSink;
 use crate::bitmap::Bitmap;
 use crate::faults::PolarsResult;
 use crate::words::low_bits;
@@ -183,9 +184,20 @@ impl BitPacker {
     }
 }
 
+impl BitSink for BitPacker {
+    ghost so_far = { λ packer. packer };
+
+    ghost beside = { λ _. [] };
+
+    #[inline(always)]
+    fn append_word(&mut self, word: u64, count: u32) -> PolarsResult<()> {
+        self.append(word, count)
+    }
+}
+
 /// Returns the word with `count` copies of a bit, from the lowest on, with zeros above.
 #[tactic(auto, using(crate::proofs::Extended::all_ones, crate::proofs::Extended::word_of_false))]
-fn word_of_copies(value: bool, count: usize) -> u64
+pub(crate) fn word_of_copies(value: bool, count: usize) -> u64
     requires { count ≤ 64 }
     ensures { result ≡ word_of (replicate count value) }
 {

@@ -4,15 +4,19 @@ ghost use Rattle.std.specs.Prelude.{◌≡◌, IfOk, IfErr};
 ghost use Rattle.sel_bits.specs.Storage.{storage_items};
 
 use crate::lent::Lent;
+use crate::two_lists::TwoLists;
 use std::alloc::{AllocError, Global};
 use std::sync::{Arc, ArcSlice};
 use std_alloc::vec::Lodged;
 
-/// Values with any number of owners, in a block of the library's own or in lent memory.
+/// Values with any number of owners: in a block of the library's own, in lent memory, or at either
+/// end of a block with two lists.
 #[derive(Drop)]
 pub enum Storage<T> {
     Own(ArcSlice<T>),
     Lent(Arc<Vec<T, Lodged>>),
+    Front(Arc<TwoLists<T, u8>>),
+    Back(Arc<TwoLists<i64, T>>),
 }
 
 impl<T: Drop> Storage<T> {
@@ -54,6 +58,8 @@ impl<T: Drop> Storage<T> {
                 Ok(list) => Ok(Lent::of_vec(list)),
                 Err(list) => Err(Storage::Lent(list)),
             },
+            Storage::Front(lists) => Err(Storage::Front(lists)),
+            Storage::Back(lists) => Err(Storage::Back(lists)),
         }
     }
 
@@ -64,6 +70,8 @@ impl<T: Drop> Storage<T> {
         match self {
             Storage::Own(values) => values.as_slice(),
             Storage::Lent(list) => list.as_ref().as_slice(),
+            Storage::Front(lists) => lists.as_ref().front.as_slice(),
+            Storage::Back(lists) => lists.as_ref().back.as_slice(),
         }
     }
 
@@ -77,6 +85,8 @@ impl<T: Drop> Storage<T> {
         match self {
             Storage::Own(values) => Ok(Storage::Own(values.clone()?)),
             Storage::Lent(list) => Ok(Storage::Lent(list.clone()?)),
+            Storage::Front(lists) => Ok(Storage::Front(lists.clone()?)),
+            Storage::Back(lists) => Ok(Storage::Back(lists.clone()?)),
         }
     }
 }

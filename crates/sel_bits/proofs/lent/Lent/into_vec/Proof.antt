@@ -1,5 +1,5 @@
 -- `into_vec` hands the memory to `lodge`.
-use Rattle.std.proofs.Common.{◌≡◌, ◌^◌, ◌<◌, ◌≤◌, List, [], ◌∷◌, ◌++◌, length, refl, sym, ap, subst}
+use Rattle.std.proofs.Common.{◌≡◌, ◌^◌, ◌<◌, ◌≤◌, List, [], ◌∷◌, ◌++◌, length, refl, sym, ap, ◌∙◌, subst}
 use mir.Syntax.{Fn, Args, a_type, w64}
 use mir.MapTy.{inst_fn}
 use mir.Val.{Val, vptr, vint}
@@ -84,5 +84,5 @@ into_vec_spec 𝓤 𝓛 𝓜 𝓡 wired X LX =
     rewrite ! 0 (λ w. ‵ (To.own_val r (w ∷ []))) (sym (ap only is')) refl $
     lands_last ! refl good $ exec ! 𝓣.C 𝓣.Λ (env fn.locals l) (after 4 fn.body) (at_ret (env fn.locals l) (W.post z)) $
     sets ! (of_opd ! (get ! refl)) refl good $ returns ! (look_at ! 0 refl) $ free_all ! refl $
-    suffices ! _ (ends_at 𝓛 Tr hs c z u r (tt, tt) (tt, tt)) $ says ! same.0 $
+    suffices ! _ (ends_at 𝓛 Tr hs c z u r (tt, tt) (tt, tt)) $ says ! (same.0, same.3 ∙ sym e, same.1, same.2) $
     nothing ! $ nothing ! $ fjoin ! $ join ! $ move ! (1 ∷ 0 ∷ []) $ join ! $ done !))))))))))

@@ -86,5 +86,5 @@ of_vec_at_spec 𝓤 𝓛 𝓜 𝓡 wired X LX =
     returns ! (look_at ! 0 refl) $ free_all ! refl $
     let counted : (d.len ≡ length d.items) × (d.len ≤ room) = (d.ok.0, subst (λ (k : ℕ). d.len ≤ k) asked.1 d.ok.1) in let small = subst (λ (k : ℕ). k < 2 ^ 63) asked.1 d.small in
     memory_in (param 0 X) ! b o d.len room d.items fn' fr $
-    suffices ! _ (ends_at 𝓛 Tr hs c z (three (vptr b o) d.len room) (record { at = block_ptr b o; len = d.len; room = room; items = d.items; counted = counted; small = small }) (tt, (tt, (tt, tt))) (tt, (tt, (tt, tt)))) $ says ! refl $
+    suffices ! _ (ends_at 𝓛 Tr hs c z (three (vptr b o) d.len room) (record { at = block_ptr b o; len = d.len; room = room; items = d.items; counted = counted; small = small }) (tt, (tt, (tt, tt))) (tt, (tt, (tt, tt)))) $ says ! (refl, sym e ∙ asked.0, refl, refl) $
     nothing ! $ nothing ! $ fjoin ! $ nothing ! $ fjoin ! $ nothing ! $ fjoin ! $ join ! $ move ! (1 ∷ 0 ∷ []) $ join ! $ done !)))))))))))))))
