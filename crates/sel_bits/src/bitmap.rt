@@ -4,7 +4,7 @@
 ghost use Rattle.std.specs.Prelude.{◌≡◌, ◌≢◌, ℕ, ◌+◌, ◌-◌, ◌*◌, ◌/◌, ◌%◌, ◌^◌, ◌<◌, ◌≤◌, [], ◌∷◌, ◌++◌, Bool, false, length, take, drop, slice_index_or, replicate, IfOk, IfErr, IfSome, IfNone, IsTrue, ◌↔◌, vec_len, if◌then◌else◌};
 ghost use Rattle.sel_bits.specs.Faults.{IsOutOfMemory};
 ghost use Rattle.sel_bits.specs.Bits.{bits_from, count_true, count_false, leading_ones, leading_zeros, trailing_zeros, unsliced};
-ghost use Rattle.sel_bits.specs.Storage.{BitsOf, storage_items};
+ghost use Rattle.sel_bits.specs.Storage.{BitsOf, shared_bytes};
 ghost use Rattle.sel_bits.specs.Words.{word_of};
 
 use crate::buffer::Buffer;
@@ -12,7 +12,7 @@ use crate::faults::PolarsResult;
 use crate::lent::Lent;
 use crate::operations::{Not, word_by};
 use crate::packer::{BitPacker, MOST_BITS};
-use crate::storage::Storage;
+use crate::shared_bytes::SharedBytes;
 use crate::words::{count_set, first_word, whole_word};
 use std::alloc::Global;
 use std::marker::Model;
@@ -22,24 +22,24 @@ use std::marker::Model;
 /// Contract model: the list and the bit offset. (Arrow columnar format: validity bitmaps.)
 #[derive(Drop)]
 pub struct Bitmap {
-    bytes: Storage<u8>,
+    bytes: SharedBytes,
     offset: usize,
     len: usize,
 }
 
 impl Model for Bitmap {
     ghost use Rattle.std.specs.Prelude.{◌+◌, ◌*◌, ◌≤◌, ◌<◌, ◌^◌, length};
-    ghost use Rattle.sel_bits.specs.Storage.{storage_items};
+    ghost use Rattle.sel_bits.specs.Storage.{shared_bytes};
     ghost use Rattle.sel_bits.specs.Bits.{Bits, bits_from};
 
     ghost Value = { Bits };
 
     ghost view = { λ b. record {
-      bits = bits_from (storage_items b.bytes) b.offset b.len;
+      bits = bits_from (shared_bytes b.bytes) b.offset b.len;
       offset = b.offset;
     } };
 
-    ghost invariant = { λ b. (b.offset + b.len ≤ 8 * length (storage_items b.bytes)) ×
+    ghost invariant = { λ b. (b.offset + b.len ≤ 8 * length (shared_bytes b.bytes)) ×
         (b.offset + b.len < 2 ^ 64) };
 }
 
@@ -92,14 +92,14 @@ impl Bitmap {
         ensures len { IfOk result (λ bitmap. length bitmap.bits ≡ len) }
         ensures refusal { IfErr result IsOutOfMemory }
     {
-        let bytes = Storage::from_vec(bytes)?;
+        let bytes = SharedBytes::from_vec(bytes)?;
         Ok(Bitmap::of_bytes(bytes, len))
     }
 
     /// Returns a bitmap of the first `len` bits of shared bytes.
-    pub(crate) fn of_bytes(bytes: Storage<u8>, len: usize) -> Bitmap
-        requires { len ≤ 8 * length (storage_items bytes) }
-        ensures { result ≡ unsliced (bits_from (storage_items bytes) 0 len) }
+    pub(crate) fn of_bytes(bytes: SharedBytes, len: usize) -> Bitmap
+        requires { len ≤ 8 * length (shared_bytes bytes) }
+        ensures { result ≡ unsliced (bits_from (shared_bytes bytes) 0 len) }
     {
         Bitmap {
             bytes,
@@ -128,7 +128,7 @@ impl Bitmap {
         ensures len { IfOk result (λ bitmap. length bitmap.bits ≡ len) }
         ensures refusal { IfErr result (λ lent. lent.items ≡ bytes.items) }
     {
-        let bytes = Storage::from_lent(alloc, bytes)?;
+        let bytes = SharedBytes::from_lent(alloc, bytes)?;
         Ok(Bitmap {
             bytes,
             offset: first,
@@ -471,7 +471,7 @@ impl Bitmap {
         ensures refusal { IfErr result IsOutOfMemory }
     {
         let count = (self.offset % 8 + self.len).div_ceil(8);
-        let bytes = self.bytes.try_clone()?;
+        let bytes = self.bytes.to_storage()?;
         Ok(Buffer::of_part(bytes, self.offset / 8, count))
     }
 

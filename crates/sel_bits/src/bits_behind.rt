@@ -1,7 +1,7 @@
 //! Offsets, and a bitmap that is built behind them in the same block of memory.
 #![tactic(auto, using(crate::proofs::BitLists::length_bits_from))]
 
-ghost use Rattle.std.specs.Prelude.{◌≡◌, ◌^◌, ◌<◌, ◌≤◌, ◌++◌, [], length, IfOk, IfErr, OnOk};
+ghost use Rattle.std.specs.Prelude.{◌≡◌, ◌^◌, ◌<◌, ◌≤◌, ◌++◌, [], length, IfOk, IfErr, IfSome, IfNone, OnOk};
 ghost use Rattle.sel_bits.specs.Bits.{unsliced};
 ghost use Rattle.sel_bits.specs.Faults.{IsOutOfMemory};
 ghost use Rattle.sel_bits.specs.Words.{bits};
@@ -10,6 +10,7 @@ use crate::bit_sink::BitSink;
 use crate::bitmap::Bitmap;
 use crate::buffer::Buffer;
 use crate::faults::PolarsResult;
+use crate::shared_bytes::SharedBytes;
 use crate::storage::Storage;
 use crate::two_lists::TwoLists;
 use std::alloc::Global;
@@ -64,6 +65,18 @@ impl BitsBehind {
         }
     }
 
+    /// Returns the number of bits so far, or `None` if it does not fit in `usize`.
+    #[tactic(auto, using(crate::proofs::Packs::length_packed))]
+    pub fn len(&self) -> Option<usize>
+        ensures some { IfSome result (λ len. len ≡ length self.now.bits) }
+        ensures none { IfNone result (2 ^ 64 ≤ length self.now.bits) }
+    {
+        let Some(whole) = self.lists.back.len().checked_mul(8) else {
+            return None;
+        };
+        whole.checked_add(self.held as usize)
+    }
+
     /// Appends the `count` lowest bits of `word`.
     ///
     /// # Requires
@@ -98,7 +111,7 @@ impl BitsBehind {
     /// Returns the offsets and the bitmap, which share one block of memory.
     ///
     /// # Requires
-    /// `len` is the number of bits.
+    /// `len` is the number of bits; check with [`BitsBehind::len`].
     ///
     /// # Errors
     /// `OutOfMemory` if an allocation fails, or there is no capacity for the last bits.
@@ -117,7 +130,7 @@ impl BitsBehind {
         lists.push_word(pending)?;
         let count = lists.front.len();
         let lists = Arc::new(alloc, lists)?;
-        let bytes = Storage::Back(lists.clone()?);
+        let bytes = SharedBytes::Behind(lists.clone()?);
         let offsets = Buffer::of_part(Storage::Front(lists), 0, count);
         Ok((offsets, Bitmap::of_bytes(bytes, len)))
     }

@@ -17,6 +17,7 @@ pub mod number;
 pub mod offsets;
 pub mod operations;
 pub mod packer;
+pub mod shared_bytes;
 pub mod storage;
 pub mod two_lists;
 pub mod words;

@@ -43,8 +43,9 @@ unsafe impl<F, B> Sync for Carved<F, B> {}
 
 /// Values, and other values behind them in the same block of memory.
 pub struct TwoLists<F, B> {
-    pub(crate) front: Vec<F, Lodged>,
+    // (the first field, which lies where a shared vector of its own would)
     pub(crate) back: Vec<B, Lodged>,
+    pub(crate) front: Vec<F, Lodged>,
     carved: Carved<F, B>,
     ghost front_place: { (vec_ptr front ≡ carved.at) × (vec_len front ≡ carved.len) ×
         (vec_capacity front ≡ carved.len) },
@@ -69,8 +70,8 @@ impl TwoLists<i64, u8> {
         let at = list.as_ptr().cast_mut();
         let (front, back, carved) = carve(list, at, len, 8 * spare);
         Ok(TwoLists {
-            front: front.into_vec(),
             back: back.into_vec(),
+            front: front.into_vec(),
             carved,
         })
     }
@@ -98,8 +99,8 @@ impl TwoLists<i64, u8> {
 impl<F: Drop, B: Drop> Drop for TwoLists<F, B> {
     fn drop(self) {
         let TwoLists {
-            front,
             back,
+            front,
             carved,
         } = self;
         drop(rejoin(Lent::of_vec(front), Lent::of_vec(back), carved));

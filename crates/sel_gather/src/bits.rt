@@ -6,6 +6,7 @@ ghost use Rattle.sel_bits.specs.Faults.{IsOutOfMemory};
 ghost use Rattle.sel_arrow.specs.Masked.{Covers};
 ghost use Rattle.sel_gather.specs.Validity.{part_bits, bits_for};
 
+use sel_bits::bit_sink::{BitSink, append_bitmap, append_copies};
 use sel_bits::bitmap::Bitmap;
 use sel_bits::faults::PolarsResult;
 use sel_bits::packer::BitPacker;
@@ -17,20 +18,21 @@ use sel_bits::packer::BitPacker;
 ///
 /// # Errors
 /// `OutOfMemory` if an allocation fails.
-pub fn push_validity(
-    packer: &mut BitPacker,
+pub fn push_validity<S: BitSink>(
+    sink: &mut S,
     validity: Option<&Bitmap>,
     start: usize,
     len: usize,
 ) -> PolarsResult<()>
     requires { ForSome (option_copied validity) (λ v. start + len ≤ length v.bits) }
-    ensures bits { OnOk result (packer.new ≡
-        packer.old ++ part_bits start len (option_copied validity.entry)) }
+    ensures bits { OnOk result (S.so_far sink.new ≡
+        S.so_far sink.old ++ part_bits start len (option_copied validity.entry)) }
+    ensures beside { S.beside sink.new ≡ S.beside sink.old }
     ensures refusal { IfErr result IsOutOfMemory }
 {
     match validity {
-        None => packer.extend_constant(len, true),
-        Some(bits) => packer.extend_from_bitmap(bits, start, len),
+        None => append_copies(sink, len, true),
+        Some(bits) => append_bitmap(sink, bits, start, len),
     }
 }
 
@@ -50,8 +52,18 @@ pub fn validity_from(packer: BitPacker, len: usize) -> PolarsResult<Option<Bitma
     ensures refusal { IfErr result IsOutOfMemory }
 {
     let bits = packer.into_bitmap(len)?;
+    Ok(unless_all_true(bits, len))
+}
+
+/// Returns these bits as the validity of `len` rows: `None` if all are true, which the contract
+/// leaves open.
+pub(crate) fn unless_all_true(bits: Bitmap, len: usize) -> Option<Bitmap>
+    requires { length bits.bits ≡ len }
+    ensures bits { bits_for len result ≡ bits.bits }
+    ensures covers { Covers result len }
+{
     if bits.unset_bits() == 0 {
-        return Ok(None);
+        return None;
     }
-    Ok(Some(bits))
+    Some(bits)
 }

@@ -13,6 +13,7 @@ use crate::part::Part;
 use crate::repeat::push_values;
 use crate::row_refs::Plan;
 use crate::runs::Run;
+use sel_bits::bit_sink::{BitSink, append_copies};
 use sel_bits::bitmap::Bitmap;
 use sel_bits::faults::PolarsResult;
 use sel_bits::packer::BitPacker;
@@ -60,31 +61,49 @@ pub(crate) fn copy_bits<P: Plan>(
         bits_found (map option_copied maps.now) (P.picks plan.now)) }
     ensures refusal { IfErr result IsOutOfMemory }
 {
+    let mut bits = BitPacker::with_capacity(alloc, plan.len())?;
+    append_runs(&mut bits, plan, maps)?;
+    Ok(bits)
+}
+
+/// Appends the bits at the row references of a plan, copied by its runs: true if the source has no
+/// bitmap, false for null references. Errors: `OutOfMemory`.
+pub(crate) fn append_runs<P: Plan, S: BitSink>(
+    sink: &mut S,
+    plan: &P,
+    maps: &[Option<&Bitmap>],
+) -> PolarsResult<()>
+    requires { All (HasBit (map option_copied maps.now)) (P.picks plan.now) }
+    ensures bits { OnOk result (S.so_far sink.new ≡ S.so_far sink.old ++
+        bits_found (map option_copied maps.now) (P.picks plan.now)) }
+    ensures beside { S.beside sink.new ≡ S.beside sink.old }
+    ensures refusal { IfErr result IsOutOfMemory }
+{
     let len = plan.len();
-    let mut bits = BitPacker::with_capacity(alloc, len)?;
     let mut rest = plan.again();
     let mut at = 0;
     while at < len {
         let run = rest.next_run();
-        push_bits(&mut bits, maps, run)?;
+        push_bits(sink, maps, run)?;
         at += run.len as usize;
     }
-    Ok(bits)
+    Ok(())
 }
 
 // Appends the bits of a run: true if the source has no bitmap, false if there is no source. Errors:
 // `OutOfMemory`.
-fn push_bits(bits: &mut BitPacker, maps: &[Option<&Bitmap>], run: Run) -> PolarsResult<()>
+fn push_bits<S: BitSink>(sink: &mut S, maps: &[Option<&Bitmap>], run: Run) -> PolarsResult<()>
     requires fits { All (HasBit (map option_copied maps.now)) (unrolled run) }
     requires some { 0 < run.len }
-    ensures bits { OnOk result (bits.new ≡
-        bits.old ++ bits_found (map option_copied maps.now) (unrolled run)) }
+    ensures bits { OnOk result (S.so_far sink.new ≡
+        S.so_far sink.old ++ bits_found (map option_copied maps.now) (unrolled run)) }
+    ensures beside { S.beside sink.new ≡ S.beside sink.old }
     ensures refusal { IfErr result IsOutOfMemory }
 {
     let (start, len) = (run.start as usize, run.len as usize);
     match run.source {
-        None => bits.extend_constant(len, false),
-        Some(source) => push_validity(bits, maps[source as usize], start, len),
+        None => append_copies(sink, len, false),
+        Some(source) => push_validity(sink, maps[source as usize], start, len),
     }
 }
 

@@ -23,6 +23,7 @@ use crate::row_refs::Plan;
 use crate::run_refs::RunRefs;
 use crate::runs::NO_ROWS;
 use crate::spans::{SpanRuns, list_spans};
+use crate::validity::room_for_validity;
 use sel_arrow::column::Column;
 use sel_arrow::match_numbers;
 use sel_bits::faults::{Limit, PolarsError, PolarsResult};
@@ -188,7 +189,7 @@ fn list_ends<P: Plan>(
         (length (joined_items 0 (pick Null (rows_of sources.now) (P.picks plan.now)))))) }
 {
     let len = plan.len();
-    let mut ends = Vec::with_capacity(alloc, len + 1)?;
+    let mut ends = Vec::with_capacity(alloc, len + 1 + room_for_validity(sources, plan))?;
     ends.push(0)?;
     let mut rest = plan.again();
     let mut end: u32 = 0;

@@ -10,9 +10,10 @@ ghost use Rattle.sel_gather.specs.Plans.{HasBit, bit_found, bits_found};
 ghost use Rattle.sel_gather.specs.Validity.{bits_for};
 
 use crate::bits::validity_from;
-use crate::copy_values::{copy_bits, copy_plan};
+use crate::copy_values::{append_runs, copy_bits, copy_plan};
 use crate::part::Part;
 use crate::row_refs::Plan;
+use sel_bits::bit_sink::BitSink;
 use sel_bits::bitmap::Bitmap;
 use sel_bits::faults::PolarsResult;
 use sel_bits::packer::{BitPacker, MOST_BITS};
@@ -310,19 +311,35 @@ pub fn gather_bits<P: Plan>(
         bits_found (map option_copied maps.now) (P.picks plan.now)) }
     ensures refusal { IfErr result IsOutOfMemory }
 {
+    let mut bits = BitPacker::with_capacity(alloc, plan.len())?;
+    append_bits(&mut bits, plan, maps)?;
+    Ok(bits)
+}
+
+/// Appends the bit at each row reference, as [`gather_bits`] returns them. Errors: `OutOfMemory`.
+pub(crate) fn append_bits<P: Plan, S: BitSink>(
+    sink: &mut S,
+    plan: &P,
+    maps: &[Option<&Bitmap>],
+) -> PolarsResult<()>
+    requires { All (HasBit (map option_copied maps.now)) (P.picks plan.now) }
+    ensures bits { OnOk result (S.so_far sink.new ≡ S.so_far sink.old ++
+        bits_found (map option_copied maps.now) (P.picks plan.now)) }
+    ensures beside { S.beside sink.new ≡ S.beside sink.old }
+    ensures refusal { IfErr result IsOutOfMemory }
+{
     if plan.is_wide() {
-        return copy_bits(alloc, plan, maps);
+        return append_runs(sink, plan, maps);
     }
     let len = plan.len();
-    let mut bits = BitPacker::with_capacity(alloc, len)?;
     let mut rest = plan.again();
     let mut at = 0;
     while at < len {
         let count = (len - at).min(MOST_BITS);
-        bits.append(word_of_picks(&mut rest, maps, count), count as u32)?;
+        sink.append_word(word_of_picks(&mut rest, maps, count), count as u32)?;
         at += count;
     }
-    Ok(bits)
+    Ok(())
 }
 
 /// Returns whether every non-null row reference refers to an entry of `maps`, and to a bit of that

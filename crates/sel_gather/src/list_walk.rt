@@ -19,6 +19,7 @@ ghost use Rattle.sel_gather.specs.RunRows.{run_rows};
 use crate::lists::run_of_row;
 use crate::row_refs::Plan;
 use crate::runs::{Run, nulls_of, push_run, put_run};
+use crate::validity::room_for_validity;
 use sel_arrow::column::Column;
 use sel_bits::faults::{Limit, PolarsError, PolarsResult};
 use sel_bits::offsets::OffsetsBuffer;
@@ -49,7 +50,7 @@ pub fn walk_lists<P: Plan>(
         (length (joined_items 0 (pick Null (rows_of sources.now) (P.picks plan.now)))))) }
 {
     let len = plan.len();
-    let mut ends = Vec::with_capacity(alloc, len + 1)?;
+    let mut ends = Vec::with_capacity(alloc, len + 1 + room_for_validity(sources, plan))?;
     ends.push(0)?;
     let mut below = Vec::with_capacity(alloc, plan.run_count())?;
     let mut rest = plan.again();

@@ -1,23 +1,29 @@
 //! Nested columns over children that are already collected.
 
-ghost use Rattle.std.specs.Prelude.{◌≡◌, ◌≤◌, ◌∷◌, All, pos, length, map, IfOk, IfErr};
+ghost use Rattle.std.specs.Prelude.{◌≡◌, ◌≢◌, ◌≤◌, ◌∷◌, [], All, pos, length, map, IfOk, IfErr};
 ghost use Rattle.sel_bits.specs.Faults.{IsOutOfMemory};
 ghost use Rattle.sel_bits.specs.Limits.{max_rows};
+ghost use Rattle.sel_bits.specs.Offsets.{IsOffsets};
+ghost use Rattle.sel_arrow.specs.Masked.{Covers};
 ghost use Rattle.sel_arrow.specs.Rows.{rows, type_of, IsField, IsWellFormed};
-ghost use Rattle.sel_arrow.specs.Shape.{of_large_list, of_fixed_size_list, of_struct, shapes_of};
+ghost use Rattle.sel_arrow.specs.Shape.{of_large_list, of_fixed_size_list, of_null, of_struct, shapes_of};
 ghost use Rattle.sel_gather.specs.Children.{joined_items};
 ghost use Rattle.sel_gather.specs.Steps.{parts_of};
 ghost use Rattle.sel_gather.specs.Ends.{item_ends};
 ghost use Rattle.sel_gather.specs.Runs.{expand};
-ghost use Rattle.sel_arrow.specs.Value.{Null};
+ghost use Rattle.sel_arrow.specs.Value.{Null, validities};
 ghost use Rattle.sel_gather.specs.Gathers.{MayGather};
 ghost use Rattle.sel_gather.specs.Picks.{pick, PickFits};
 ghost use Rattle.sel_gather.specs.Sources.{picked, rows_of};
+ghost use Rattle.sel_gather.specs.Validity.{bits_for};
 
+use crate::bits::unless_all_true;
 use crate::row_refs::Plan;
 use crate::runs::Run;
-use crate::validity::{collect_validity, gather_validity};
+use crate::validity::{append_validity, collect_validity, gather_validity, room_for_validity};
 use sel_arrow::column::Column;
+use sel_bits::bitmap::Bitmap;
+use sel_bits::bits_behind::BitsBehind;
 use sel_bits::faults::PolarsResult;
 use sel_bits::offsets::OffsetsBuffer;
 use std::alloc::Global;
@@ -56,13 +62,69 @@ pub fn lists_over<P: Plan>(
     // (there are no more row references than a column may have rows)
     let _len = plan.len();
     let values = Box::new(alloc, values)?;
-    let offsets = OffsetsBuffer::of_rising(ends)?;
-    let validity = gather_validity(alloc, sources, plan)?;
+    let (offsets, validity) = offsets_and_validity(alloc, ends, sources, plan)?;
     Ok(Column::LargeList {
         offsets,
         values,
         validity,
     })
+}
+
+// Returns the offsets `ends`, and the validity of the rows at the row references of a plan: none if
+// all rows are valid. If some may be null, both are in one block of memory. Errors: `OutOfMemory`.
+fn offsets_and_validity<P: Plan>(
+    alloc: Global,
+    mut ends: Vec<i64>,
+    sources: &[&Column],
+    plan: &P,
+) -> PolarsResult<(OffsetsBuffer<i64>, Option<Bitmap>)>
+    requires known { All (λ c. type_of c.now ≢ of_null) sources.now }
+    requires formed { All (λ c. IsWellFormed c.now) sources.now }
+    requires fits { All (PickFits (rows_of sources.now)) (P.picks plan.now) }
+    requires rising { IsOffsets (λ n. n) ends.items }
+    ensures offsets { IfOk result (λ both. map (λ n. n) ends.items ≡ map pos both.0) }
+    ensures bits { IfOk result (λ both. bits_for (length (P.picks plan.now)) both.1 ≡
+        validities (pick Null (rows_of sources.now) (P.picks plan.now))) }
+    ensures covers { IfOk result (λ both. Covers both.1 (length (P.picks plan.now))) }
+    ensures refusal { IfErr result IsOutOfMemory }
+{
+    let room = room_for_validity(sources, plan);
+    if room > 0 {
+        ends.reserve_exact(room)?;
+        match BitsBehind::new(ends) {
+            Ok(behind) => return validity_behind(alloc, behind, sources, plan),
+            Err(same) => ends = same,
+        }
+    }
+    let offsets = OffsetsBuffer::of_rising(ends)?;
+    let validity = gather_validity(alloc, sources, plan)?;
+    Ok((offsets, validity))
+}
+
+// Returns the offsets, and the validity of the rows at the row references of a plan behind them.
+// Errors: `OutOfMemory`.
+fn validity_behind<P: Plan>(
+    alloc: Global,
+    mut behind: BitsBehind,
+    sources: &[&Column],
+    plan: &P,
+) -> PolarsResult<(OffsetsBuffer<i64>, Option<Bitmap>)>
+    requires known { All (λ c. type_of c.now ≢ of_null) sources.now }
+    requires formed { All (λ c. IsWellFormed c.now) sources.now }
+    requires fits { All (PickFits (rows_of sources.now)) (P.picks plan.now) }
+    requires rising { IsOffsets (λ n. n) behind.offsets }
+    requires empty { behind.bits ≡ [] }
+    ensures offsets { IfOk result (λ both. map (λ n. n) behind.offsets ≡ map pos both.0) }
+    ensures bits { IfOk result (λ both. bits_for (length (P.picks plan.now)) both.1 ≡
+        validities (pick Null (rows_of sources.now) (P.picks plan.now))) }
+    ensures covers { IfOk result (λ both. Covers both.1 (length (P.picks plan.now))) }
+    ensures refusal { IfErr result IsOutOfMemory }
+{
+    let len = plan.len();
+    append_validity(alloc, &mut behind, sources, plan)?;
+    let (offsets, bits) = behind.finish(alloc, len)?;
+    let offsets = OffsetsBuffer::of_rising_buffer(offsets);
+    Ok((offsets, unless_all_true(bits, len)))
 }
 
 /// Returns the fixed-size lists at the row references of a plan, over their concatenated items

@@ -16,6 +16,7 @@ use crate::lists::span_of_list;
 use crate::row_refs::Plan;
 use crate::run_refs::Runs;
 use crate::runs::{NO_ROWS, Run};
+use crate::validity::room_for_validity;
 use sel_arrow::column::Column;
 use sel_bits::faults::{Limit, PolarsError, PolarsResult};
 use sel_bits::native::Offset;
@@ -46,7 +47,7 @@ pub(crate) fn list_spans<P: Plan>(
         (length (joined_items 0 (pick Null (rows_of sources.now) (P.picks plan.now)))))) }
 {
     let len = plan.len();
-    let mut ends = Vec::with_capacity(alloc, len + 1)?;
+    let mut ends = Vec::with_capacity(alloc, len + 1 + room_for_validity(sources, plan))?;
     let mut starts = Vec::with_capacity(alloc, len)?;
     ends.push_reserved(0);
     let mut rest = plan.again();

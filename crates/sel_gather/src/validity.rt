@@ -1,8 +1,9 @@
 //! Validity of gathered rows.
 
-ghost use Rattle.std.specs.Prelude.{◌≡◌, ◌≢◌, None, All, false, length, map, IfOk, IfErr};
+ghost use Rattle.std.specs.Prelude.{◌≡◌, ◌≢◌, ◌≤◌, ◌++◌, None, All, false, length, map, IfOk, IfErr, OnOk};
 ghost use Rattle.std.specs.Option.{option_copied};
 ghost use Rattle.sel_bits.specs.Faults.{IsOutOfMemory};
+ghost use Rattle.sel_bits.specs.Limits.{max_rows};
 ghost use Rattle.sel_arrow.specs.Masked.{Covers};
 ghost use Rattle.sel_arrow.specs.Nulls.{IsValidityOf};
 ghost use Rattle.sel_arrow.specs.Rows.{rows, type_of, IsWellFormed};
@@ -16,11 +17,12 @@ ghost use Rattle.sel_gather.specs.Validity.{bits_for};
 ghost use Rattle.sel_gather.specs.Sources.{columns_of, picked, rows_of};
 
 use crate::each::read_each;
-use crate::gather_values::validity_at;
+use crate::gather_values::{append_bits, validity_at};
 use crate::row_refs::Plan;
 use crate::run_refs::{ListedRuns, RunRefs};
 use crate::runs::{NO_ROWS, Run};
 use sel_arrow::column::Column;
+use sel_bits::bit_sink::BitSink;
 use sel_bits::bitmap::Bitmap;
 use sel_bits::faults::PolarsResult;
 use std::alloc::Global;
@@ -86,6 +88,49 @@ pub fn gather_validity<P: Plan>(
     }
     let maps = validities_of(alloc, sources)?;
     validity_at(alloc, plan, &maps)
+}
+
+/// Appends the validity of the rows at the row references of a plan.
+///
+/// # Requires
+/// As [`gather_validity`].
+///
+/// # Errors
+/// `OutOfMemory` if an allocation fails.
+pub(crate) fn append_validity<P: Plan, S: BitSink>(
+    alloc: Global,
+    sink: &mut S,
+    sources: &[&Column],
+    plan: &P,
+) -> PolarsResult<()>
+    requires known { All (λ c. type_of c.now ≢ of_null) sources.now }
+    requires formed { All (λ c. IsWellFormed c.now) sources.now }
+    requires fits { All (PickFits (rows_of sources.now)) (P.picks plan.now) }
+    ensures bits { OnOk result (S.so_far sink.new ≡ S.so_far sink.old ++
+        validities (pick Null (rows_of sources.now) (P.picks plan.now))) }
+    ensures beside { S.beside sink.new ≡ S.beside sink.old }
+    ensures refusal { IfErr result IsOutOfMemory }
+{
+    if let [only] = sources {
+        return append_bits(sink, plan, &[only.validity()]);
+    }
+    if let [one, other] = sources {
+        return append_bits(sink, plan, &[one.validity(), other.validity()]);
+    }
+    let maps = validities_of(alloc, sources)?;
+    append_bits(sink, plan, &maps)
+}
+
+/// Returns the number of offsets in whose place the validity of the rows at the row references of a
+/// plan fits; 0 if no row can be null.
+pub(crate) fn room_for_validity<P: Plan>(sources: &[&Column], plan: &P) -> usize
+    requires { All (λ c. IsWellFormed c.now) sources.now }
+    ensures { result ≤ max_rows }
+{
+    if !plan.has_nulls() && !has_validity(sources) {
+        return 0;
+    }
+    plan.len() / 64 + 1
 }
 
 /// Returns whether some source has a validity.

@@ -9,6 +9,8 @@ use sel_bits::lent::Lent;
 use sel_bits::native::{Index, NativeType, Offset};
 use sel_bits::number::{load_padded_le_u64, negative_to_usize, prefix_xorsum};
 use sel_bits::offsets::OffsetsBuffer;
+use sel_bits::bit_sink::{BitSink, append_bitmap, append_copies};
+use sel_bits::bits_behind::BitsBehind;
 use sel_bits::packer::BitPacker;
 use sel_bits::words::{first_word, whole_word};
 use std::alloc::Global;
@@ -148,6 +150,107 @@ fn packer_appends_bits_and_slices(rt: HostRuntime) -> Result<(), Fail> {
     let source = Bitmap::from_u8_vec([0xB4u8; 17].to_vec(rt.alloc())?, 136)?.sliced(6, 130);
     let packed = packed(rt.alloc(), &source)?;
     assert!(rt; is_extended(&packed, &source));
+    Ok(())
+}
+
+/// Returns these offsets in a vector with spare capacity for `spare` more.
+fn roomy(alloc: Global, offsets: &[i64], spare: usize) -> PolarsResult<Vec<i64>> {
+    let mut values = offsets.to_vec(alloc)?;
+    values.reserve_exact(spare)?;
+    Ok(values)
+}
+
+/// Appends three bits, a slice of the source, and two runs of equal bits.
+fn append_all<S: BitSink>(sink: &mut S, source: &Bitmap) -> PolarsResult<()> {
+    sink.append_word(0b101, 3)?;
+    if source.len() == 130 {
+        append_bitmap(sink, source, 5, 120)?;
+    }
+    append_copies(sink, 70, true)?;
+    append_copies(sink, 2, false)
+}
+
+/// Returns these bits behind offsets, or an error if there are not 195.
+fn behind(
+    alloc: Global,
+    offsets: Vec<i64>,
+    source: &Bitmap,
+) -> PolarsResult<(Buffer<i64>, Bitmap)> {
+    match BitsBehind::new(offsets) {
+        Ok(mut bits) => {
+            append_all(&mut bits, source)?;
+            if bits.len() != Some(195) {
+                return Err(PolarsError::ComputeError);
+            }
+            bits.finish(alloc, 195)
+        }
+        Err(_) => Err(PolarsError::ComputeError),
+    }
+}
+
+#[test]
+fn offsets_and_bits_share_a_block(rt: HostRuntime) -> Result<(), Fail> {
+    let alloc = rt.alloc();
+    let source = Bitmap::from_u8_vec([0xB4u8; 17].to_vec(alloc)?, 136)?.sliced(6, 130);
+    let (offsets, bits) = behind(alloc, roomy(alloc, &[0, 2, 2, 9], 4)?, &source)?;
+    assert!(rt; same(offsets.as_slice(), &[0, 2, 2, 9]) && is_extended(&bits, &source));
+    drop(offsets);
+    let copy = bits.try_clone()?;
+    drop(bits);
+    assert!(rt; is_extended(&copy, &source));
+    drop(copy);
+    let (offsets, bits) = behind(alloc, roomy(alloc, &[3, 3], 5)?, &source)?;
+    drop(bits);
+    assert!(rt; same(offsets.as_slice(), &[3, 3]));
+    Ok(())
+}
+
+/// Returns whether a packer has the bits that are appended to it as a sink.
+fn packs_as_sink(alloc: Global, source: &Bitmap) -> PolarsResult<bool> {
+    let mut packer = BitPacker::with_capacity(alloc, 0)?;
+    append_all(&mut packer, source)?;
+    if packer.len() != Some(195) {
+        return Ok(false);
+    }
+    Ok(is_extended(&packer.into_bitmap(195)?, source))
+}
+
+#[test]
+fn packer_is_a_sink(rt: HostRuntime) -> Result<(), Fail> {
+    let source = Bitmap::from_u8_vec([0xB4u8; 17].to_vec(rt.alloc())?, 136)?.sliced(6, 130);
+    assert!(rt; packs_as_sink(rt.alloc(), &source)?);
+    Ok(())
+}
+
+/// Returns whether offsets cannot have bits behind them, and come back.
+fn come_back(offsets: Vec<i64>, expected: &[i64]) -> bool {
+    match BitsBehind::new(offsets) {
+        Ok(_) => false,
+        Err(same_offsets) => same(same_offsets.as_slice(), expected),
+    }
+}
+
+/// Returns whether 64 bits fit behind an offset, and no more.
+fn fills_the_capacity(offsets: Vec<i64>) -> bool {
+    match BitsBehind::new(offsets) {
+        Ok(mut bits) => {
+            let first = bits.append(u64::MAX, 64);
+            let second = bits.append(1, 64);
+            first.is_ok() && second == Err(PolarsError::OutOfMemory) && bits.len() == Some(64)
+        }
+        Err(_) => false,
+    }
+}
+
+#[test]
+fn bits_behind_offsets_need_spare_capacity(rt: HostRuntime) -> Result<(), Fail> {
+    let alloc = rt.alloc();
+    let mut full = Vec::with_capacity(alloc, 2)?;
+    full.push(0i64)?;
+    full.push(7)?;
+    assert!(rt; come_back(full, &[0, 7]));
+    assert!(rt; come_back(roomy(alloc, &[], 4)?, &[]));
+    assert!(rt; fills_the_capacity(roomy(alloc, &[0], 1)?));
     Ok(())
 }
 
