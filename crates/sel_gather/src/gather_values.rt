@@ -1,6 +1,6 @@
 //! Gathers values and bits from several sources, one row reference at a time.
 
-ghost use Rattle.std.specs.Prelude.{◌≡◌, ◌≤◌, ◌<◌, ◌+◌, ◌∷◌, ◌++◌, [], ◌↔◌, All, None, false, length, slice_index_or, map, take, drop, vec_len, vec_capacity, IfOk, IfErr, IsTrue};
+ghost use Rattle.std.specs.Prelude.{◌≡◌, ◌≤◌, ◌<◌, ◌+◌, ◌∷◌, ◌++◌, [], ◌↔◌, All, None, false, length, slice_index_or, map, take, drop, vec_len, vec_capacity, IfOk, IfErr, OnOk, IsTrue};
 ghost use Rattle.std.specs.Option.{ForSome, option_copied};
 ghost use Rattle.sel_bits.specs.Faults.{IsOutOfMemory};
 ghost use Rattle.sel_bits.specs.Words.{word_of};

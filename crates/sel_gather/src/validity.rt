@@ -127,10 +127,10 @@ pub(crate) fn room_for_validity<P: Plan>(sources: &[&Column], plan: &P) -> usize
     requires { All (λ c. IsWellFormed c.now) sources.now }
     ensures { result ≤ max_rows }
 {
-    if !plan.has_nulls() && !has_validity(sources) {
-        return 0;
+    if plan.has_nulls() || has_validity(sources) {
+        return plan.len() / 64 + 1;
     }
-    plan.len() / 64 + 1
+    0
 }
 
 /// Returns whether some source has a validity.

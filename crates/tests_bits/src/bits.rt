@@ -1,16 +1,16 @@
 //! Each public function once, against values that are worked out by hand or bit by bit.
 
 use crate::column_fixtures::offsets;
-use crate::fixtures::{begins_with, has_bits};
+use crate::fixtures::{begins_with, has_bits, same};
+use sel_bits::bit_sink::{BitSink, append_bitmap, append_copies};
 use sel_bits::bitmap::Bitmap;
+use sel_bits::bits_behind::BitsBehind;
 use sel_bits::buffer::Buffer;
 use sel_bits::faults::{Limit, MakeError, Malformed, PolarsError, PolarsResult};
 use sel_bits::lent::Lent;
 use sel_bits::native::{Index, NativeType, Offset};
 use sel_bits::number::{load_padded_le_u64, negative_to_usize, prefix_xorsum};
 use sel_bits::offsets::OffsetsBuffer;
-use sel_bits::bit_sink::{BitSink, append_bitmap, append_copies};
-use sel_bits::bits_behind::BitsBehind;
 use sel_bits::packer::BitPacker;
 use sel_bits::words::{first_word, whole_word};
 use std::alloc::Global;

@@ -23,7 +23,7 @@ loop-at-preserved g c =
       rest = run_behind ps left _ run c.loop-at.at c.loop-at.invariant.rest c.next_run-run.ensures.picks;
       within = omega (arith, inside, c.len-len.ensures.len);
       bits = c.in_ok-push_bits.ensures.bits ∙ ap (λ l. l ++ bits_found vs (unrolled run)) c.loop-at.invariant.bits ∙ append_assoc before done (bits_found vs (unrolled run))
-      ∙ ap (λ l. before ++ l) (sym (ap (bits_found vs) taken ∙ map-append (bit_found vs) (take c.loop-at.at ps) (unrolled run)));
+          ∙ ap (λ l. before ++ l) (sym (ap (bits_found vs) taken ∙ map-append (bit_found vs) (take c.loop-at.at ps) (unrolled run)));
       beside = c.in_ok-push_bits.ensures.beside ∙ c.loop-at.invariant.beside;
     }
 

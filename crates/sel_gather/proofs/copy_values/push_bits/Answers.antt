@@ -17,7 +17,7 @@ push_validity-requires g c =
     subst (λ v. ForSome v (λ b. run.start + run.len ≤ length b.bits)) map_at there.1
 
 pub returns-in-None-clause-bits : goal.returns-in-None-clause-bits
-returns-in-None-clause-bits c = on_ok_weaker c.append_copies.result (λ e. e ∙ ap (λ l. g.S.BitSink.so_far c.args.sink.now ++ l) (null_found (map option_copied c.args.maps.now) c.args.run c.in-None.is)) c.append_copies.ensures.appended
+returns-in-None-clause-bits g c = on_ok_weaker c.append_copies.result (λ e. e ∙ ap (λ l. g.S.BitSink.so_far c.args.sink.now ++ l) (null_found (map option_copied c.args.maps.now) c.args.run c.in-None.is)) c.append_copies.ensures.appended
 
 pub returns-in-Some-clause-bits : goal.returns-in-Some-clause-bits
 returns-in-Some-clause-bits g c =

@@ -30,7 +30,7 @@ loop-at-preserved g c =
     let inside : c.loop-at.at + c.min-count.result ≤ length ps = omega (arith, c.len-len.ensures.len, c.min-count.ensures, c.loop-at-test.true) in
     record {
       bits = c.in_ok-append_word.ensures.appended ∙ ap (λ l. l ++ more) c.loop-at.invariant.bits ∙ append_assoc before done more
-      ∙ ap (λ l. before ++ l) (words_more vs ps (g.P.Plan.picks c.loop-at.rest) done (done ++ more) c.loop-at.at c.min-count.result c.word_of_picks.result c.loop-at.invariant.rest inside c.word_of_picks.ensures.word refl refl);
+          ∙ ap (λ l. before ++ l) (words_more vs ps (g.P.Plan.picks c.loop-at.rest) done (done ++ more) c.loop-at.at c.min-count.result c.word_of_picks.result c.loop-at.invariant.rest inside c.word_of_picks.ensures.word refl refl);
       beside = c.in_ok-append_word.ensures.beside ∙ c.loop-at.invariant.beside;
       rest = left_behind ps (g.P.Plan.picks c.loop-at.rest) _ c.loop-at.at c.min-count.result c.loop-at.invariant.rest c.word_of_picks.ensures.rest;
       within = omega (arith, c.min-count.ensures, c.loop-at-test.true);
