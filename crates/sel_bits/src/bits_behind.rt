@@ -101,7 +101,7 @@ impl BitsBehind {
             self.held = held;
             return Ok(());
         }
-        self.lists.push_word(full)?;
+        self.lists.append_bytes(full)?;
         // (the bits that did not fit: none if none were pending; the two shifts avoid one by 64)
         self.pending = (word >> 1) >> (63 - self.held);
         self.held = held - 64;
@@ -127,7 +127,7 @@ impl BitsBehind {
             pending,
             held: _,
         } = self;
-        lists.push_word(pending)?;
+        lists.append_bytes(pending)?;
         let count = lists.front.len();
         let lists = Arc::new(alloc, lists)?;
         let bytes = SharedBytes::Behind(lists.clone()?);

@@ -81,7 +81,7 @@ impl TwoLists<i64, u8> {
     /// # Errors
     /// `OutOfMemory` if there is no capacity for them; the bytes are unchanged.
     #[inline]
-    pub fn push_word(&mut self, word: u64) -> PolarsResult<()>
+    pub fn append_bytes(&mut self, word: u64) -> PolarsResult<()>
         ensures appended { OnOk result
             (self.new.back.items ≡ self.old.back.items ++ bytes_low_first 0 8 word) }
         ensures unchanged { OnErr result (self.new.back.items ≡ self.old.back.items) }

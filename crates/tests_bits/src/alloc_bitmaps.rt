@@ -7,6 +7,7 @@ use crate::column_fixtures::offsets;
 use crate::fixtures::{has_bits, same};
 use crate::marks::{begins, begins_free, ends, ends_answered, ends_by};
 use sel_bits::bitmap::Bitmap;
+use sel_bits::bits_behind::BitsBehind;
 use sel_bits::buffer::Buffer;
 use sel_bits::faults::{MakeError, PolarsError, PolarsResult};
 use sel_bits::offsets::OffsetsBuffer;
@@ -300,4 +301,31 @@ fn packer_appends_bitmap_slice(rt: HostRuntime) -> Result<(), Fail> {
     ends_by(rt.alloc(), &answer);
     assert!(rt; are_bits(answer, &[true, false, false]) && has_bits(&source, &FIRST));
     Ok(())
+}
+
+/// Builds two bits behind an offset.
+fn builds_behind(alloc: Global) -> PolarsResult<Bitmap> {
+    let mut offsets = Vec::with_capacity(alloc, 2)?;
+    offsets.push(0i64)?;
+    match BitsBehind::new(offsets) {
+        Ok(mut bits) => {
+            bits.append(0b01, 2)?;
+            if bits.len() != Some(2) {
+                return Err(PolarsError::ComputeError);
+            }
+            let (offset, bitmap) = bits.finish(alloc, 2)?;
+            drop(offset);
+            Ok(bitmap)
+        }
+        Err(_) => Bitmap::new(alloc),
+    }
+}
+
+#[test]
+fn bits_behind_an_offset(rt: HostRuntime) {
+    let alloc = rt.alloc();
+    begins(alloc);
+    let answer = builds_behind(alloc);
+    ends_by(alloc, &answer);
+    assert!(rt; are_bits(answer, &[true, false]));
 }
