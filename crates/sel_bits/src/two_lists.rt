@@ -17,7 +17,7 @@ use std::ptr::NonNull;
 use std_alloc::vec::Lodged;
 
 /// A list whose memory is lent to two others: its values, and values behind them.
-pub struct Carved<F, B> {
+pub(crate) struct Carved<F, B> {
     list: Vec<F>,
     behind: PhantomData<B>,
 }
@@ -31,7 +31,7 @@ impl<F, B> Owns for Carved<F, B> {
 }
 
 impl<F, B> Move for Carved<F, B> {
-    ghost own_val = { λ p vs. fex Inside (λ v. fsep (feq ℕ v.list.len p.len)
+    ghost own_val = { λ p vs. fex Inside (λ v. fsep (feq ℕ (vec_len v.list) p.len)
         (fall (List F.row.Denot × (ℕ × List B.row.Denot)) (λ t. fwand
         (fsep (feq ℕ (length t.0) p.len) (both_owned F.row B.row p t.0 t.1.0 t.1.1))
         (Fields.own_val (record { list = with_items v.list t.0; behind = v.behind }) vs)))) };
@@ -57,7 +57,7 @@ impl TwoLists<i64, u8> {
     ///
     /// # Errors
     /// The list, if it is empty or has no spare capacity.
-    pub fn split(list: Vec<i64>) -> Result<TwoLists<i64, u8>, Vec<i64>>
+    pub(crate) fn split(list: Vec<i64>) -> Result<TwoLists<i64, u8>, Vec<i64>>
         ensures front { IfOk result (λ lists. lists.front.items ≡ list.items) }
         ensures back { IfOk result (λ lists. lists.back.items ≡ []) }
         ensures refusal { IfErr result (λ same. same ≡ list) }
@@ -81,7 +81,7 @@ impl TwoLists<i64, u8> {
     /// # Errors
     /// `OutOfMemory` if there is no capacity for them; the bytes are unchanged.
     #[inline]
-    pub fn append_bytes(&mut self, word: u64) -> PolarsResult<()>
+    pub(crate) fn append_bytes(&mut self, word: u64) -> PolarsResult<()>
         ensures appended { OnOk result
             (self.new.back.items ≡ self.old.back.items ++ bytes_low_first 0 8 word) }
         ensures unchanged { OnErr result (self.new.back.items ≡ self.old.back.items) }
