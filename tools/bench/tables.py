@@ -44,6 +44,9 @@ def of_memory() -> List[str]:
     """Returns the section on allocations."""
     text = ["## Memory", "", "Calls on 100,000 rows with half of them kept, or as many random indices; lists have four items. The allocations of a call include two for the handle "
             "of the result and its shared column. The last column is the most memory in use during the call, by that of the result.", "",
+            "In the result a level of lists takes three: the offsets with the validity behind them, the count of their owners, and the box of the child. A level of fixed-size lists takes the "
+            "box, one of structs the list of the fields, and either two more for a validity. A level of integers takes two for the values, and two more for a validity; one of binary has two for each of its "
+            "buffers. What else a call allocates, such as a list of runs, is freed before it returns.", "",
             "| call | type | levels | allocations | bytes of the result | most by the result |", "|---|---|---|---|---|---|"]
     for call, name, levels, made, size, most in lines_of("memory.c", *WRAPPED):
         text.append(f"| {call} | `{name}` | {levels} | {made} | {int(size):,} | {int(most) / max(int(size), 1):.2f} |")

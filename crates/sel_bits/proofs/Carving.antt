@@ -6,7 +6,7 @@ use seplogic.Ra.Ura.{Ura}
 use mir.Syntax.{Ty, w8, w64, ty_int, ty_array, given as dict_at}
 use mir.Val.{Val, vstruct, vcons, vnil}
 use base.Fraction.{full_share}
-use base.Logic.{SProp, ent, sep, wand, emp, apply∗}
+use base.Logic.{SProp, ent, sep, wand, apply∗}
 use base.Fml.{Fml, fsep, feq, fall, fwand, froom}
 use types.Logic.{Logic, sem}
 use types.Kit.{Item, Goal, Step, step, ‵, raw, ◌⊛◌, ◌$◌, ◌∵◌, !, qed, move, keep, drop, use0, use1, use2, split, frame, each, assume, show, rewrite, fsplit, fjoin, fpack, feq_l, feq_i, flt_l, flt_i, done}
@@ -20,19 +20,19 @@ use denote.RawPtr.{block_ptr}
 use denote.Steps.{nothing}
 use denote.Struct.Field.{u8-field, i64-field}
 use denote.Struct.Laws.{u8-laws, u8-copy, i64-laws, i64-copy}
-use denote.Struct.Struct.{Struct, Shape, within, Struct-Makes}
-use denote.Struct.Declared as declared
-use Rattle.core.specs.contracts.marker.PhantomData as Phantom
+use denote.Struct.Struct.{Struct, Shape, within}
 use Rattle.std_alloc.specs.Vec.Ownership.{lodged}
-use Rattle.std_alloc.proofs.VecSteps.El.{El, no_al, el_d, vec_val, handle, Vr}
+use Rattle.std_alloc.proofs.VecSteps.El.{El, no_al, el_d, vec_val, handle}
 use Rattle.std_alloc.proofs.VecSteps.Opens.{Blk, blk_out, blk_in, vec_made}
-use Rattle.std_alloc.proofs.VecSteps.Rows.{empty, all_room}
+use Rattle.std_alloc.proofs.VecSteps.Rows.{empty as no_values, all_room}
 use Rattle.std_heap.specs.contracts.Global
 use Rattle.std_heap.specs.contracts.GlobalAllocator.TheImpl.{ghosts}
 use Rattle.std_heap.proofs.Global.TheLaws as global-laws
 use Rattle.sel_bits.specs.TwoLists.{Places, both_owned}
 use Rattle.sel_bits.specs.contracts.two_lists.Carved as carved
+use Rattle.sel_bits.specs.contracts.two_lists.Carved.TheInside as inside
 use Rattle.sel_bits.specs.declared.two_lists.Carved.TheInside as Parts
+use Rattle.sel_bits.proofs.TwoListSteps.{empty, fields_in, pair}
 
 abbrev pub byte_laws : Laws u8
 byte_laws = of_field u8-field u8-laws refl (copy_shared u8-field u8-copy)
@@ -50,12 +50,6 @@ Lent = record { row = i64; laws = int_laws; al = no_al }
 abbrev LentBytes : El
 LentBytes = record { row = u8; laws = byte_laws; al = no_al }
 
-abbrev pub none : Val
-none = vstruct vnil
-
-abbrev pub pair : Val → Val → Val
-pair u v = vstruct (vcons u (vcons v vnil))
-
 abbrev pub triple : Val → Val → Val → Val
 triple u v w = vstruct (vcons u (vcons v (vcons w vnil)))
 
@@ -63,15 +57,7 @@ abbrev plain : List RattleType → Shape
 plain Rs = record { name = []; args = []; types = []; fields = Rs }
 
 module _ {M : Type 1} {𝓤 : Ura M} {𝓛 : Logic 𝓤} {K : Type 0} {Γ : List (Item 𝓤)} {G : Goal 𝓤 𝓛.H} where
-  -- a struct of two fields is made of what they own
-  pub pair_in : K → (R S : RattleType) (x : R.Denot) (y : S.Denot) (u v : Val)
-      → Step K 𝓛 (‵ ((Struct (plain (R ∷ S ∷ []))).own_val (x, (y, tt)) (pair u v ∷ [])) ∷ Γ) G (‵ (R.own_val x (u ∷ [])) ∷ ‵ (S.own_val y (v ∷ [])) ∷ Γ) G
-  pair_in t R S x y u v = step (λ s.
-      nothing t $ move t (2 ∷ 0 ∷ []) $ fjoin t $ move t (1 ∷ 0 ∷ []) $ fjoin t $
-      feq_i t (List Val) (pair u v ∷ []) (pair u v ∷ []) refl $ fjoin t $
-      fpack t (Valss (R ∷ S ∷ [])) (within (plain (R ∷ S ∷ [])) (x, (y, tt)) (pair u v ∷ [])) (u ∷ [], (v ∷ [], tt)) $ s)
-
-  -- and so is one of three
+  -- a struct of three fields is made of what they own
   pub triple_in : K → (R S T : RattleType) (x : R.Denot) (y : S.Denot) (z : T.Denot) (u v w : Val)
       → Step K 𝓛 (‵ ((Struct (plain (R ∷ S ∷ T ∷ []))).own_val (x, (y, (z, tt))) (triple u v w ∷ [])) ∷ Γ) G (‵ (R.own_val x (u ∷ [])) ∷ ‵ (S.own_val y (v ∷ [])) ∷ ‵ (T.own_val z (w ∷ [])) ∷ Γ) G
   triple_in t R S T x y z u v w = step (λ s.
@@ -81,9 +67,6 @@ module _ {M : Type 1} {𝓤 : Ura M} {𝓛 : Logic 𝓤} {K : Type 0} {Γ : List
 
 module _ {M : Type 1} {𝓤 : Ura M} (𝓛 : Logic 𝓤) where
   open 𝓛 use {H}
-
-  pub phantom_made : ent 𝓤 (emp 𝓤) (sem 𝓛 ((Phantom.the_row u8).own_val (record {}) (none ∷ [])))
-  phantom_made = Struct-Makes 𝓛 (declared.shape (Phantom.the_type u8)) tt tt (none ∷ []) (tt, (refl, tt))
 
   -- values without spare capacity
   pub values_lent : (b o n : ℕ) (xs : List i64.Denot) → 0 < n → n * 8 < 2 ^ 63 → ent 𝓤 (sem 𝓛 (part_at (Array i64 n) full_share xs b o)) (sem 𝓛 (lodged i64 (block_ptr b o) n n xs))
@@ -102,7 +85,7 @@ module _ {M : Type 1} {𝓤 : Ura M} (𝓛 : Logic 𝓤) where
         let start : o ≡ o + 0 * 1 = omega arith in
         qed 𝓛 (‵ (froom (ty_array (ty_int w8) c) b o) ∷ []) ∵
         rewrite ! 0 (λ (z : ℕ × ℕ). ‵ (froom (ty_array (ty_int w8) z.0) b z.1)) {x = (c - 0, o + 0 * 1)} (λ i. (whole i, start i)) refl $ nothing ! $ move ! (1 ∷ 0 ∷ []) $
-        use0 𝓛 (‵ (part_at (Array u8 0) full_share [] b o)) (empty LentBytes 𝓛 [] b o refl) $
+        use0 𝓛 (‵ (part_at (Array u8 0) full_share [] b o)) (no_values LentBytes 𝓛 [] b o refl) $
         blk_in LentBytes ! tt b o 0 c [] some $ flt_i ! (c * 1) (2 ^ 63) fit $ fjoin ! $ done !
 
     -- and back, whatever the list has by then
@@ -143,11 +126,11 @@ module _ {M : Type 1} {𝓤 : Ura M} (𝓛 : Logic 𝓤) where
     Given t = fsep (feq ℕ (length t.0) n) (both_owned i64 u8 places t.0 t.1.0 t.1.1)
 
     abbrev Whole : Both → Fml
-    Whole t = (Struct (plain (Vr Owned ∷ Phantom.the_row u8 ∷ []))).own_val (with_items d t.0, (record {}, tt)) (pair u none ∷ [])
+    Whole t = (inside.the_row i64 u8).own_val (record { list = with_items d t.0; behind = record {} }) (pair u empty ∷ [])
 
     pub apart : d.ptr ≡ block_ptr b o → 0 < n → n < c → n < 2 ^ 64 → c < 2 ^ 64 → c * 8 < 2 ^ 63
         → ent 𝓤 (sep 𝓤 (sem 𝓛 (Blk Owned d.alloc b o n c d.items)) (sem 𝓛 (handle Owned d.alloc hv)))
-        (sep 𝓤 (sem 𝓛 (lodged i64 (block_ptr b o) n n d.items)) (sep 𝓤 (sem 𝓛 (lodged u8 (block_ptr b far) 0 room [])) (sem 𝓛 (carved.the_own i64 u8 places (pair u none ∷ [])))))
+        (sep 𝓤 (sem 𝓛 (lodged i64 (block_ptr b o) n n d.items)) (sep 𝓤 (sem 𝓛 (lodged u8 (block_ptr b far) 0 room [])) (sem 𝓛 (carved.the_own i64 u8 places (pair u empty ∷ [])))))
     apart at some spare fn fc fit =
         let pos : 0 < c = omega arith in
         let live : 0 < room = omega arith in
@@ -159,9 +142,9 @@ module _ {M : Type 1} {𝓤 : Ura M} (𝓛 : Logic 𝓤) where
         move ! (2 ∷ []) $ use1 𝓛 (‵ (lodged i64 (block_ptr b o) n n d.items)) (values_lent b o n d.items some (omega arith)) $ frame ! $
         use1 𝓛 (‵ (lodged u8 (block_ptr b far) 0 room [])) (room_lent b far room live (omega arith)) $ frame ! $
         -- [the way back; the right to free; the handle]
-        show ! (λ (i : Parts.Inside i64.Denot u8.Denot). sem 𝓛 (fsep (feq ℕ i.list.len n) (fall Both (λ t. fwand (Given t) ((Struct (plain (Vr Owned ∷ Phantom.the_row u8 ∷ []))).own_val (with_items i.list t.0, (i.behind, tt)) (pair u none ∷ []))))))
+        show ! (λ (i : Parts.Inside i64.Denot u8.Denot). sem 𝓛 (fsep (feq ℕ i.list.len n) (fall Both (λ t. fwand (Given t) ((inside.the_row i64 u8).own_val (record { list = with_items i.list t.0; behind = i.behind }) (pair u empty ∷ []))))))
         (record { list = d; behind = record {} }) $
-        feq_i ! ℕ n n refl $ frame ! $ each ! (λ t. wand 𝓤 (sem 𝓛 (Given t)) (sem 𝓛 (Whole t))) (λ t. assume ! (‵ (Given t)) $ fsplit ! $ feq_l ! (λ long. fsplit ! $
+        feq_i ! ℕ n n refl $ frame ! $ each ! (λ t. wand 𝓤 (sem 𝓛 (Given t)) (sem 𝓛 (Whole t))) (λ t. assume {P = sem 𝓛 (Whole t)} ! (‵ (Given t)) $ fsplit ! $ feq_l ! (λ long. fsplit ! $
         fsplit ! $ drop ! $ blk_out Lent ! tt b o n n t.0 some $ move ! (1 ∷ []) $ drop ! $ move ! (1 ∷ []) $ drop ! $
         -- [the values; the bytes; the way back; the right to free; the handle]
         move ! (1 ∷ []) $ fsplit ! $ flt_l ! (λ few.
@@ -169,5 +152,4 @@ module _ {M : Type 1} {𝓤 : Ura M} (𝓛 : Logic 𝓤) where
         move ! (0 ∷ 2 ∷ []) $ use2 𝓛 (‵ (froom Ints b far)) (apply∗ 𝓤 (H.room Bytes b far) (H.room Ints b far)) $
         move ! (1 ∷ 0 ∷ []) $ blk_in Owned ! d.alloc b o n c t.0 pos $
         vec_made Owned ! {hv = hv} (with_items d t.0) b o n c t.0 (at, refl, refl, with_items_is d t.0 long) fn fc fit $
-        use0 𝓛 (‵ ((Phantom.the_row u8).own_val (record {}) (none ∷ []))) phantom_made $ move ! (1 ∷ 0 ∷ []) $
-        pair_in ! (Vr Owned) (Phantom.the_row u8) (with_items d t.0) (record {}) u none $ done !)))
+        fields_in i64 u8 ! (record { list = with_items d t.0; behind = record {} }) u $ done !)))

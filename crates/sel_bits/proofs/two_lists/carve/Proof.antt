@@ -45,7 +45,8 @@ use Rattle.sel_bits.specs.contracts.two_lists.carve.Key.{name as #self}
 use Rattle.sel_bits.proofs.two_lists.carve.Statement.{statement}
 use Rattle.sel_bits.proofs.two_lists.carve.Code as code
 use Rattle.sel_bits.proofs.LentSteps.{three, memory_in}
-use Rattle.sel_bits.proofs.Carving.{Owned, apart, places, none, pair, triple, triple_in}
+use Rattle.sel_bits.proofs.Carving.{Owned, apart, places, triple, triple_in}
+use Rattle.sel_bits.proofs.TwoListSteps.{empty, pair}
 
 abbrev List64 : RattleType
 List64 = V.the_row i64 Global.the_row ghosts
@@ -71,7 +72,7 @@ carve_spec 𝓤 𝓛 𝓜 𝓡 wired =
     let same_len : d.len ≡ len = asked.1 in let few : 0 < len = asked.2 in let spare : len < d.cap = asked.3 in
     let same_room : 8 * (d.cap - d.len) ≡ room = ap (λ (j : ℕ). 8 * (d.cap - j)) same_len ∙ sym asked.4 in
     let far : ℕ = o + len * 8 in let u : Val = vec_val Owned hv b o d.len d.cap in let good = vec_typed Owned hv b o d.len d.cap fa fn' fc in
-    use2 𝓛 (‵ (lodged i64 (block_ptr b o) d.len d.len d.items) ⊛ ‵ (lodged u8 (block_ptr b (o + d.len * 8)) 0 (8 * (d.cap - d.len)) []) ⊛ ‵ (carved.the_own i64 u8 (places 𝓛 d b o hv) (pair u none ∷ [])))
+    use2 𝓛 (‵ (lodged i64 (block_ptr b o) d.len d.len d.items) ⊛ ‵ (lodged u8 (block_ptr b (o + d.len * 8)) 0 (8 * (d.cap - d.len)) []) ⊛ ‵ (carved.the_own i64 u8 (places 𝓛 d b o hv) (pair u empty ∷ [])))
     (apart 𝓛 d b o hv e (omega arith) (omega arith) fn' fc fit) $ split3 ! $
     rewrite ! 0 (λ (j : ℕ). ‵ (lodged i64 (block_ptr b o) j j d.items)) same_len refl $
     rewrite ! 1 (λ (j : ℕ). ‵ (lodged u8 (block_ptr b (o + j * 8)) 0 (8 * (d.cap - d.len)) [])) same_len refl $
@@ -99,9 +100,9 @@ carve_spec 𝓤 𝓛 𝓜 𝓡 wired =
     sets ! (agg ! (and_then ! (get ! refl) (and_then ! (lit ! tt) (and_then ! (get ! refl) (no_more !))))) refl (tt, (tt, (record { fits = lit< tt }, (record { fits = fr }, tt)))) $
     sets ! (of_opd ! (get ! refl)) refl good $
     sets ! (agg ! (no_more !)) refl (tt, tt) $
-    let inner = as_fields (layout List64 ∷ layout (Phantom.the_row u8) ∷ []) (u ∷ none ∷ []) (good, ((tt, tt), tt)) in
+    let inner = as_fields (layout List64 ∷ layout (Phantom.the_row u8) ∷ []) (u ∷ empty ∷ []) (good, ((tt, tt), tt)) in
     sets ! (agg ! (and_then ! (get ! refl) (and_then ! (get ! refl) (no_more !)))) refl inner $
-    let front : Val = three (vptr b o) len len in let back : Val = three (vptr b far) 0 room in let rest : Val = pair u none in
+    let front : Val = three (vptr b o) len len in let back : Val = three (vptr b far) 0 room in let rest : Val = pair u empty in
     sets ! (agg ! (and_then ! (get ! refl) (and_then ! (get ! refl) (and_then ! (get ! refl) (no_more !))))) refl
     (as_fields (layout (lent.the_row i64) ∷ layout (lent.the_row u8) ∷ layout (carved.the_row i64 u8) ∷ []) (front ∷ back ∷ rest ∷ [])
     ((tt, (tt, (record { fits = fl }, (record { fits = fl }, tt)))), ((tt, (tt, (record { fits = lit< tt }, (record { fits = fr }, tt)))), (inner, tt)))) $
