@@ -17,7 +17,7 @@ use std::ptr::NonNull;
 use std_alloc::vec::Lodged;
 
 /// A list whose memory is lent to two others: its values, and values behind them.
-pub(crate) struct Carved<F, B> {
+pub struct Carved<F, B> {
     list: Vec<F>,
     behind: PhantomData<B>,
 }
