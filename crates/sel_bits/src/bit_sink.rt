@@ -68,7 +68,8 @@ pub fn append_bitmap<S: BitSink>(
 /// `OutOfMemory` if an allocation fails; some of the bits may have been appended.
 #[tactic(auto, using(std::proofs::lemmas::Grind::common_steps, crate::proofs::Extended::copies_more, crate::proofs::Padded::word_of_lt))]
 pub fn append_copies<S: BitSink>(sink: &mut S, len: usize, value: bool) -> PolarsResult<()>
-    ensures appended { OnOk result (S.so_far sink.new ≡ S.so_far sink.old ++ replicate len value) }
+    ensures appended { OnOk result (S.so_far sink.new ≡
+        S.so_far sink.old ++ replicate len value) }
     ensures beside { S.beside sink.new ≡ S.beside sink.old }
     ensures refusal { IfErr result IsOutOfMemory }
 {

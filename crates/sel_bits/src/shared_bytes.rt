@@ -13,8 +13,8 @@ use std_alloc::vec::Lodged;
 /// Bytes with any number of owners: in a block of the library's own, in lent memory, or behind
 /// offsets in the same block.
 ///
-/// In all three the slice lies at the same place of the shared value, so that reading a bit costs
-/// no branch.
+/// In all three the slice is at the same offset of the shared value, so that a read needs no branch
+/// on the variant.
 #[derive(Drop)]
 pub enum SharedBytes {
     Own(ArcSlice<u8>),

@@ -43,7 +43,7 @@ unsafe impl<F, B> Sync for Carved<F, B> {}
 
 /// Values, and other values behind them in the same block of memory.
 pub struct TwoLists<F, B> {
-    // (the first field, which lies where a shared vector of its own would)
+    // (the first field, so that it is at the same offset as a shared vector)
     pub(crate) back: Vec<B, Lodged>,
     pub(crate) front: Vec<F, Lodged>,
     carved: Carved<F, B>,
