@@ -288,6 +288,17 @@ static bool loop_take_bits(job *j) {
 }
 TIMED(loop_take_bits)
 
+/* Returns whether each index that is not null is less than the number of rows. (32-bit integers, so that the compiler can vectorize) */
+static bool loop_in_bounds(job *j) {
+    uint32_t all = 1, rows = (uint32_t)j->rows;
+    if (j->valid)
+        for (size_t i = 0; i < j->made; i++) all &= (j->indices[i] < rows) | !bit(j->valid, i);
+    else
+        for (size_t i = 0; i < j->made; i++) all &= j->indices[i] < rows;
+    return all;
+}
+TIMED(loop_in_bounds)
+
 /* ---- if-then-else loops */
 
 static bool loop_choose(job *j) {

@@ -280,6 +280,27 @@ def take_of_numbers(rows: int, size: int, order: str, nulls: bool = False) -> Ca
                 made=rows, size=size, read=rows * (4 + size), written=rows * size, values=values, indices=places, first=column, second=indices, **parts)
 
 
+def take_of_nulls(rows: int, nulls: bool = False) -> Case:
+    """A take of a column of nulls, which has no values: the time is that of the bounds check of the indices."""
+    places = RNG.integers(0, rows, rows, dtype=np.uint32)
+    valid = random_mask(rows, .5) if nulls else None
+    column, indices, beyond = made_by("sel_null_new", rows), Column.from_numpy(places, valid), made_by("sel_null_new", int(places.max()))
+
+    def check() -> None:
+        answer = column.take(indices)
+        equal([len(answer), answer.null_count], [rows, rows], "nulls of a take")
+        try:
+            beyond.take(Column.from_numpy(places))
+        except IndexError:
+            return
+        raise SystemExit("wrong result: an index out of bounds is taken")
+
+    parts: dict[str, Part] = {} if valid is None else {"valid": packed(valid)}
+    return Case("take, nulls", rows, "random" + (", half of the indices null" if nulls else ""), ("take", "loop_in_bounds"), check,
+                (lambda: int(places.max()) < rows) if valid is None else (lambda: bool(((places < rows) | ~valid).all())),
+                made=rows, read=rows * 4 + (rows // 8 if nulls else 0), indices=places, first=column, second=indices, **parts)
+
+
 def take_of_others(rows: int) -> Iterator[Case]:
     places = RNG.integers(0, rows, rows, dtype=np.uint32)
     indices = Column.from_numpy(places)
@@ -420,6 +441,8 @@ def at_size(rows: int) -> Iterator[Case]:
         yield take_of_numbers(rows, size, "random")
     yield take_of_numbers(rows, 8, "sorted")
     yield take_of_numbers(rows, 8, "random", nulls=True)
+    for nulls in (False, True):
+        yield take_of_nulls(rows, nulls)
     yield from take_of_others(rows)
     yield from choices(rows)
     yield from list_elements(rows)

@@ -14,7 +14,7 @@
 /* Keeps the compiler from merging repeated calls. */
 #define CALL __attribute__((noinline, noipa)) static
 
-enum { LEFT = 1, RIGHT = 2, NULLS = 3 };
+enum { LEFT = 1, RIGHT = 2 };
 
 /* ---- the data */
 
@@ -104,19 +104,6 @@ CALL uint64_t sum_of(const uint64_t *values, const uint64_t *masks, size_t rows,
 }
 #endif
 
-/* (32-bit integers, so that the compiler can vectorize) */
-CALL bool in_bounds(const uint32_t *indices, size_t rows, uint32_t len) {
-    uint32_t all = 1;
-    for (size_t i = 0; i < rows; i++) all &= indices[i] < len;
-    return all;
-}
-
-CALL bool in_bounds_or_null(const uint32_t *indices, const uint8_t *valid, size_t at, size_t rows, uint32_t len) {
-    uint32_t all = 1;
-    for (size_t i = 0; i < rows; i++) all &= (indices[i] < len) | !(valid[(at + i) / 8] >> (at + i) % 8 & 1);
-    return all;
-}
-
 /* ---- the repeats */
 
 typedef struct job {
@@ -156,20 +143,6 @@ static uint64_t repeat_pext(const job *j, uint64_t (*mask)(uint64_t), summed *su
     return total;
 }
 
-static uint64_t repeat_indices(const job *j, bool with_nulls) {
-    const uint64_t *made = words(LEFT, j->rows, same);
-    const uint8_t *valid = side(NULLS, j->left, j->rows);
-    uint32_t *indices = malloc(j->rows * sizeof *indices);
-    if (!indices) exit(1);
-    for (size_t i = 0; i < j->rows; i++) indices[i] = (uint32_t)(made[i] % j->rows);
-    uint64_t total = 0;
-    for (uint64_t k = 0; k < j->repeats; k++) {
-        uint32_t len = (uint32_t)(j->rows + k);
-        total += with_nulls ? in_bounds_or_null(indices, valid, j->left, j->rows, len) : in_bounds(indices, j->rows, len);
-    }
-    return total;
-}
-
 static bool compute(const job *j, uint64_t *number) {
     const char *name = j->name;
     if (!strcmp(name, "and")) *number = repeat_and(j);
@@ -180,8 +153,6 @@ static bool compute(const job *j, uint64_t *number) {
     else if (!strcmp(name, "pext")) *number = repeat_pext(j, same, sum_of);
     else if (!strcmp(name, "pext_four")) *number = repeat_pext(j, word_of_four, sum_of);
 #endif
-    else if (!strcmp(name, "indices")) *number = repeat_indices(j, false);
-    else if (!strcmp(name, "indices_null")) *number = repeat_indices(j, true);
     else return false;
     return true;
 }

@@ -42,8 +42,6 @@ CASES = (
     ("`pext64_polyfill`, any mask", "pext", "word", 0, 0, "bit by bit", "pext_bits"),
     ("`pext64_polyfill`, four bits", "pext_four", "word", 0, 0, "the instruction", "pext_four"),
     ("`pext64_polyfill`, four bits", "pext_four", "word", 0, 0, "bit by bit", "pext_four_bits"),
-    ("`indices_in_bounds`", "indices", "index", 0, 0, "all of them", "indices"),
-    ("`indices_in_bounds`, half null", "indices_null", "index", 0, 0, "all of them", "indices_null"),
 )
 
 
@@ -189,7 +187,7 @@ def section(found: list[Row] | None) -> list[str]:
         return [*text, "Not measured: the program `crates/bench_internals` was not built.", ""]
     text += ["The operations that the C library does not export are called by a program of their own, `crates/bench_internals`, proved and built for x86-64-v2; the loops are `tools/bench/words.c`, "
              f"compiled for this processor. Neither has a clock: a time is the processor time of the whole process at enough repeats to take about {SECONDS} seconds, minus that at one repeat, "
-             f"divided by the difference in repeats, in ns per row: the best of {ROUNDS} rounds, and the median in parentheses. A row is a bit, a 64-bit word or an index. "
+             f"divided by the difference in repeats, in ns per row: the best of {ROUNDS} rounds, and the median in parentheses. A row is a bit or a 64-bit word. "
              "Offsets are the positions of the first bits. Both programs printed the same checksums.", "",
              "| operation | row | rows | offsets | loop | sel | loop's time | to the loop |", "|---|---|---|---|---|---|---|---|"]
     for (title, name, row, left, right, loop, _), rows, ours, theirs in found:

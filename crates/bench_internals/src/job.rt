@@ -11,8 +11,6 @@ pub enum Operation {
     SetBits,
     Pext,
     PextFour,
-    Indices,
-    IndicesNull,
 }
 
 impl Operation {
@@ -22,8 +20,6 @@ impl Operation {
             "set_bits" => Some(Operation::SetBits),
             "pext" => Some(Operation::Pext),
             "pext_four" => Some(Operation::PextFour),
-            "indices" => Some(Operation::Indices),
-            "indices_null" => Some(Operation::IndicesNull),
             _ => None,
         }
     }

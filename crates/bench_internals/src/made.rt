@@ -6,12 +6,10 @@ use sel_bits::bitmap::Bitmap;
 use sel_bits::faults::{PolarsError, PolarsResult};
 use std::alloc::Global;
 
-/// The seeds of the left and the right side, and of validities.
+/// The seeds of the left and the right side.
 pub const LEFT: u64 = 1;
 
 pub const RIGHT: u64 = 2;
-
-pub const NULLS: u64 = 3;
 
 fn next(state: u64) -> u64 {
     state

@@ -1,5 +1,5 @@
-//! Runs an operation on bits, words or indices with the repeats that a line of stdin requests, and
-//! prints a checksum of its results.
+//! Runs an operation on bits or words with the repeats that a line of stdin requests, and prints a
+//! checksum of its results.
 //!
 //! A line is `NAME ROWS LEFT RIGHT REPEATS`, for example `and 16384 3 5 1000`; NAME is one of
 //! `Operation::named`. tools/bench/words.py compares its time with that of the loops of
@@ -7,7 +7,6 @@
 #![tactic(auto)]
 
 mod bits;
-mod indices;
 mod job;
 mod made;
 mod packed;
@@ -39,7 +38,5 @@ fn answer(alloc: Global, job: &Job) -> PolarsResult<u64> {
         Operation::SetBits => bits::set_bits(alloc, job),
         Operation::Pext => packed::pext(alloc, job),
         Operation::PextFour => packed::pext_four(alloc, job),
-        Operation::Indices => indices::indices(alloc, job),
-        Operation::IndicesNull => indices::indices_null(alloc, job),
     }
 }

@@ -1,13 +1,17 @@
 -- Parts of lists that a loop copies entry by entry, and bits that are all true.
 use Rattle.sel_gather.proofs.Common.{◌≡◌, ℕ, zero, suc, ◌+◌, ◌-◌, ◌≤◌, ◌<◌, Bool, true, false, List, [], ◌∷◌, ◌++◌, length, take, drop, get_or, replicate, refl}
-use Rattle.sel_gather.proofs.Common.{ap, ◌∙◌, arith, append_assoc, cond, count_by, not, take-append-add, take_more, take_all, take-take, get_or-drop}
+use Rattle.sel_gather.proofs.Common.{ap, sym, ◌∙◌, arith, append_assoc, cond, count_by, not, take-append-add, take_more, take_all, take-take, get_or-drop}
 use Rattle.sel_gather.proofs.Common.{replicate-append-replicate}
-use Rattle.std.proofs.{Common.length-drop, lemmas.List.Sums.sum_by-cons}
+use Rattle.std.proofs.{Common.length-drop, lemmas.List.drop_more, lemmas.List.Sums.sum_by-cons}
 
 pub window_more : {A : Type 0} (xs : List A) (a i : ℕ) (d : A) → a + i < length xs → take (i + 1) (drop a xs) ≡ take i (drop a xs) ++ get_or xs (a + i) d ∷ []
 window_more xs a i d h =
     let inside : i < length (drop a xs) = simp length-drop (omega arith) in
     take_more (drop a xs) i d inside ∙ ap (λ x. take i (drop a xs) ++ x ∷ []) (get_or-drop a xs i d)
+
+-- An entry that was read, before the entries after it.
+pub read_more : {A : Type 0} (xs ys : List A) (i : ℕ) (x : A) → i < length xs → x ≡ get_or xs i x → ys ≡ drop (i + 1) xs → x ∷ ys ≡ drop i xs
+read_more xs ys i x lt is rest = (λ k. is k ∷ rest k) ∙ sym (drop_more xs i x lt)
 
 pub repeated_more : {A : Type 0} (old so_far new : List A) (i : ℕ) (x : A) → so_far ≡ old ++ replicate i x → new ≡ so_far ++ x ∷ [] → new ≡ old ++ replicate (i + 1) x
 repeated_more old so_far new i x e f =

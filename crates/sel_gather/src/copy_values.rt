@@ -1,6 +1,6 @@
 //! Values and bits, copied run by run.
 
-ghost use Rattle.std.specs.Prelude.{◌≡◌, ◌≤◌, ◌<◌, ◌+◌, ◌++◌, All, length, map, take, drop, IfOk, IfErr, OnOk};
+ghost use Rattle.std.specs.Prelude.{◌≡◌, ◌≤◌, ◌<◌, ◌+◌, ◌++◌, All, length, map, take, drop, vec_len, vec_capacity, IfOk, IfErr, OnOk};
 ghost use Rattle.std.specs.Option.{option_copied};
 ghost use Rattle.sel_bits.specs.Faults.{IsOutOfMemory};
 ghost use Rattle.sel_bits.specs.Limits.{max_rows};
@@ -19,8 +19,7 @@ use sel_bits::faults::PolarsResult;
 use sel_bits::packer::BitPacker;
 use std::alloc::Global;
 
-// The run length up to which a copy moves this many values, a constant size, and truncates the
-// rest.
+// The run length up to which a copy appends this many values, and truncates the rest.
 const SHORT_RUN: usize = 8;
 
 /// Returns the values at the row references of a plan, copied by its runs, and `zero` for null
@@ -116,9 +115,11 @@ fn copy_run<T: Copy + Drop>(
     zero: T,
 ) -> PolarsResult<()>
     requires fits { All (PickFits (map (λ s. s.values.now) parts.now)) (unrolled run) }
-    requires room { length values.old.items + run.len ≤ max_rows }
+    requires few { length values.old.items + run.len ≤ max_rows }
+    requires room { vec_len values.old + 8 ≤ vec_capacity values.old }
     ensures values { OnOk result (values.new.items ≡ values.old.items ++
         pick zero (map (λ s. s.values.now) parts.now) (unrolled run)) }
+    ensures capacity { vec_capacity values.old ≤ vec_capacity values.new }
     ensures refusal { IfErr result IsOutOfMemory }
 {
     if run.len == 0 {
@@ -142,17 +143,38 @@ fn copy_part<T: Copy + Drop>(
     start: usize,
     len: usize,
 ) -> PolarsResult<()>
-    requires { start + len ≤ length from.now }
+    requires part { start + len ≤ length from.now }
+    requires room { vec_len values.old + 8 ≤ vec_capacity values.old }
     ensures values { OnOk result (values.new.items ≡
         values.old.items ++ take len (drop start from.now)) }
+    ensures capacity { vec_capacity values.old ≤ vec_capacity values.new }
     ensures refusal { IfErr result IsOutOfMemory }
 {
     if len <= SHORT_RUN && from.len() - start >= SHORT_RUN {
         let before = values.len();
-        values.extend_from_slice(&from[start..start + SHORT_RUN])?;
+        push_eight(&from[start..start + SHORT_RUN], values);
         values.truncate(before + len);
         return Ok(());
     }
     values.extend_from_slice(&from[start..start + len])?;
     Ok(())
+}
+
+// Appends eight values. Loads all of them before it stores the first, so that vector registers can
+// hold them.
+//
+// Requires: `out` has spare capacity for them.
+#[inline(always)]
+fn push_eight<T: Copy>(values: &[T], out: &mut Vec<T>)
+    requires eight { length values.now ≡ 8 }
+    requires room { vec_len out.old + 8 ≤ vec_capacity out.old }
+    ensures items { out.new.items ≡ out.old.items ++ values.now }
+    ensures capacity { vec_capacity out.new ≡ vec_capacity out.old }
+{
+    let loaded = [
+        values[0], values[1], values[2], values[3], values[4], values[5], values[6], values[7],
+    ];
+    for i in 0..SHORT_RUN {
+        out.push_reserved(loaded[i]);
+    }
 }

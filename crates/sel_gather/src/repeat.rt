@@ -1,6 +1,6 @@
 //! Appends repeated values.
 
-ghost use Rattle.std.specs.Prelude.{◌≡◌, ◌<◌, ◌+◌, ◌++◌, ◌^◌, length, replicate, IfErr, OnOk};
+ghost use Rattle.std.specs.Prelude.{◌≡◌, ◌<◌, ◌≤◌, ◌+◌, ◌++◌, ◌^◌, length, replicate, vec_capacity, IfErr, OnOk};
 ghost use Rattle.sel_bits.specs.Faults.{IsOutOfMemory};
 
 use sel_bits::faults::PolarsResult;
@@ -16,6 +16,7 @@ use sel_bits::faults::PolarsResult;
 pub fn push_values<T: Copy>(items: &mut Vec<T>, value: T, count: usize) -> PolarsResult<()>
     requires { length items.old.items + count < 2 ^ 64 }
     ensures items { OnOk result (items.new.items ≡ items.old.items ++ replicate count value) }
+    ensures capacity { vec_capacity items.old ≤ vec_capacity items.new }
     ensures refusal { IfErr result IsOutOfMemory }
 {
     items.resize(items.len() + count, value)?;

@@ -9,8 +9,8 @@ copy_run-requires-clause-fits g c =
     let left = left_all fits ps (g.P.Plan.picks c.loop-at.rest) c.loop-at.at c.loop-at.invariant.rest c.requires in
     run_all fits (g.P.Plan.picks c.loop-at.rest) _ c.next_run-run.result c.next_run-run.ensures.picks left
 
-pub copy_run-requires-clause-room : goal.copy_run-requires-clause-room
-copy_run-requires-clause-room g c =
+pub copy_run-requires-clause-few : goal.copy_run-requires-clause-few
+copy_run-requires-clause-few g c =
     let ps = g.P.Plan.picks c.args.plan.now in
     let xss = map (λ s. s.values.now) c.args.parts.now in
     let inside = run_within ps (g.P.Plan.picks c.loop-at.rest) _ c.next_run-run.result c.loop-at.at c.loop-at.invariant.rest c.next_run-run.ensures.picks (omega (arith, c.loop-at.invariant.within, c.len-len.ensures.len)) in
@@ -28,6 +28,7 @@ loop-at-preserved g c =
     record {
       rest = run_behind ps left _ run c.loop-at.at c.loop-at.invariant.rest c.next_run-run.ensures.picks;
       within = omega (arith, inside, c.len-len.ensures.len);
+      room = omega (arith, c.loop-at.invariant.room, c.in_ok-copy_run.ensures.capacity);
       values = c.in_ok-copy_run.ensures.values ∙ ap (λ l. l ++ pick c.args.zero xss (unrolled run)) c.loop-at.invariant.values ∙ sym (ap (pick c.args.zero xss) taken ∙ map-append (found c.args.zero xss) (take c.loop-at.at ps) (unrolled run));
     }
 
