@@ -32,6 +32,7 @@ CAUSES = (
     ("take, bits", "each index is bounds-checked first, and each read computes the byte and the bit in it"),
     ("take, lists", "each index is bounds-checked first; the start of each list is kept, so that its items are copied in a second pass: up to eight as eight, more by a call"),
     ("take, bytes", "each index is bounds-checked first; the start of each row is kept, so that its bytes are copied in a second pass: up to sixteen as sixteen, more by a call"),
+    ("take, nulls", "the library is built for any processor of x86-64-v2, the loops and numpy use this one's instructions"),
     ("take", "each index is bounds-checked first; the loop checks none"),
     ("choose, views", "the library is built for any processor of x86-64-v2; where the buffer index of a view of the second column may change, the library tests whether the view is inline"),
     ("choose, 8 bytes", "a vector operation for any processor of x86-64-v2 works on two values, one of the loops, which are compiled for this processor, on more"),
