@@ -126,7 +126,7 @@ static bool fits(const void *at, size_t len, size_t size) {
 
 sel_status sel_loan_values(sel_loan *loan, sel_type_id type, const void *at, size_t len, const lent_buffer **out) {
     size_t size = size_of(type), align = size < 16 ? size : _Alignof(sel_view);
-    if (!fits(at, len, size)) return SEL_ERROR_OUT_OF_MEMORY;
+    if (!fits(at, len, size)) return SEL_ERROR_ARROW_LENGTH;
     if (len == 0 || (uintptr_t)at % align == 0) return add(loan, type, at, len, NULL, out);
     void *copy = malloc(len * size);
     return copy ? sel_loan_block(loan, type, memcpy(copy, at, len * size), len, out) : SEL_ERROR_OUT_OF_MEMORY;
