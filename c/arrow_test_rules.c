@@ -216,6 +216,56 @@ static void schemas_are_read_whole(void) {
     sel_type_free(&type);
 }
 
+/* Maps bytes that are all 0, without memory; or returns NULL if there are not so many addresses. */
+static void *zeros(size_t bytes) {
+    void *at = mmap(NULL, bytes, PROT_READ, MAP_PRIVATE | MAP_ANONYMOUS | MAP_NORESERVE, -1, 0);
+    return at == MAP_FAILED ? NULL : at;
+}
+
+/* Exports a slice of one list, of one element: the elements before it are not exported. */
+static void exports_one_element(const sel_column *lists, const sel_type *type) {
+    sel_column part = {0};
+    struct ArrowArray array;
+    struct ArrowSchema schema;
+    CHECK(sel_slice(lists, 1, 1, &part) == SEL_OK);
+    bool is_done = sel_export(&part, type, &array, &schema) == SEL_OK;
+    CHECK(is_done);
+    sel_free(&part);
+    if (!is_done) return;
+    const int64_t *offsets = array.buffers[1];
+    CHECK(array.children[0]->length == 1 && offsets[0] == 0 && offsets[1] == 1);
+    array.release(&array);
+    schema.release(&schema);
+}
+
+/* The elements of a part of a list column, if they are copied on export, are those of its own lists: the others may be too many bytes for
+ * 32-bit offsets. */
+static void slices_of_lists_have_their_own_elements(void) {
+    static const int64_t lists[3] = {0, 1, 2}, offsets[3] = {0, (int64_t)3 << 30, ((int64_t)3 << 30) + 5};
+    static const char *const names[] = {"item"};
+    sel_column column = {0};
+    sel_type element = {0}, type = {0};
+    struct ArrowArray array;
+    struct ArrowSchema schema;
+    forget_pieces();
+    CHECK(import_piece(piece_over(piece_of("+L", 2, 0, 2, NULL, lists, NULL), 1, (const piece[1]){large_numbers()}, names), &column, &type) == SEL_OK);
+    exports_one_element(&column, &type);
+    void *bytes = zeros((size_t)offsets[2]);
+    if (!bytes) {
+        printf("not run: slices of lists of binary, without 3 GB of addresses\n");
+    } else {
+        piece binary = piece_of("Z", 2, 0, 3, NULL, offsets, bytes);
+        CHECK(import_piece(piece_over(piece_of("+L", 2, 0, 2, NULL, lists, NULL), 1, &binary, names), &column, NULL) == SEL_OK);
+        CHECK(sel_type_new("z", NULL, 0, &element) == SEL_OK && sel_type_new("+L", &element, 1, &type) == SEL_OK);
+        CHECK(sel_export(&column, &type, &array, &schema) == SEL_ERROR_ARROW_RANGE && !array.release && !schema.release);
+        exports_one_element(&column, &type);
+    }
+    sel_free(&column);
+    sel_type_free(&element);
+    sel_type_free(&type);
+    if (bytes) munmap(bytes, (size_t)offsets[2]);
+}
+
 /* The rows of a slice may be few, though the bytes before them are many; but not more than a column has, of bytes of the list's child. */
 static void slices_of_fixed_bytes_may_begin_late(void) {
     enum { OFFSET = 300000000, LEN = 10, WIDTH = 16 };
@@ -223,14 +273,14 @@ static void slices_of_fixed_bytes_may_begin_late(void) {
     sel_column column = {0};
     forget_pieces();
     CHECK(import_piece(piece_of("w:1000", 4294968, 0, 2, NULL, numbers, NULL), &column, NULL) == SEL_ERROR_TOO_MANY_ROWS);
-    const void *values = mmap(NULL, bytes, PROT_READ, MAP_PRIVATE | MAP_ANONYMOUS | MAP_NORESERVE, -1, 0);
-    if (values == MAP_FAILED) {
+    void *values = zeros(bytes);
+    if (!values) {
         printf("not run: slices of fixed-size binary that begin late, without 5 GB of addresses\n");
         return;
     }
     CHECK(import_piece(piece_of("w:16", LEN, OFFSET, 2, NULL, values, NULL), &column, NULL) == SEL_OK && sel_len(&column) == LEN);
     sel_free(&column);
-    munmap((void *)values, bytes);
+    munmap(values, bytes);
 }
 
 void test_rules(void) {
@@ -242,5 +292,6 @@ void test_rules(void) {
     errors_come_in_order();
     schemas_are_read_whole();
     slices_of_fixed_bytes_may_begin_late();
+    slices_of_lists_have_their_own_elements();
     forget_pieces();
 }

@@ -11,8 +11,8 @@
  *     12 bytes                                      behind its own
  *     views of strings with offsets, which are new  strings that the type has with offsets
  *     list views and runs, which become lists and   offsets of a part of a list column that do not begin at 0, if
- *     values                                        its elements are nested, strings, views or decimals of 128
- *                                                   bits, or not nullable
+ *     values                                        its elements are nested, fixed-size binary, strings, views,
+ *                                                   128-bit integers or binary with 32-bit offsets, or not nullable
  *
  * The bytes, values and children that copied offsets and views refer to are not copied, except for 128-bit integers,
  * list views, runs, and strings that are exported with offsets.
