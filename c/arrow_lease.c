@@ -153,6 +153,13 @@ void sel_loan_cancel(sel_loan *loan) {
     loan->origin = NULL;
 }
 
+/* A fork waits for the lock, and both processes give it back: the child has only the thread that forked, so that nobody else could. */
+static void lock_leases(void) { pthread_mutex_lock(&lock); }
+
+static void unlock_leases(void) { pthread_mutex_unlock(&lock); }
+
+__attribute__((constructor)) static void prepare_for_forks(void) { (void)pthread_atfork(lock_leases, unlock_leases, unlock_leases); }
+
 void sel_loan_commit(sel_loan *loan, struct ArrowArray *array) {
     lease *first = loan->leases, *last = first;
     origin *from = loan->origin;

@@ -1,4 +1,4 @@
-/* Imports a column from an Arrow array, filters it, and exports it with its type.  cc arrow_roundtrip.c -I../include ../build/libsel.a */
+/* Imports a column from an Arrow array, filters it, and exports it with its type.  cc arrow_roundtrip.c -I../include ../build/libsel.a -pthread */
 #include "sel_arrow.h"
 
 #include <stdio.h>
