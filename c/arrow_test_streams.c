@@ -77,7 +77,11 @@ static void streams_are_read(void) {
             CHECK(released == i); /* the batch before this one */
         }
         CHECK(sel_stream_next(&stream, &batch, &type) == SEL_OK && !batch.at && !type.at);
-        CHECK(sel_stream_next(&stream, &batch, NULL) == SEL_OK && !batch.at);
+        /* the producer is not called after its end, when it would return an error or begin again */
+        from.fails_at = from.next;
+        CHECK(sel_stream_next(&stream, &batch, NULL) == SEL_OK && !batch.at && !sel_stream_message(&stream));
+        from.next = 0;
+        CHECK(sel_stream_next(&stream, &batch, NULL) == SEL_OK && !batch.at && from.next == 0);
         CHECK(from.releases == 0);
         sel_stream_free(&stream);
         CHECK(from.releases == 1 && !stream.at);

@@ -273,8 +273,8 @@ sel_status sel_stream_open(struct ArrowArrayStream *source, sel_stream *out);
 sel_status sel_stream_type(const sel_stream *of, sel_type *type);
 
 /* Returns in `out` the next batch and in `type` its type; `type` may be a null pointer. At the end of the stream it
- * returns SEL_OK, and `out` and `type` are empty. On error `out` and `type` are unchanged; if an import failed, the
- * next call imports the same batch again.
+ * returns SEL_OK, and `out` and `type` are empty; after the end the producer is not called again. On error `out` and
+ * `type` are unchanged; if an import failed, the next call imports the same batch again.
  * Errors: SEL_ERROR_NO_COLUMN: `of` is empty. SEL_ERROR_ARROW_STREAM: the producer reports an error. Then the errors of
  * sel_import. */
 sel_status sel_stream_next(sel_stream *of, sel_column *out, sel_type *type);
