@@ -230,8 +230,8 @@ sel_status sel_type_dictionary(const sel_type *of, sel_column *values, sel_type 
 
 /* Returns in `out` and `out_type` the column without dictionaries, at every depth: each key is replaced by the row of
  * the dictionary that it names, and is null if that is null. The type of the keys is that of the values, with the
- * name of the keys, and with their metadata unless the values have an extension type. A column without a dictionary is
- * shared.
+ * name of the keys, and with their metadata unless the values have an extension type; it is nullable if the keys or the
+ * values are, or if the dictionary has nulls. A column without a dictionary is shared.
  * Errors: SEL_ERROR_NO_COLUMN: `of` or `type` is empty. SEL_ERROR_TYPE_MISMATCH: the column does not have the storage
  * of the type. SEL_ERROR_ARROW_DICTIONARY: a dictionary has no values. SEL_ERROR_INDEX_OUT_OF_BOUNDS: a key has no
  * row in its dictionary. SEL_ERROR_ROW_LIMIT, SEL_ERROR_OFFSET_LIMIT: the result exceeds a size limit. */
