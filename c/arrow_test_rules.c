@@ -197,6 +197,49 @@ static void errors_come_in_order(void) {
     sel_type_free(&deep);
 }
 
+/* Mends error `i` of keys of a dictionary that have them all. Returns the status of the next one. */
+static sel_status mend(int i, piece it) {
+    static struct ArrowArray *dictionary;
+    static const int32_t right[2] = {1, 0};
+    struct ArrowArray *array = it.array;
+    struct ArrowSchema *schema = it.schema;
+    switch (i) {
+    case 0: return array->release = NULL, schema->release = NULL, SEL_ERROR_ARROW_RELEASED;
+    case 1: return array->release = release_array, SEL_ERROR_ARROW_RELEASED;
+    case 2: return schema->release = type_of_format("i").release, schema->metadata = "\xff\xff\xff\xff", schema->format = "w:4294967296", SEL_ERROR_ARROW_LENGTH;
+    case 3: return schema->metadata = NULL, SEL_ERROR_LIST_SIZE;
+    case 4: return schema->format = "f", schema->n_children = 1, SEL_ERROR_ARROW_DICTIONARY;
+    case 5: return schema->format = "i", SEL_ERROR_ARROW_CHILDREN;
+    case 6: return schema->n_children = 0, dictionary = array->dictionary, array->dictionary = NULL, SEL_ERROR_ARROW_DICTIONARY;
+    case 7: return array->dictionary = dictionary, array->length = -1, array->offset = UINT32_MAX, SEL_ERROR_ARROW_LENGTH;
+    case 8: return array->length = 2, array->null_count = 3, SEL_ERROR_TOO_MANY_ROWS;
+    case 9: return array->offset = 0, array->n_children = 1, SEL_ERROR_ARROW_LENGTH;
+    case 10: return array->null_count = 1, array->n_buffers = 3, SEL_ERROR_ARROW_CHILDREN;
+    case 11: return array->n_children = 0, SEL_ERROR_ARROW_BUFFERS;
+    case 12: return array->n_buffers = 2, SEL_ERROR_ARROW_LENGTH; /* a null without a validity */
+    case 13: return array->null_count = 0, dictionary->n_buffers = 3, SEL_ERROR_ARROW_BUFFERS;
+    case 14: return dictionary->n_buffers = 2, SEL_ERROR_INDEX_OUT_OF_BOUNDS;
+    default: return array->buffers[1] = right, SEL_OK;
+    }
+}
+
+/* An import returns the first error that the header lists; once it is mended, the next one. */
+static void imports_check_in_order(void) {
+    static const int32_t wrong[2] = {7, -1};
+    sel_column column = {0};
+    sel_type type = {0};
+    forget_pieces();
+    piece it = piece_with(piece_of("i", 2, 0, 2, NULL, wrong, NULL), piece_of("l", 2, 0, 2, NULL, numbers, NULL));
+    for (int i = 0; i <= 15; i++) {
+        sel_status wanted = mend(i, it);
+        CHECK(import_piece(it, &column, &type) == wanted && (wanted == SEL_OK) == (column.at != NULL));
+        /* without room for the type, once the schema is right */
+        if (i >= 6) CHECK(import_piece(it, &column, NULL) == SEL_ERROR_ARROW_DICTIONARY);
+    }
+    sel_free(&column);
+    sel_type_free(&type);
+}
+
 /* The ends of runs are checked with the schema. A search for an unsupported format ends, though a schema is below itself. */
 static void schemas_are_read_whole(void) {
     sel_type type = {0};
@@ -290,6 +333,7 @@ void test_rules(void) {
     decimals_have_128_bits();
     extension_types_have_parameters();
     errors_come_in_order();
+    imports_check_in_order();
     schemas_are_read_whole();
     slices_of_fixed_bytes_may_begin_late();
     slices_of_lists_have_their_own_elements();
