@@ -230,6 +230,22 @@ static void names_are_compared(void) {
     sel_type_free(&type);
 }
 
+/* Each field of the common type is nullable where it is in one of the two. */
+static void fields_are_merged(void) {
+    sel_column fields[2] = {{0}, {0}}, in[2] = {{0}, {0}}, out[2] = {{0}, {0}};
+    sel_type leaves[2] = {{0}, {0}}, types[2] = {{0}, {0}}, type = {0};
+    for (int i = 0; i < 2; i++) {
+        for (int k = 0; k < 2; k++) CHECK(sel_null_new(1, &fields[k]) == SEL_OK && sel_type_new("n", NULL, 0, &leaves[k]) == SEL_OK);
+        CHECK(sel_type_as_field(&leaves[i], "", false, &leaves[i]) == SEL_OK && sel_type_new("+s", leaves, 2, &types[i]) == SEL_OK);
+        CHECK(sel_struct_new(1, SEL_ALL_VALID, fields, 2, &in[i]) == SEL_OK);
+    }
+    CHECK(prints(&types[0], "struct<: null not null, : null>") && prints(&types[1], "struct<: null, : null not null>"));
+    CHECK(!sel_type_equal(&types[0], &types[1]));
+    CHECK(sel_common_type(in, types, 2, out, &type) == SEL_OK && prints(&type, "struct<: null, : null>"));
+    for (int i = 0; i < 2; i++) sel_free(&in[i]), sel_free(&out[i]), sel_type_free(&types[i]), sel_type_free(&leaves[i]);
+    sel_type_free(&type);
+}
+
 static void dictionaries_are_made(void) {
     const int64_t numbers[2] = {5, 6};
     const uint8_t keys[3] = {1, 0, 1};
@@ -457,6 +473,7 @@ void test_dictionaries(void) {
     types_are_joined();
     storage_is_joined();
     names_are_compared();
+    fields_are_merged();
     dictionaries_are_made();
     for (int kind = 0; kind < 4; kind++) {
         forget_pieces();

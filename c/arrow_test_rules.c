@@ -326,6 +326,54 @@ static void slices_of_fixed_bytes_may_begin_late(void) {
     munmap(values, bytes);
 }
 
+/* Strings with offsets that are too far apart for one data buffer are views of two; the null one between them is not read. */
+static void strings_far_apart_have_two_buffers(void) {
+    enum { LEN = 20 };
+    static const int64_t offsets[5] = {0, LEN, (int64_t)3 << 30, ((int64_t)3 << 30) + LEN, ((int64_t)3 << 30) + 2 * LEN};
+    static const uint8_t second_null[1] = {0x0d};
+    static const sel_view wanted[4] = {{LEN, 0, 0, 0}, {0, 0, 0, 0}, {LEN, 0, 1, 0}, {LEN, 0, 1, LEN}};
+    sel_column column = {0};
+    sel_view views[4];
+    size_t count = 0, len = 0;
+    forget_pieces();
+    void *bytes = zeros((size_t)offsets[4]);
+    if (!bytes) {
+        printf("not run: strings far apart, without 3 GB of addresses\n");
+        return;
+    }
+    CHECK(import_piece(piece_of("U", 4, 0, 3, second_null, offsets, bytes), &column, NULL) == SEL_OK);
+    CHECK(sel_views(&column, views, 4) == SEL_OK && !memcmp(views, wanted, sizeof wanted));
+    CHECK(sel_buffer_count(&column, &count) == SEL_OK && count == 2);
+    for (size_t i = 0; i < count; i++) CHECK(sel_buffer_len(&column, i, &len) == SEL_OK && len == (i + 1) * LEN);
+    sel_free(&column);
+    munmap(bytes, (size_t)offsets[4]);
+}
+
+/* A view that begins beyond byte 2,147,483,647 of its data buffer has no format; in a null slot it is exported as an empty one. */
+static void far_views_are_not_exported(void) {
+    static const sel_view views[2] = {{1, 'a', 0, 0}, {13, 0, 0, (uint32_t)3 << 30}};
+    static const int64_t len[1] = {((int64_t)3 << 30) + 13};
+    static const uint8_t first[1] = {1};
+    forget_pieces();
+    void *bytes = zeros((size_t)len[0]);
+    if (!bytes) {
+        printf("not run: views far behind, without 3 GB of addresses\n");
+        return;
+    }
+    for (int has_null = 0; has_null < 2; has_null++) {
+        sel_column column = {0}, part = {0};
+        struct ArrowArray array;
+        struct ArrowSchema schema;
+        piece it = piece_of("vz", 2, 0, 4, NULL, views, bytes);
+        it.array->buffers[3] = len;
+        CHECK(import_piece(it, &column, NULL) == SEL_OK && sel_struct_new(2, first, 1, has_null, &column, 1, &part) == SEL_OK);
+        CHECK(sel_export(&part, NULL, &array, &schema) == (has_null ? SEL_OK : SEL_ERROR_ARROW_RANGE));
+        if (array.release) CHECK(((const sel_view *)array.children[0]->buffers[1])[1].length == 0), array.release(&array), schema.release(&schema);
+        sel_free(&part);
+    }
+    munmap(bytes, (size_t)len[0]);
+}
+
 void test_rules(void) {
     extension_types_stay();
     keys_of_keys_are_decoded();
@@ -337,5 +385,7 @@ void test_rules(void) {
     schemas_are_read_whole();
     slices_of_fixed_bytes_may_begin_late();
     slices_of_lists_have_their_own_elements();
+    strings_far_apart_have_two_buffers();
+    far_views_are_not_exported();
     forget_pieces();
 }

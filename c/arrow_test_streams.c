@@ -25,10 +25,14 @@ static int get_schema(struct ArrowArrayStream *stream, struct ArrowSchema *out) 
     return 0;
 }
 
+/* What a producer leaves in the array of an error is not released. */
+static void release_of_error(struct ArrowArray *array) { CHECK(!array); }
+
 static int get_next(struct ArrowArrayStream *stream, struct ArrowArray *out) {
     producer *it = stream->private_data;
     if (it->next == it->fails_at) {
         it->fails_at = -1;
+        *out = (struct ArrowArray){.length = -1, .release = release_of_error};
         return it->has_error = ENOMEM;
     }
     *out = *it->it.array;
