@@ -165,11 +165,13 @@ static sel_status decode_column(const sel_column *of, const node *type, sel_colu
     return status;
 }
 
-/* Returns a type without dictionaries, at every depth; or NULL if out of memory. */
+/* Returns a type without dictionaries, at every depth; or NULL if out of memory. A dictionary may have nulls whatever its flags and those of the
+ * keys are: then the type is nullable. */
 static node *decoded_type(const node *of) {
     if (of->value_type) {
         node *values = decoded_type(of->value_type);
-        node *it = values ? sel_arrow_node_under(values, of->name, of->metadata, of->metadata_len, of->flags) : NULL;
+        int64_t flags = of->flags | (sel_null_count(&of->values) > 0 ? ARROW_FLAG_NULLABLE : 0);
+        node *it = values ? sel_arrow_node_under(values, of->name, of->metadata, of->metadata_len, flags) : NULL;
         sel_arrow_node_free(values);
         return it;
     }

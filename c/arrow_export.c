@@ -153,7 +153,13 @@ static sel_status rebase(target *t, const int64_t *shared, int64_t **out) {
     return sel_arrow_export_offsets(t, offsets);
 }
 
-/* Exports lists. Offsets that do not begin at 0 are shared with all of the child before them, unless its rows are looked at. */
+/* Tests whether an export copies the values of a type: 128-bit integers, and the offsets of binary, which may have more bytes before those that are
+ * exported than the offsets reach. */
+static bool copies_rows(const node *type) {
+    return type->format.storage == SEL_TYPE_UINT128 || (type->format.layout == OFFSET_BYTES && !type->format.wide);
+}
+
+/* Exports lists. Offsets that do not begin at 0 are shared with all of the child before them, unless its rows are looked at or copied. */
 static sel_status export_list(target *t) {
     sel_column child = {0}, part = {0};
     int64_t *copy = NULL;
@@ -161,7 +167,8 @@ static sel_status export_list(target *t) {
     if (status == SEL_OK) status = sel_child(t->of, &child);
     if (status != SEL_OK) return status;
     const int64_t *offsets = t->array->buffers[1];
-    bool is_shared = t->type->format.wide && (offsets[0] == 0 || !looks_at_rows(t->type->children[0]));
+    const node *element = t->type->children[0];
+    bool is_shared = t->type->format.wide && (offsets[0] == 0 || !(looks_at_rows(element) || copies_rows(element)));
     size_t first = is_shared ? 0 : (size_t)offsets[0];
     status = sel_slice(&child, first, (size_t)offsets[t->len] - first, &part);
     if (status == SEL_OK && !is_shared) status = rebase(t, offsets, &copy);

@@ -207,7 +207,7 @@ static sel_status export_texts(target *t) {
     for (size_t i = 0; status == SEL_OK && i < t->len; i++) {
         const sel_view *view = &it.views[i];
         size_t len = (size_t)(offsets[i + 1] - offsets[i]);
-        const void *from = view->length > 12 && len > 0 ? (const void *)(it.buffers[view->buffer] + view->offset) : &view->prefix;
+        const void *from = view->length > 12 && len > 0 ? (const void *)(it.buffers[view->buffer] + view->offset) : bytes_in_view(view);
         memcpy(bytes + offsets[i], from, len);
     }
     free_texts(&it);
@@ -220,15 +220,12 @@ static sel_status export_texts(target *t) {
 /* Clears the bytes behind a short view's own, as the format requires, and the views that cannot be seen. */
 static sel_status clean_views(const target *t, sel_view *views) {
     for (size_t i = 0; i < t->len; i++) {
-        uint8_t space[12];
         if (!sel_arrow_is_seen(t, i)) memset(&views[i], 0, sizeof views[i]);
         if (views[i].length > 12) {
             if (views[i].length > INT32_MAX || views[i].offset > INT32_MAX || views[i].buffer > INT32_MAX) return SEL_ERROR_ARROW_RANGE;
             continue;
         }
-        memcpy(space, &views[i].prefix, 12);
-        memset(space + views[i].length, 0, 12 - views[i].length);
-        memcpy(&views[i].prefix, space, 12);
+        memset(bytes_in_view(&views[i]) + views[i].length, 0, 12 - views[i].length);
     }
     return SEL_OK;
 }

@@ -33,6 +33,9 @@ static inline bool bit_at(const uint8_t *bits, size_t i) { return bits[i / 8] >>
 
 static inline void set_bit(uint8_t *bits, size_t i) { bits[i / 8] |= (uint8_t)(1u << (i % 8)); }
 
+/* Returns the 12 bytes of a view behind its length, which are those of a short value. */
+static inline uint8_t *bytes_in_view(const sel_view *view) { return (uint8_t *)view + sizeof view->length; }
+
 /* An empty slice still has a pointer that is not null and is aligned. */
 extern const int64_t sel_arrow_nothing[2];
 

@@ -126,7 +126,7 @@ static bool fits(const void *at, size_t len, size_t size) {
 
 sel_status sel_loan_values(sel_loan *loan, sel_type_id type, const void *at, size_t len, const lent_buffer **out) {
     size_t size = size_of(type), align = size < 16 ? size : _Alignof(sel_view);
-    if (!fits(at, len, size)) return SEL_ERROR_OUT_OF_MEMORY;
+    if (!fits(at, len, size)) return SEL_ERROR_ARROW_LENGTH;
     if (len == 0 || (uintptr_t)at % align == 0) return add(loan, type, at, len, NULL, out);
     void *copy = malloc(len * size);
     return copy ? sel_loan_block(loan, type, memcpy(copy, at, len * size), len, out) : SEL_ERROR_OUT_OF_MEMORY;
@@ -152,6 +152,13 @@ void sel_loan_cancel(sel_loan *loan) {
     free(loan->origin);
     loan->origin = NULL;
 }
+
+/* A fork waits for the lock, and both processes give it back: the child has only the thread that forked, so that nobody else could. */
+static void lock_leases(void) { pthread_mutex_lock(&lock); }
+
+static void unlock_leases(void) { pthread_mutex_unlock(&lock); }
+
+__attribute__((constructor)) static void prepare_for_forks(void) { (void)pthread_atfork(lock_leases, unlock_leases, unlock_leases); }
 
 void sel_loan_commit(sel_loan *loan, struct ArrowArray *array) {
     lease *first = loan->leases, *last = first;

@@ -73,7 +73,7 @@ typedef struct sel_loan {
 sel_status sel_loan_begin(sel_loan *loan);
 
 /* Lends `len` values of a type to a buffer, whose address is `out`: integers of up to 64 bits, or views (SEL_TYPE_BINARY_VIEW). Values
- * that are not aligned are copied first. */
+ * that are not aligned are copied first. SEL_ERROR_ARROW_LENGTH if they would end past the last address. */
 sel_status sel_loan_values(sel_loan *loan, sel_type_id type, const void *at, size_t len, const lent_buffer **out);
 
 /* Lends `len` bits. */

@@ -273,11 +273,11 @@ static void dictionaries_and_releases(specimen *it, const format *of) {
     imports(it, of->children > 0 ? SEL_ERROR_ARROW_RELEASED : SEL_OK, "a released child", 0);
 }
 
-/* The status of offsets that rise past every buffer: they are past the child, a string is too long for a view, or the
- * bytes do not fit in memory. */
+/* The status of offsets that rise past every buffer: they are past the child, a string is too long for a view, or no
+ * memory has so many bytes. */
 static uint32_t status_of_huge(const format *of) {
     if (of->children > 0) return SEL_ERROR_OFFSET_RANGE;
-    return of->text[0] == 'U' ? SEL_ERROR_ARROW_RANGE : SEL_ERROR_OUT_OF_MEMORY;
+    return of->text[0] == 'U' ? SEL_ERROR_ARROW_RANGE : SEL_ERROR_ARROW_LENGTH;
 }
 
 /* Offsets at their extremes. */
@@ -323,7 +323,7 @@ static void views_at_extremes(specimen *it, const format *of) {
             it->buffers[1] = rows;
             it->buffers[2] = "abcd";
             it->buffers[3] = unaligned + 1;
-            uint32_t status = lengths[k] < 0 ? SEL_ERROR_ARROW_LENGTH : lengths[k] > 4 ? ANY : SEL_ERROR_VIEW_RANGE;
+            uint32_t status = lengths[k] < 0 || lengths[k] > 4 ? SEL_ERROR_ARROW_LENGTH : SEL_ERROR_VIEW_RANGE;
             imports(it, status, "a view beside a length", lengths[k]);
         }
     }

@@ -76,12 +76,10 @@ sel_status sel_arrow_share_bytes(target *t, size_t from) {
 
 /* Tests whether a view can be exported as it is: it can be seen, its indices fit, and the bytes behind a short one's own are 0. */
 static bool is_clean(const target *t, const sel_view *view, size_t row) {
-    uint8_t space[12];
     if (!sel_arrow_is_seen(t, row)) return view->length == 0 && view->prefix == 0 && view->buffer == 0 && view->offset == 0;
     if (view->length > 12) return view->length <= INT32_MAX && view->offset <= INT32_MAX && view->buffer <= INT32_MAX;
-    memcpy(space, &view->prefix, 12);
     for (size_t i = view->length; i < 12; i++)
-        if (space[i] != 0) return false;
+        if (bytes_in_view(view)[i] != 0) return false;
     return true;
 }
 

@@ -16,6 +16,7 @@ typedef struct reader {
     Array pending;
     node *type;
     bool has_failed; /* the last call of the producer: only then it may be asked for a message */
+    bool has_ended;  /* the producer, which is not called again */
 } reader;
 
 static void free_reader(reader *it) {
@@ -55,12 +56,13 @@ sel_status sel_stream_type(const sel_stream *of, sel_type *type) {
 sel_status sel_stream_next(sel_stream *of, sel_column *out, sel_type *type) {
     reader *it = of->at;
     if (!it) return SEL_ERROR_NO_COLUMN;
-    if (!it->pending.release) it->has_failed = it->source.get_next(&it->source, &it->pending) != 0;
+    if (!it->pending.release && !it->has_ended) it->has_failed = it->source.get_next(&it->source, &it->pending) != 0;
     if (it->has_failed) {
         it->pending.release = NULL;
         return SEL_ERROR_ARROW_STREAM;
     }
     if (it->pending.release) return sel_import(&it->pending, &it->schema, out, type);
+    it->has_ended = true;
     sel_free(out);
     if (type) sel_type_free(type);
     return SEL_OK;

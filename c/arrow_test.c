@@ -55,6 +55,9 @@ static void numbers_that_are_not_aligned_come_in(void) {
     sel_column column = {0};
     CHECK(import("l", 4, 0, 2, buffers, &column) == SEL_OK);
     CHECK(sel_int64_values(&column, rows, 4) == SEL_OK && !memcmp(rows, values, sizeof rows));
+    sel_int128 wide[2];
+    CHECK(import("d:38,0", 2, 0, 2, buffers, &column) == SEL_OK);
+    CHECK(sel_int128_values(&column, wide, 2) == SEL_OK && !memcmp(wide, values, sizeof wide));
     sel_free(&column);
 }
 
@@ -148,6 +151,8 @@ static void null_counts_are_checked(void) {
         CHECK(import_nulls("l", 4, 0, nulls, 2, buffers, &column) == (is_right ? SEL_OK : SEL_ERROR_ARROW_LENGTH));
         if (is_right) CHECK(sel_null_count(&column) == (nulls == 0 ? 0 : 1));
         CHECK(import_nulls("l", 4, 0, nulls, 2, all_valid, &column) == (nulls <= 0 ? SEL_OK : SEL_ERROR_ARROW_LENGTH));
+        /* two rows behind the second, of which none is null */
+        if (nulls <= 2) CHECK(import_nulls("l", 2, 2, nulls, 2, buffers, &column) == (nulls <= 0 ? SEL_OK : SEL_ERROR_ARROW_LENGTH));
     }
     sel_free(&column);
 }
@@ -169,6 +174,15 @@ static void views_in_null_slots_are_not_read(void) {
     }
 }
 
+/* The length and the offset together may be 4,294,967,295. */
+static void most_rows_come_in(void) {
+    sel_column column = {0};
+    CHECK(import("n", (int64_t)UINT32_MAX - 5, 5, 0, NULL, &column) == SEL_OK && sel_len(&column) == UINT32_MAX - 5);
+    CHECK(import("n", UINT32_MAX, 0, 0, NULL, &column) == SEL_OK && sel_null_count(&column) == UINT32_MAX);
+    refuses(SEL_ERROR_TOO_MANY_ROWS, "n", UINT32_MAX, 1, 0, NULL);
+    sel_free(&column);
+}
+
 static void strings_of_statuses(void) {
     for (int status = SEL_ERROR_ARROW_RELEASED; status <= SEL_ERROR_ARROW_STREAM; status++)
         CHECK((strcmp(sel_status_string((sel_status)status), "unknown status") == 0) == (status == 70));
@@ -183,6 +197,7 @@ void test_imports(void) {
     leaves_are_refused();
     views_are_refused();
     null_counts_are_checked();
+    most_rows_come_in();
     views_in_null_slots_are_not_read();
     strings_of_statuses();
 }

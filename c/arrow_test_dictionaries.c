@@ -230,6 +230,22 @@ static void names_are_compared(void) {
     sel_type_free(&type);
 }
 
+/* Each field of the common type is nullable where it is in one of the two. */
+static void fields_are_merged(void) {
+    sel_column fields[2] = {{0}, {0}}, in[2] = {{0}, {0}}, out[2] = {{0}, {0}};
+    sel_type leaves[2] = {{0}, {0}}, types[2] = {{0}, {0}}, type = {0};
+    for (int i = 0; i < 2; i++) {
+        for (int k = 0; k < 2; k++) CHECK(sel_null_new(1, &fields[k]) == SEL_OK && sel_type_new("n", NULL, 0, &leaves[k]) == SEL_OK);
+        CHECK(sel_type_as_field(&leaves[i], "", false, &leaves[i]) == SEL_OK && sel_type_new("+s", leaves, 2, &types[i]) == SEL_OK);
+        CHECK(sel_struct_new(1, SEL_ALL_VALID, fields, 2, &in[i]) == SEL_OK);
+    }
+    CHECK(prints(&types[0], "struct<: null not null, : null>") && prints(&types[1], "struct<: null, : null not null>"));
+    CHECK(!sel_type_equal(&types[0], &types[1]));
+    CHECK(sel_common_type(in, types, 2, out, &type) == SEL_OK && prints(&type, "struct<: null, : null>"));
+    for (int i = 0; i < 2; i++) sel_free(&in[i]), sel_free(&out[i]), sel_type_free(&types[i]), sel_type_free(&leaves[i]);
+    sel_type_free(&type);
+}
+
 static void dictionaries_are_made(void) {
     const int64_t numbers[2] = {5, 6};
     const uint8_t keys[3] = {1, 0, 1};
@@ -332,6 +348,50 @@ static void dictionaries_may_have_nulls(void) {
     }
 }
 
+/* Checks that a decoded column can be exported with its type, which is nullable if the dictionary has nulls. */
+static void is_nullable_if(bool has_nulls, const sel_column *decoded, const sel_type *type) {
+    struct ArrowArray array;
+    struct ArrowSchema schema;
+    sel_column again = {0};
+    sel_status status = sel_export(decoded, type, &array, &schema);
+    CHECK(status == SEL_OK);
+    if (status != SEL_OK) return;
+    CHECK(schema.flags == (has_nulls ? ARROW_FLAG_NULLABLE : 0));
+    CHECK(sel_import(&array, &schema, &again, NULL) == SEL_OK && shows(&again, has_nulls ? "[\"a\",null,\"fourteen chars\"]" : "[\"a\",\"b\",\"fourteen chars\"]"));
+    schema.release(&schema);
+    sel_free(&again);
+}
+
+/* Words in which none is null, in a field that says so. */
+static piece valid_words(void) {
+    piece it = words(text);
+    it.array->buffers[0] = all;
+    it.schema->flags = 0;
+    return it;
+}
+
+/* Keys that are not nullable, of a dictionary with nulls that does not say so: the decoded column has nulls, and its type is nullable. */
+static void decoded_nulls_are_exported(void) {
+    static const uint8_t keys[3] = {0, 1, 2};
+    for (int has_nulls = 0; has_nulls < 2; has_nulls++) {
+        sel_column in[2] = {{0}, {0}}, out[2] = {{0}, {0}};
+        sel_type types[2] = {{0}, {0}}, type = {0};
+        forget_pieces();
+        piece values = valid_words();
+        if (has_nulls) values.array->buffers[0] = second_null;
+        piece it = piece_with(piece_of("C", 3, 0, 2, NULL, keys, NULL), values);
+        it.schema->flags = 0;
+        CHECK(import_piece(it, &in[0], &types[0]) == SEL_OK && import_piece(valid_words(), &in[1], &types[1]) == SEL_OK);
+        CHECK(sel_decode(&in[0], &types[0], &out[0], &type) == SEL_OK);
+        is_nullable_if(has_nulls, &out[0], &type);
+        /* the same, joined with a column without a dictionary */
+        CHECK(sel_common_type(in, types, 2, out, &type) == SEL_OK);
+        is_nullable_if(has_nulls, &out[0], &type);
+        for (int i = 0; i < 2; i++) sel_free(&in[i]), sel_free(&out[i]), sel_type_free(&types[i]);
+        sel_type_free(&type);
+    }
+}
+
 /* Returns no fixed-size lists of two, one level of them above the other, over keys of a dictionary without rows. */
 static piece lists_without_rows(int depth) {
     static const char *const names[] = {"item"};
@@ -406,12 +466,14 @@ void test_dictionaries(void) {
     null_lists_have_no_keys();
     hidden_keys_go_around();
     dictionaries_may_have_nulls();
+    decoded_nulls_are_exported();
     keys_are_checked();
     nested_keys_are_decoded();
     columns_are_joined();
     types_are_joined();
     storage_is_joined();
     names_are_compared();
+    fields_are_merged();
     dictionaries_are_made();
     for (int kind = 0; kind < 4; kind++) {
         forget_pieces();

@@ -33,6 +33,10 @@ static void exports_are_released(void) {
     CHECK(sel_import(&array, &schema, &again, NULL) == SEL_OK && sel_type_of(&again) == SEL_TYPE_UINT128);
     schema.release(&schema);
     sel_free(&again);
+    CHECK(sel_null_new(3, &column) == SEL_OK && sel_export(&column, NULL, &array, &schema) == SEL_OK);
+    CHECK(array.length == 3 && array.null_count == 3 && array.n_buffers == 0);
+    array.release(&array);
+    schema.release(&schema);
     sel_free(&column);
     sel_free(&column);
 }
@@ -58,6 +62,75 @@ static void storage_is_checked_before_values(void) {
         sel_type_free(&children[1]);
         sel_type_free(&type);
     }
+}
+
+/* Decimals have at most 38 digits: their absolute value is below 10 to the 38th. */
+static void decimals_have_38_digits(void) {
+    static const uint64_t high = 0x4b3b4ca85a86c47a, low = 0x098a224000000000; /* 10 to the 38th */
+    static const struct { sel_int128 value; sel_status status; } given[] = {
+        {{low - 1, high}, SEL_OK}, {{low, high}, SEL_ERROR_ARROW_RANGE}, {{0, high + 1}, SEL_ERROR_ARROW_RANGE}, {{0, INT64_MAX}, SEL_ERROR_ARROW_RANGE},
+        {{0 - low + 1, ~high}, SEL_OK}, {{0 - low, ~high}, SEL_ERROR_ARROW_RANGE}, {{UINT64_MAX, ~high - 1}, SEL_ERROR_ARROW_RANGE}, {{0, (uint64_t)1 << 63}, SEL_ERROR_ARROW_RANGE},
+    };
+    sel_column column = {0};
+    for (size_t i = 0; i < sizeof given / sizeof *given; i++) {
+        struct ArrowArray array;
+        struct ArrowSchema schema;
+        CHECK(sel_int128_new(&given[i].value, 1, SEL_ALL_VALID, &column) == SEL_OK);
+        CHECK(sel_export(&column, NULL, &array, &schema) == given[i].status);
+        if (array.release) array.release(&array), schema.release(&schema);
+    }
+    sel_free(&column);
+}
+
+/* A struct has the storage of a type only if it has as many fields. */
+static void fields_are_counted(void) {
+    struct ArrowArray array;
+    struct ArrowSchema schema;
+    sel_type field = {0}, type = {0};
+    CHECK(sel_type_new("n", NULL, 0, &field) == SEL_OK);
+    for (size_t count = 0; count <= 2; count++) {
+        const sel_type fields[2] = {field, field};
+        sel_column columns[1] = {{0}}, column = {0};
+        CHECK(sel_null_new(3, &columns[0]) == SEL_OK && sel_struct_new(3, SEL_ALL_VALID, columns, 1, &column) == SEL_OK);
+        CHECK(sel_type_new("+s", fields, count, &type) == SEL_OK);
+        CHECK(sel_export(&column, &type, &array, &schema) == (count == 1 ? SEL_OK : SEL_ERROR_TYPE_MISMATCH));
+        if (array.release) array.release(&array), schema.release(&schema);
+        sel_free(&column);
+    }
+    sel_type_free(&field);
+    sel_type_free(&type);
+}
+
+/* Fixed-size binary has the storage of lists of unsigned bytes alone. */
+static void bytes_are_unsigned(void) {
+    const int8_t bytes[2] = {1, 2};
+    struct ArrowArray array;
+    struct ArrowSchema schema;
+    sel_column child = {0}, column = {0};
+    sel_type type = {0};
+    CHECK(sel_int8_new(bytes, 2, SEL_ALL_VALID, &child) == SEL_OK && sel_fixed_size_list_new(2, 1, SEL_ALL_VALID, &child, &column) == SEL_OK);
+    CHECK(sel_type_new("w:2", NULL, 0, &type) == SEL_OK && sel_export(&column, &type, &array, &schema) == SEL_ERROR_TYPE_MISMATCH);
+    sel_free(&column);
+    sel_type_free(&type);
+}
+
+/* A null string takes no bytes in an export with offsets. */
+static void null_strings_have_no_bytes(void) {
+    static const sel_view views[3] = {{13, 0x64636261, 0, 0}, {2, 0x6261, 0, 0}, {1, 'a', 0, 0}};
+    const sel_bytes_ref slice = {(const uint8_t *)"abcdefghijklm", 13};
+    const uint8_t valid[1] = {4};
+    struct ArrowArray array;
+    struct ArrowSchema schema;
+    sel_column column = {0};
+    sel_type type = {0};
+    CHECK(sel_string_view_new(views, 3, &slice, 1, valid, 1, true, &column) == SEL_OK && sel_type_new("u", NULL, 0, &type) == SEL_OK);
+    CHECK(sel_export(&column, &type, &array, &schema) == SEL_OK);
+    const int32_t *offsets = array.buffers[1];
+    CHECK(offsets[0] == 0 && offsets[1] == 0 && offsets[2] == 0 && offsets[3] == 1);
+    array.release(&array);
+    schema.release(&schema);
+    sel_free(&column);
+    sel_type_free(&type);
 }
 
 /* Exports a column and checks the status; if it is SEL_OK, imports the arrays again and compares the rows. Returns the
@@ -92,11 +165,11 @@ static void make_wide(sel_column *out) {
 static const uint8_t second_valid[1] = {2}, last_two_valid[1] = {6};
 static const int64_t one_each[4] = {0, 1, 2, 3};
 
-/* Makes a struct, a list or a fixed-size list over three 128-bit integers, one for each row. */
+/* Makes a struct, a list or a fixed-size list over three 128-bit integers, one for each row; without a validity if `bits` is null. */
 static void make_over(int kind, const uint8_t *bits, sel_column *child, sel_column *out) {
-    if (kind == 0) CHECK(sel_struct_new(3, bits, 1, true, child, 1, out) == SEL_OK);
-    if (kind == 1) CHECK(sel_list_new(one_each, 4, bits, 1, true, child, out) == SEL_OK);
-    if (kind == 2) CHECK(sel_fixed_size_list_new(1, 3, bits, 1, true, child, out) == SEL_OK);
+    if (kind == 0) CHECK(sel_struct_new(3, bits, 1, bits, child, 1, out) == SEL_OK);
+    if (kind == 1) CHECK(sel_list_new(one_each, 4, bits, 1, bits, child, out) == SEL_OK);
+    if (kind == 2) CHECK(sel_fixed_size_list_new(1, 3, bits, 1, bits, child, out) == SEL_OK);
 }
 
 /* The value in a null slot has no meaning: it is no error, and is not exported. */
@@ -114,9 +187,9 @@ static void values_in_null_slots_are_not_exported(void) {
         make_wide(&child);
         make_over(kind, last_two_valid, &child, &over);
         export_wide_below(&over, 1, SEL_ERROR_ARROW_RANGE, values, 0);
-        for (int inner = 0; inner < 3; inner++) {
+        for (int inner = 0; inner < 6; inner++) {
             make_wide(&child);
-            make_over(inner, last_two_valid, &child, &over);
+            make_over(inner % 3, inner < 3 ? last_two_valid : NULL, &child, &over);
             make_over(kind, second_valid, &over, &outer);
             export_wide_below(&outer, 2, SEL_OK, values, 3);
             CHECK(is_wide(values[0], 0) && is_wide(values[1], 10) && is_wide(values[2], 0));
@@ -127,21 +200,39 @@ static void values_in_null_slots_are_not_exported(void) {
     sel_free(&part);
 }
 
+/* The elements of two null lists, with an empty list and one of 20 elements between them. */
+static void elements_of_null_lists_are_not_exported(void) {
+    enum { HIDDEN = 21, SHOWN = 20, BEHIND = 3, ALL = HIDDEN + SHOWN + BEHIND };
+    static const int64_t offsets[5] = {0, HIDDEN, HIDDEN, HIDDEN + SHOWN, ALL};
+    static const uint8_t valid[1] = {0x06};
+    sel_int128 rows[ALL], values[ALL];
+    sel_column child = {0}, lists = {0};
+    for (int i = 0; i < ALL; i++) rows[i] = i < HIDDEN || i >= HIDDEN + SHOWN ? too_long : (sel_int128){(uint64_t)i, 0};
+    CHECK(sel_int128_new(rows, ALL, SEL_ALL_VALID, &child) == SEL_OK && sel_list_new(offsets, 5, valid, 1, true, &child, &lists) == SEL_OK);
+    export_wide_below(&lists, 1, SEL_OK, values, ALL);
+    for (uint64_t i = 0; i < ALL; i++) CHECK(is_wide(values[i], i < HIDDEN || i >= HIDDEN + SHOWN ? 0 : i));
+    sel_free(&lists);
+}
+
 /* A view that a null struct hides is exported as an empty one. */
 static void views_in_null_slots_are_cleared(void) {
-    const sel_view views[3] = {{13, 0x64636261, 0, 0}, {1, 'a', 0, 0}, {13, 0x64636261, 0, 0}}, empty = {0, 0, 0, 0};
+    static const sel_view hidden[2] = {{13, 0x64636261, 0, 0}, {0, 0, 0, 7}}; /* of bytes in a buffer, and with bytes behind its own */
+    static const sel_view empty = {0, 0, 0, 0}, letter = {1, 'a', 0, 0};
     const sel_bytes_ref slice = {(const uint8_t *)"abcdefghijklm", 13};
-    sel_column child = {0}, over = {0};
-    struct ArrowArray array;
-    struct ArrowSchema schema;
-    CHECK(sel_string_view_new(views, 3, &slice, 1, some_bits, 0, false, &child) == SEL_OK);
-    make_over(0, second_valid, &child, &over);
-    CHECK(sel_export(&over, NULL, &array, &schema) == SEL_OK);
-    const sel_view *rows = array.children[0]->buffers[1];
-    CHECK(!memcmp(&rows[0], &empty, 16) && !memcmp(&rows[1], &views[1], 16) && !memcmp(&rows[2], &empty, 16));
-    array.release(&array);
-    schema.release(&schema);
-    sel_free(&over);
+    for (int i = 0; i < 2; i++) {
+        const sel_view views[3] = {hidden[i], letter, hidden[i]};
+        sel_column child = {0}, over = {0};
+        struct ArrowArray array;
+        struct ArrowSchema schema;
+        CHECK(sel_string_view_new(views, 3, &slice, 1, some_bits, 0, false, &child) == SEL_OK);
+        make_over(0, second_valid, &child, &over);
+        CHECK(sel_export(&over, NULL, &array, &schema) == SEL_OK);
+        const sel_view *rows = array.children[0]->buffers[1];
+        CHECK(!memcmp(&rows[0], &empty, 16) && !memcmp(&rows[1], &letter, 16) && !memcmp(&rows[2], &empty, 16));
+        array.release(&array);
+        schema.release(&schema);
+        sel_free(&over);
+    }
 }
 
 /* Tuples of a list of texts and a list of two numbers each. */
@@ -209,7 +300,12 @@ void test_exports(void) {
     exports_are_released();
     nulls_of_few_rows_are_counted();
     storage_is_checked_before_values();
+    decimals_have_38_digits();
+    fields_are_counted();
+    bytes_are_unsigned();
+    null_strings_have_no_bytes();
     values_in_null_slots_are_not_exported();
+    elements_of_null_lists_are_not_exported();
     views_in_null_slots_are_cleared();
     each_allocation_is_refused();
 }

@@ -211,8 +211,8 @@ static void nested_go_around(void) {
 
 /* List views in any order and overlapping become lists; a null one may have any bytes. */
 static void list_views_become_lists(void) {
-    static const int32_t offsets[ROWS] = {2, 0, -7, 5, 1}, sizes[ROWS] = {3, 2, INT32_MAX, 0, 4};
-    static const int64_t long_offsets[ROWS] = {2, 0, -7, 5, 1}, long_sizes[ROWS] = {3, 2, INT64_MAX, 0, 4};
+    static const int32_t offsets[ROWS] = {2, 3, -7, 5, 1}, sizes[ROWS] = {3, 1, INT32_MAX, 0, 4};
+    static const int64_t long_offsets[ROWS] = {2, 3, -7, 5, 1}, long_sizes[ROWS] = {3, 1, INT64_MAX, 0, 4};
     static const char *const item[] = {"item"};
     for (int is_long = 0; is_long < 2; is_long++) {
         forget_pieces();
@@ -222,6 +222,29 @@ static void list_views_become_lists(void) {
         struct ArrowSchema wanted = *list.schema;
         wanted.format = is_long ? "+L" : "+l";
         goes_around(list, &wanted, SEL_TYPE_LIST, is_long ? "large_list<item: string>" : "list<item: string>");
+    }
+}
+
+/* Strings of 0 to 14 bytes, of which views hold up to 12: with offsets and as views in, in each format out. */
+static void strings_of_each_length_go_around(void) {
+    enum { LENGTHS = 15 };
+    static const char letters[] = "abcdefghijklmnopqrstuvwxyzabcdefghijklmnopqrstuvwxyzabcdefghijklmnopqrstuvwxyzabcdefghijklmnopqrstuvwxyz";
+    static const char *const formats[] = {"u", "U", "vu"};
+    int32_t starts[LENGTHS + 1] = {0};
+    sel_view found[LENGTHS];
+    int64_t rows[LENGTHS];
+    for (int i = 0; i < LENGTHS; i++) starts[i + 1] = starts[i] + i, rows[i] = i;
+    for (size_t i = 0; i < 3; i++) {
+        sel_column column = {0};
+        sel_type type = {0};
+        forget_pieces();
+        piece from = piece_of("u", LENGTHS, 0, 3, NULL, starts, letters);
+        struct ArrowSchema wanted = type_of_format(formats[i]);
+        CHECK(import_piece(from, &column, NULL) == SEL_OK && sel_type_import(&wanted, &type) == SEL_OK);
+        is_exported(&column, &type, from, &wanted, rows, LENGTHS);
+        CHECK(sel_views(&column, found, LENGTHS) == SEL_OK && found[0].prefix == 0 && found[3].prefix >> 24 == 0 && found[12].offset != 0);
+        sel_free(&column);
+        sel_type_free(&type);
     }
 }
 
@@ -365,7 +388,7 @@ static void fields_without_nulls(void) {
 
 /* A byte string with a null byte has no format; 32-bit offsets end at 2,147,483,647. */
 static void values_out_of_range(void) {
-    const uint8_t bytes[4] = {1, 2, 3, 4}, valid[1] = {0x0d};
+    const uint8_t bytes[4] = {1, 2, 3, 4}, valid[1] = {0x0e};
     struct ArrowArray array;
     struct ArrowSchema schema;
     sel_column child = {0}, column = {0};
@@ -418,6 +441,7 @@ void test_formats(void) {
     leaves_go_around();
     leaves_behind_an_offset();
     nested_go_around();
+    strings_of_each_length_go_around();
     list_views_become_lists();
     list_views_are_refused();
     runs_become_values();

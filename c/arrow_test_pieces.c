@@ -100,10 +100,11 @@ static void put(writer *w, const char *text) {
     w->out[w->len] = 0;
 }
 
-static void put_hex(writer *w, const uint8_t *bytes, size_t len) {
+/* Writes bytes from byte `from` of a buffer on, which may be a null pointer if there are none. */
+static void put_hex(writer *w, const void *buffer, size_t from, size_t len) {
     for (size_t i = 0; i < len; i++) {
         char two[3];
-        snprintf(two, sizeof two, "%02x", bytes[i]);
+        snprintf(two, sizeof two, "%02x", ((const uint8_t *)buffer)[from + i]);
         put(w, two);
     }
 }
@@ -154,13 +155,13 @@ static void put_nested(writer *w, const struct ArrowArray *array, const struct A
 static void put_bytes(writer *w, const struct ArrowArray *array, const char *format, int64_t at) {
     if (format[0] == 'v') {
         const sel_view *view = (const sel_view *)array->buffers[1] + at;
-        const uint8_t *bytes = view->length <= 12 ? (const uint8_t *)&view->prefix : (const uint8_t *)array->buffers[2 + view->buffer] + view->offset;
-        put_hex(w, bytes, view->length);
+        if (view->length <= 12) put_hex(w, view, sizeof view->length, view->length);
+        else put_hex(w, array->buffers[2 + view->buffer], view->offset, view->length);
         return;
     }
     bool wide = format[0] == 'U' || format[0] == 'Z';
     int64_t from = offset_at(array->buffers[1], at, wide), to = offset_at(array->buffers[1], at + 1, wide);
-    put_hex(w, (const uint8_t *)array->buffers[2] + from, (size_t)(to - from));
+    put_hex(w, array->buffers[2], (size_t)from, (size_t)(to - from));
 }
 
 static int64_t key_at(const struct ArrowArray *array, const char *format, int64_t at) {
@@ -192,7 +193,7 @@ static void put_row(writer *w, const struct ArrowArray *array, const struct Arro
     else if (!strcmp(format, "b")) put(w, ((const uint8_t *)array->buffers[1])[at / 8] >> (at % 8) & 1 ? "true" : "false");
     else if (format[0] == '+') put_nested(w, array, schema, at);
     else if (strchr("uUzZv", format[0])) put_bytes(w, array, format, at);
-    else put_hex(w, (const uint8_t *)array->buffers[1] + (size_t)at * size_of_format(format), size_of_format(format));
+    else put_hex(w, array->buffers[1], (size_t)at * size_of_format(format), size_of_format(format));
 }
 
 void write_row(const struct ArrowArray *array, const struct ArrowSchema *schema, int64_t row, char *out, size_t room) {

@@ -197,6 +197,49 @@ static void errors_come_in_order(void) {
     sel_type_free(&deep);
 }
 
+/* Mends error `i` of keys of a dictionary that have them all. Returns the status of the next one. */
+static sel_status mend(int i, piece it) {
+    static struct ArrowArray *dictionary;
+    static const int32_t right[2] = {1, 0};
+    struct ArrowArray *array = it.array;
+    struct ArrowSchema *schema = it.schema;
+    switch (i) {
+    case 0: return array->release = NULL, schema->release = NULL, SEL_ERROR_ARROW_RELEASED;
+    case 1: return array->release = release_array, SEL_ERROR_ARROW_RELEASED;
+    case 2: return schema->release = type_of_format("i").release, schema->metadata = "\xff\xff\xff\xff", schema->format = "w:4294967296", SEL_ERROR_ARROW_LENGTH;
+    case 3: return schema->metadata = NULL, SEL_ERROR_LIST_SIZE;
+    case 4: return schema->format = "f", schema->n_children = 1, SEL_ERROR_ARROW_DICTIONARY;
+    case 5: return schema->format = "i", SEL_ERROR_ARROW_CHILDREN;
+    case 6: return schema->n_children = 0, dictionary = array->dictionary, array->dictionary = NULL, SEL_ERROR_ARROW_DICTIONARY;
+    case 7: return array->dictionary = dictionary, array->length = -1, array->offset = UINT32_MAX, SEL_ERROR_ARROW_LENGTH;
+    case 8: return array->length = 2, array->null_count = 3, SEL_ERROR_TOO_MANY_ROWS;
+    case 9: return array->offset = 0, array->n_children = 1, SEL_ERROR_ARROW_LENGTH;
+    case 10: return array->null_count = 1, array->n_buffers = 3, SEL_ERROR_ARROW_CHILDREN;
+    case 11: return array->n_children = 0, SEL_ERROR_ARROW_BUFFERS;
+    case 12: return array->n_buffers = 2, SEL_ERROR_ARROW_LENGTH; /* a null without a validity */
+    case 13: return array->null_count = 0, dictionary->n_buffers = 3, SEL_ERROR_ARROW_BUFFERS;
+    case 14: return dictionary->n_buffers = 2, SEL_ERROR_INDEX_OUT_OF_BOUNDS;
+    default: return array->buffers[1] = right, SEL_OK;
+    }
+}
+
+/* An import returns the first error that the header lists; once it is mended, the next one. */
+static void imports_check_in_order(void) {
+    static const int32_t wrong[2] = {7, -1};
+    sel_column column = {0};
+    sel_type type = {0};
+    forget_pieces();
+    piece it = piece_with(piece_of("i", 2, 0, 2, NULL, wrong, NULL), piece_of("l", 2, 0, 2, NULL, numbers, NULL));
+    for (int i = 0; i <= 15; i++) {
+        sel_status wanted = mend(i, it);
+        CHECK(import_piece(it, &column, &type) == wanted && (wanted == SEL_OK) == (column.at != NULL));
+        /* without room for the type, once the schema is right */
+        if (i >= 6) CHECK(import_piece(it, &column, NULL) == SEL_ERROR_ARROW_DICTIONARY);
+    }
+    sel_free(&column);
+    sel_type_free(&type);
+}
+
 /* The ends of runs are checked with the schema. A search for an unsupported format ends, though a schema is below itself. */
 static void schemas_are_read_whole(void) {
     sel_type type = {0};
@@ -216,6 +259,56 @@ static void schemas_are_read_whole(void) {
     sel_type_free(&type);
 }
 
+/* Maps bytes that are all 0, without memory; or returns NULL if there are not so many addresses. */
+static void *zeros(size_t bytes) {
+    void *at = mmap(NULL, bytes, PROT_READ, MAP_PRIVATE | MAP_ANONYMOUS | MAP_NORESERVE, -1, 0);
+    return at == MAP_FAILED ? NULL : at;
+}
+
+/* Exports a slice of one list, of one element: the elements before it are not exported. */
+static void exports_one_element(const sel_column *lists, const sel_type *type) {
+    sel_column part = {0};
+    struct ArrowArray array;
+    struct ArrowSchema schema;
+    CHECK(sel_slice(lists, 1, 1, &part) == SEL_OK);
+    bool is_done = sel_export(&part, type, &array, &schema) == SEL_OK;
+    CHECK(is_done);
+    sel_free(&part);
+    if (!is_done) return;
+    const int64_t *offsets = array.buffers[1];
+    CHECK(array.children[0]->length == 1 && offsets[0] == 0 && offsets[1] == 1);
+    array.release(&array);
+    schema.release(&schema);
+}
+
+/* The elements of a part of a list column, if they are copied on export, are those of its own lists: the others may be too many bytes for
+ * 32-bit offsets. */
+static void slices_of_lists_have_their_own_elements(void) {
+    static const int64_t lists[3] = {0, 1, 2}, offsets[3] = {0, (int64_t)3 << 30, ((int64_t)3 << 30) + 5};
+    static const char *const names[] = {"item"};
+    sel_column column = {0};
+    sel_type element = {0}, type = {0};
+    struct ArrowArray array;
+    struct ArrowSchema schema;
+    forget_pieces();
+    CHECK(import_piece(piece_over(piece_of("+L", 2, 0, 2, NULL, lists, NULL), 1, (const piece[1]){large_numbers()}, names), &column, &type) == SEL_OK);
+    exports_one_element(&column, &type);
+    void *bytes = zeros((size_t)offsets[2]);
+    if (!bytes) {
+        printf("not run: slices of lists of binary, without 3 GB of addresses\n");
+    } else {
+        piece binary = piece_of("Z", 2, 0, 3, NULL, offsets, bytes);
+        CHECK(import_piece(piece_over(piece_of("+L", 2, 0, 2, NULL, lists, NULL), 1, &binary, names), &column, NULL) == SEL_OK);
+        CHECK(sel_type_new("z", NULL, 0, &element) == SEL_OK && sel_type_new("+L", &element, 1, &type) == SEL_OK);
+        CHECK(sel_export(&column, &type, &array, &schema) == SEL_ERROR_ARROW_RANGE && !array.release && !schema.release);
+        exports_one_element(&column, &type);
+    }
+    sel_free(&column);
+    sel_type_free(&element);
+    sel_type_free(&type);
+    if (bytes) munmap(bytes, (size_t)offsets[2]);
+}
+
 /* The rows of a slice may be few, though the bytes before them are many; but not more than a column has, of bytes of the list's child. */
 static void slices_of_fixed_bytes_may_begin_late(void) {
     enum { OFFSET = 300000000, LEN = 10, WIDTH = 16 };
@@ -223,14 +316,62 @@ static void slices_of_fixed_bytes_may_begin_late(void) {
     sel_column column = {0};
     forget_pieces();
     CHECK(import_piece(piece_of("w:1000", 4294968, 0, 2, NULL, numbers, NULL), &column, NULL) == SEL_ERROR_TOO_MANY_ROWS);
-    const void *values = mmap(NULL, bytes, PROT_READ, MAP_PRIVATE | MAP_ANONYMOUS | MAP_NORESERVE, -1, 0);
-    if (values == MAP_FAILED) {
+    void *values = zeros(bytes);
+    if (!values) {
         printf("not run: slices of fixed-size binary that begin late, without 5 GB of addresses\n");
         return;
     }
     CHECK(import_piece(piece_of("w:16", LEN, OFFSET, 2, NULL, values, NULL), &column, NULL) == SEL_OK && sel_len(&column) == LEN);
     sel_free(&column);
-    munmap((void *)values, bytes);
+    munmap(values, bytes);
+}
+
+/* Strings with offsets that are too far apart for one data buffer are views of two; the null one between them is not read. */
+static void strings_far_apart_have_two_buffers(void) {
+    enum { LEN = 20 };
+    static const int64_t offsets[5] = {0, LEN, (int64_t)3 << 30, ((int64_t)3 << 30) + LEN, ((int64_t)3 << 30) + 2 * LEN};
+    static const uint8_t second_null[1] = {0x0d};
+    static const sel_view wanted[4] = {{LEN, 0, 0, 0}, {0, 0, 0, 0}, {LEN, 0, 1, 0}, {LEN, 0, 1, LEN}};
+    sel_column column = {0};
+    sel_view views[4];
+    size_t count = 0, len = 0;
+    forget_pieces();
+    void *bytes = zeros((size_t)offsets[4]);
+    if (!bytes) {
+        printf("not run: strings far apart, without 3 GB of addresses\n");
+        return;
+    }
+    CHECK(import_piece(piece_of("U", 4, 0, 3, second_null, offsets, bytes), &column, NULL) == SEL_OK);
+    CHECK(sel_views(&column, views, 4) == SEL_OK && !memcmp(views, wanted, sizeof wanted));
+    CHECK(sel_buffer_count(&column, &count) == SEL_OK && count == 2);
+    for (size_t i = 0; i < count; i++) CHECK(sel_buffer_len(&column, i, &len) == SEL_OK && len == (i + 1) * LEN);
+    sel_free(&column);
+    munmap(bytes, (size_t)offsets[4]);
+}
+
+/* A view that begins beyond byte 2,147,483,647 of its data buffer has no format; in a null slot it is exported as an empty one. */
+static void far_views_are_not_exported(void) {
+    static const sel_view views[2] = {{1, 'a', 0, 0}, {13, 0, 0, (uint32_t)3 << 30}};
+    static const int64_t len[1] = {((int64_t)3 << 30) + 13};
+    static const uint8_t first[1] = {1};
+    forget_pieces();
+    void *bytes = zeros((size_t)len[0]);
+    if (!bytes) {
+        printf("not run: views far behind, without 3 GB of addresses\n");
+        return;
+    }
+    for (int has_null = 0; has_null < 2; has_null++) {
+        sel_column column = {0}, part = {0};
+        struct ArrowArray array;
+        struct ArrowSchema schema;
+        piece it = piece_of("vz", 2, 0, 4, NULL, views, bytes);
+        it.array->buffers[3] = len;
+        CHECK(import_piece(it, &column, NULL) == SEL_OK && sel_struct_new(2, first, 1, has_null, &column, 1, &part) == SEL_OK);
+        CHECK(sel_export(&part, NULL, &array, &schema) == (has_null ? SEL_OK : SEL_ERROR_ARROW_RANGE));
+        if (array.release) CHECK(((const sel_view *)array.children[0]->buffers[1])[1].length == 0), array.release(&array), schema.release(&schema);
+        sel_free(&part);
+    }
+    munmap(bytes, (size_t)len[0]);
 }
 
 void test_rules(void) {
@@ -240,7 +381,11 @@ void test_rules(void) {
     decimals_have_128_bits();
     extension_types_have_parameters();
     errors_come_in_order();
+    imports_check_in_order();
     schemas_are_read_whole();
     slices_of_fixed_bytes_may_begin_late();
+    slices_of_lists_have_their_own_elements();
+    strings_far_apart_have_two_buffers();
+    far_views_are_not_exported();
     forget_pieces();
 }

@@ -25,10 +25,14 @@ static int get_schema(struct ArrowArrayStream *stream, struct ArrowSchema *out) 
     return 0;
 }
 
+/* What a producer leaves in the array of an error is not released. */
+static void release_of_error(struct ArrowArray *array) { CHECK(!array); }
+
 static int get_next(struct ArrowArrayStream *stream, struct ArrowArray *out) {
     producer *it = stream->private_data;
     if (it->next == it->fails_at) {
         it->fails_at = -1;
+        *out = (struct ArrowArray){.length = -1, .release = release_of_error};
         return it->has_error = ENOMEM;
     }
     *out = *it->it.array;
@@ -77,7 +81,11 @@ static void streams_are_read(void) {
             CHECK(released == i); /* the batch before this one */
         }
         CHECK(sel_stream_next(&stream, &batch, &type) == SEL_OK && !batch.at && !type.at);
-        CHECK(sel_stream_next(&stream, &batch, NULL) == SEL_OK && !batch.at);
+        /* the producer is not called after its end, when it would return an error or begin again */
+        from.fails_at = from.next;
+        CHECK(sel_stream_next(&stream, &batch, NULL) == SEL_OK && !batch.at && !sel_stream_message(&stream));
+        from.next = 0;
+        CHECK(sel_stream_next(&stream, &batch, NULL) == SEL_OK && !batch.at && from.next == 0);
         CHECK(from.releases == 0);
         sel_stream_free(&stream);
         CHECK(from.releases == 1 && !stream.at);

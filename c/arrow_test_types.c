@@ -32,7 +32,7 @@ static void types_are_refused(void) {
     };
     sel_type children[2] = {{0}, {0}}, out = {0}, before;
     struct ArrowSchema schema;
-    uint8_t room[4];
+    uint8_t room[4] = {0, 0, 0, 9};
     size_t len = 7;
     CHECK(sel_type_new("+l", children, 1, &out) == SEL_ERROR_NO_COLUMN && !out.at);
     CHECK(sel_type_new("i", NULL, 0, &children[0]) == SEL_OK && sel_type_new("u", NULL, 0, &children[1]) == SEL_OK);
@@ -47,8 +47,10 @@ static void types_are_refused(void) {
     CHECK(sel_type_export(&out, &schema) == SEL_ERROR_NO_COLUMN && !schema.release);
     CHECK(sel_type_as_field(&out, "", true, &children[0]) == SEL_ERROR_NO_COLUMN && sel_type_child(&out, 0, &children[0]) == SEL_ERROR_NO_COLUMN);
     CHECK(sel_type_format(&out, room, 4, &len) == SEL_ERROR_NO_COLUMN && len == 7 && sel_type_child_count(&out) == 0);
+    sel_column values = {0};
+    CHECK(sel_type_dictionary(&out, &values, &children[0]) == SEL_ERROR_NO_COLUMN && !values.at && prints(&children[0], "i32"));
     CHECK(!sel_type_name(&out) && !sel_type_arrow_format(&out) && sel_type_equal(&out, &out) && !sel_type_equal(&out, &children[0]));
-    CHECK(sel_type_format(&children[1], room, 3, &len) == SEL_OK && len == 6 && !memcmp(room, "str", 3));
+    CHECK(sel_type_format(&children[1], room, 3, &len) == SEL_OK && len == 6 && !memcmp(room, "str\t", 4));
     /* 128 levels, and no more */
     sel_type deep = {0};
     CHECK(sel_type_share(&children[0], &deep) == SEL_OK);
@@ -71,11 +73,38 @@ static void metadata_is_checked(void) {
     struct ArrowSchema schema = type_of_format("i");
     schema.metadata = "\0\0\0\0";
     CHECK(sel_type_import(&schema, &out) == SEL_OK && prints(&out, "i32"));
+    static const char *const others[] = {"\1\0\0\0\1\0\0\0k\1\0\0\0v", "\1\0\0\0\1\0\0\0k\1\0\0\0w", "\1\0\0\0\1\0\0\0k\2\0\0\0ww", NULL};
+    for (size_t i = 0; i < 4; i++) {
+        sel_type other = {0};
+        schema.metadata = others[i];
+        CHECK(sel_type_import(&schema, &other) == SEL_OK && !sel_type_equal(&out, &other) && sel_type_share(&other, &out) == SEL_OK);
+        sel_type_free(&other);
+    }
+    schema.metadata = "\1\0\0\0\x14\0\0\0" "ARROW:extension:size" "\4\0\0\0" "uuid"; /* a key as long as that of the name */
+    CHECK(sel_type_import(&schema, &out) == SEL_OK && prints(&out, "i32"));
     schema.format = "w:4";
     schema.metadata = "\2\0\0\0\1\0\0\0k\0\0\0\0\x14\0\0\0" "ARROW:extension:name" "\4\0\0\0" "uuid";
     CHECK(sel_type_import(&schema, &out) == SEL_OK && prints(&out, "extension<uuid, fixed_size_binary[4]>"));
     schema.format = "tin"; /* its storage is that of the extension type sel.uint128 */
     CHECK(sel_type_import(&schema, &out) == SEL_OK && prints(&out, "extension<uuid, month_day_nano_interval>"));
+    sel_type_free(&out);
+}
+
+/* The child of a map is a struct of two fields. */
+static void entries_are_checked(void) {
+    struct ArrowSchema field = type_of_format("l"), entries = type_of_format("+s"), map = type_of_format("+m");
+    struct ArrowSchema *fields[3] = {&field, &field, &field}, *below[1] = {&entries};
+    sel_type out = {0};
+    entries.children = fields;
+    map.n_children = 1;
+    map.children = below;
+    for (entries.n_children = 0; entries.n_children <= 3; entries.n_children++) {
+        CHECK(sel_type_import(&map, &out) == (entries.n_children == 2 ? SEL_OK : SEL_ERROR_ARROW_CHILDREN));
+        CHECK((entries.n_children < 2) == !out.at);
+    }
+    entries.format = "+w:2";
+    entries.n_children = 1;
+    CHECK(sel_type_import(&map, &out) == SEL_ERROR_ARROW_CHILDREN && prints(&out, "map<i64, i64>"));
     sel_type_free(&out);
 }
 
@@ -124,6 +153,7 @@ void test_types(void) {
     types_are_made();
     types_are_refused();
     metadata_is_checked();
+    entries_are_checked();
     types_of_storage();
     CHECK(sel_parse((const uint8_t *)dtype, strlen(dtype), (const uint8_t *)rows, strlen(rows), &at, &column) == SEL_OK);
     refuse_each(make_types, &column, "types");

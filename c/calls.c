@@ -1,5 +1,6 @@
 /* The calls with arrays. Written by tools/header.py from the sources. Each replaces a null pointer to an empty array,
- * which the proved function must not get, by a valid one. */
+ * which the proved function must not get, by a valid one. The bits of a validity that is ignored are an empty array,
+ * whatever length the caller passes. */
 #include "sel.h"
 
 #include <stdlib.h>
@@ -54,6 +55,7 @@ sel_status sel_boolean_new(
     size_t bits_len,
     bool has_bits,
     sel_column *out) {
+    if (!has_bits) bits_len = 0;
     return sel_proved_boolean_new(
         input(values, values_len), values_len, len, input(bits, bits_len), bits_len, has_bits, out);
 }
@@ -72,6 +74,7 @@ sel_status sel_int8_new(
     size_t bits_len,
     bool has_bits,
     sel_column *out) {
+    if (!has_bits) bits_len = 0;
     return sel_proved_int8_new(
         input(values, values_len), values_len, input(bits, bits_len), bits_len, has_bits, out);
 }
@@ -90,6 +93,7 @@ sel_status sel_int16_new(
     size_t bits_len,
     bool has_bits,
     sel_column *out) {
+    if (!has_bits) bits_len = 0;
     return sel_proved_int16_new(
         input(values, values_len), values_len, input(bits, bits_len), bits_len, has_bits, out);
 }
@@ -108,6 +112,7 @@ sel_status sel_int32_new(
     size_t bits_len,
     bool has_bits,
     sel_column *out) {
+    if (!has_bits) bits_len = 0;
     return sel_proved_int32_new(
         input(values, values_len), values_len, input(bits, bits_len), bits_len, has_bits, out);
 }
@@ -126,6 +131,7 @@ sel_status sel_int64_new(
     size_t bits_len,
     bool has_bits,
     sel_column *out) {
+    if (!has_bits) bits_len = 0;
     return sel_proved_int64_new(
         input(values, values_len), values_len, input(bits, bits_len), bits_len, has_bits, out);
 }
@@ -144,6 +150,7 @@ sel_status sel_uint8_new(
     size_t bits_len,
     bool has_bits,
     sel_column *out) {
+    if (!has_bits) bits_len = 0;
     return sel_proved_uint8_new(
         input(values, values_len), values_len, input(bits, bits_len), bits_len, has_bits, out);
 }
@@ -162,6 +169,7 @@ sel_status sel_uint16_new(
     size_t bits_len,
     bool has_bits,
     sel_column *out) {
+    if (!has_bits) bits_len = 0;
     return sel_proved_uint16_new(
         input(values, values_len), values_len, input(bits, bits_len), bits_len, has_bits, out);
 }
@@ -180,6 +188,7 @@ sel_status sel_uint32_new(
     size_t bits_len,
     bool has_bits,
     sel_column *out) {
+    if (!has_bits) bits_len = 0;
     return sel_proved_uint32_new(
         input(values, values_len), values_len, input(bits, bits_len), bits_len, has_bits, out);
 }
@@ -198,6 +207,7 @@ sel_status sel_uint64_new(
     size_t bits_len,
     bool has_bits,
     sel_column *out) {
+    if (!has_bits) bits_len = 0;
     return sel_proved_uint64_new(
         input(values, values_len), values_len, input(bits, bits_len), bits_len, has_bits, out);
 }
@@ -216,6 +226,7 @@ sel_status sel_int128_new(
     size_t bits_len,
     bool has_bits,
     sel_column *out) {
+    if (!has_bits) bits_len = 0;
     return sel_proved_int128_new(
         input(values, values_len), values_len, input(bits, bits_len), bits_len, has_bits, out);
 }
@@ -239,6 +250,7 @@ sel_status sel_uint128_new(
     size_t bits_len,
     bool has_bits,
     sel_column *out) {
+    if (!has_bits) bits_len = 0;
     return sel_proved_uint128_new(
         input(values, values_len), values_len, input(bits, bits_len), bits_len, has_bits, out);
 }
@@ -266,6 +278,7 @@ sel_status sel_binary_new(
     size_t bits_len,
     bool has_bits,
     sel_column *out) {
+    if (!has_bits) bits_len = 0;
     return sel_proved_binary_new(
         input(offsets, offsets_len), offsets_len, input(values, values_len), values_len, input(bits, bits_len),
         bits_len, has_bits, out);
@@ -287,6 +300,7 @@ sel_status sel_list_new(
     bool has_bits,
     sel_column *child,
     sel_column *out) {
+    if (!has_bits) bits_len = 0;
     return sel_proved_list_new(
         input(offsets, offsets_len), offsets_len, input(bits, bits_len), bits_len, has_bits, child, out);
 }
@@ -307,6 +321,7 @@ sel_status sel_fixed_size_list_new(
     bool has_bits,
     sel_column *child,
     sel_column *out) {
+    if (!has_bits) bits_len = 0;
     return sel_proved_fixed_size_list_new(width, len, input(bits, bits_len), bits_len, has_bits, child, out);
 }
 
@@ -326,6 +341,7 @@ sel_status sel_struct_new(
     sel_column *fields,
     size_t fields_len,
     sel_column *out) {
+    if (!has_bits) bits_len = 0;
     return sel_proved_struct_new(
         len, input(bits, bits_len), bits_len, has_bits, output(fields, fields_len), fields_len, out);
 }
@@ -348,6 +364,7 @@ sel_status sel_binary_view_new(
     size_t bits_len,
     bool has_bits,
     sel_column *out) {
+    if (!has_bits) bits_len = 0;
     byte_refs buffers_refs;
     if (!read_byte_refs(buffers, buffers_len, &buffers_refs)) return SEL_ERROR_OUT_OF_MEMORY;
     sel_status result = sel_proved_binary_view_new(
@@ -375,6 +392,7 @@ sel_status sel_string_view_new(
     size_t bits_len,
     bool has_bits,
     sel_column *out) {
+    if (!has_bits) bits_len = 0;
     byte_refs buffers_refs;
     if (!read_byte_refs(buffers, buffers_len, &buffers_refs)) return SEL_ERROR_OUT_OF_MEMORY;
     sel_status result = sel_proved_string_view_new(
@@ -485,6 +503,7 @@ sel_status sel_take_rows(
     size_t bits_len,
     bool has_bits,
     sel_column *out) {
+    if (!has_bits) bits_len = 0;
     return sel_proved_take_rows(
         of, input(indices, indices_len), indices_len, input(bits, bits_len), bits_len, has_bits, out);
 }
@@ -525,6 +544,7 @@ sel_status sel_collect_rows(
     size_t bits_len,
     bool has_bits,
     sel_column *out) {
+    if (!has_bits) bits_len = 0;
     return sel_proved_collect_rows(
         input(sources, sources_len), sources_len, input(picks, picks_len), picks_len, input(bits, bits_len),
         bits_len, has_bits, out);

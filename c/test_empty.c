@@ -4,6 +4,22 @@
 #include <stdio.h>
 #include <string.h>
 
+/* What the proved functions of two calls are replaced by, with -Wl,--wrap=NAME: they must not get a null pointer. */
+sel_status __real_sel_proved_int64_new(const int64_t *values, size_t values_len, const uint8_t *bits, size_t bits_len, bool has_bits, sel_column *out);
+sel_status __wrap_sel_proved_int64_new(const int64_t *values, size_t values_len, const uint8_t *bits, size_t bits_len, bool has_bits, sel_column *out);
+sel_status __real_sel_proved_take_rows(const sel_column *of, const uint32_t *indices, size_t indices_len, const uint8_t *bits, size_t bits_len, bool has_bits, sel_column *out);
+sel_status __wrap_sel_proved_take_rows(const sel_column *of, const uint32_t *indices, size_t indices_len, const uint8_t *bits, size_t bits_len, bool has_bits, sel_column *out);
+
+sel_status __wrap_sel_proved_int64_new(const int64_t *values, size_t values_len, const uint8_t *bits, size_t bits_len, bool has_bits, sel_column *out) {
+    IS(values != NULL && bits != NULL);
+    return __real_sel_proved_int64_new(values, values_len, bits, bits_len, has_bits, out);
+}
+
+sel_status __wrap_sel_proved_take_rows(const sel_column *of, const uint32_t *indices, size_t indices_len, const uint8_t *bits, size_t bits_len, bool has_bits, sel_column *out) {
+    IS(indices != NULL && bits != NULL);
+    return __real_sel_proved_take_rows(of, indices, indices_len, bits, bits_len, has_bits, out);
+}
+
 /* Tests whether a call made a column of `len` rows of a type, and frees it. */
 static void makes(sel_status status, sel_column *out, sel_type_id type, size_t len, int line) {
     const bool holds = done(status) && (status != SEL_OK || (sel_type_of(out) == type && sel_len(out) == len && sel_null_count(out) == 0));
@@ -30,6 +46,7 @@ static void test_empty_makers(void) {
     MAKES(sel_int32_new(NULL, 0, SEL_ALL_VALID, &out), SEL_TYPE_INT32, 0);
     MAKES(sel_int64_new(NULL, 0, SEL_ALL_VALID, &out), SEL_TYPE_INT64, 0);
     MAKES(sel_int64_new((const int64_t[2]){1, 2}, 2, SEL_ALL_VALID, &out), SEL_TYPE_INT64, 2);
+    MAKES(sel_int64_new((const int64_t[2]){1, 2}, 2, NULL, 1, false, &out), SEL_TYPE_INT64, 2); /* the bits are ignored */
     MAKES(sel_uint8_new(NULL, 0, NULL, 0, true, &out), SEL_TYPE_UINT8, 0);
     MAKES(sel_uint16_new(NULL, 0, SEL_ALL_VALID, &out), SEL_TYPE_UINT16, 0);
     MAKES(sel_uint32_new(NULL, 0, SEL_ALL_VALID, &out), SEL_TYPE_UINT32, 0);
@@ -74,6 +91,7 @@ void test_empty_inputs(void) {
     if (of.at != NULL) {
         MAKES(sel_filter_bits(&of, NULL, 0, 0, &out), SEL_TYPE_INT64, 0);
         MAKES(sel_take_rows(&of, NULL, 0, SEL_ALL_VALID, &out), SEL_TYPE_INT64, 0);
+        MAKES(sel_take_rows(&of, NULL, 0, NULL, SIZE_MAX, false, &out), SEL_TYPE_INT64, 0);
         MAKES(sel_collect_rows(&of, 1, NULL, 0, SEL_ALL_VALID, &out), SEL_TYPE_INT64, 0);
     }
     sel_free(&of);

@@ -260,6 +260,10 @@ static void views_keep_their_addresses(void) {
     exports_at(&column, 1, views);
     exports_at(&column, 2, first);
     exports_at(&column, 3, second);
+    for (size_t i = 0; i < 2; i++) {
+        size_t len = 0;
+        IS(sel_buffer_len(&column, i, &len) == SEL_OK && (int64_t)len == ((const int64_t *)p.buffers[0][4])[i]);
+    }
     ends(&p, &column);
 }
 

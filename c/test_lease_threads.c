@@ -1,7 +1,8 @@
 /* Tests lent memory on several threads: columns over it are shared, sliced, exported, passed to the next thread and freed there. Each
- * array is released once, by whatever thread frees its last owner. Made to be run under helgrind.
+ * array is released once, by whatever thread frees its last owner; also in a process that is forked meanwhile. Made to be run under helgrind.
  *
  * test_lease_threads ROUNDS */
+#define _POSIX_C_SOURCE 200809L
 #include "sel_arrow.h"
 
 #include <pthread.h>
@@ -9,6 +10,8 @@
 #include <stdio.h>
 #include <stdlib.h>
 #include <string.h>
+#include <sys/wait.h>
+#include <unistd.h>
 
 enum { THREADS = 8, ROWS = 64 };
 
@@ -143,6 +146,58 @@ static void chains_need_no_stack(void) {
     pthread_attr_destroy(&attributes);
 }
 
+/* ---- forks */
+
+enum { HELD = 500, SECONDS = 60 };
+
+static producer producers[HELD];
+static sel_column held[HELD];
+static atomic_bool is_over;
+
+/* Frees all columns. Returns whether each array was released once. */
+static bool free_held(void) {
+    bool is_right = true;
+    for (size_t i = 0; i < HELD; i++) sel_free(&held[i]);
+    for (size_t i = 0; i <= HELD / 64; i++) sel_free(&held[0]);
+    for (size_t i = 0; i < HELD; i++) is_right = is_right && atomic_load(&producers[i].releases) == 1;
+    return is_right;
+}
+
+/* Looks for arrays to release, again and again, which takes the lock of the library for most of the time. */
+static void *sweep(void *unused) {
+    sel_column column = {0};
+    struct ArrowArray array;
+    struct ArrowSchema schema;
+    (void)unused;
+    CHECK(sel_null_new(1, &column) == SEL_OK);
+    while (!atomic_load(&is_over) && sel_export(&column, NULL, &array, &schema) == SEL_OK) {
+        schema.release(&schema);
+        array.release(&array);
+    }
+    CHECK(atomic_load(&is_over));
+    sel_free(&column);
+    return NULL;
+}
+
+/* A process that is forked while another thread has the lock frees its columns, and releases their arrays. */
+static void forks_have_the_lock(void) {
+    pthread_t thread;
+    for (size_t i = 0; i < HELD; i++) CHECK(import(&producers[i], 0, &held[i]));
+    CHECK(pthread_create(&thread, NULL, sweep, NULL) == 0);
+    for (long i = 0; i <= rounds / 20; i++) {
+        int status = -1;
+        pid_t child = fork();
+        if (child == 0) {
+            alarm(SECONDS);
+            _exit(free_held() ? 0 : 1);
+        }
+        CHECK(child > 0 && waitpid(child, &status, 0) == child && status == 0);
+        if (status != 0) break;
+    }
+    atomic_store(&is_over, true);
+    CHECK(pthread_join(thread, NULL) == 0 && free_held());
+}
+
 int main(int argc, char **argv) {
     pthread_t threads[THREADS];
     worker workers[THREADS];
@@ -164,6 +219,7 @@ int main(int argc, char **argv) {
         free(workers[i].producers);
     }
     chains_need_no_stack();
+    forks_have_the_lock();
     printf("%d threads, %ld rounds, %d failures\n", THREADS, rounds, failures);
     return failures ? 1 : 0;
 }

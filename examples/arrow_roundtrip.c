@@ -1,4 +1,4 @@
-/* Imports a column from an Arrow array, filters it, and exports it with its type.  cc arrow_roundtrip.c -I../include ../build/libsel.a */
+/* Imports a column from an Arrow array, filters it, and exports it with its type.  cc arrow_roundtrip.c -I../include ../build/libsel.a -pthread */
 #include "sel_arrow.h"
 
 #include <stdio.h>
@@ -19,6 +19,7 @@ int main(void) {
     sel_type logical = {0}; /* the type that the schema describes */
     const uint8_t keep = 0x05; /* the first and the third row */
     sel_status status = sel_import(&array, &schema, &column, &logical);
+    if (array.release) array.release(&array); /* an import that fails leaves the array to its caller */
     schema.release(&schema);
     if (status == SEL_OK) status = sel_filter_bits(&column, &keep, 1, 3, &kept);
     sel_free(&column);

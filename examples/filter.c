@@ -1,4 +1,4 @@
-/* Filters a column by a mask, and takes rows of it by their numbers.  cc filter.c -I../include ../build/libsel.a */
+/* Filters a column by a mask, and takes rows of it by their numbers.  cc filter.c -I../include ../build/libsel.a -pthread */
 #include "sel_arrow.h"
 
 #include <inttypes.h>

@@ -11,8 +11,8 @@
  *     12 bytes                                      behind its own
  *     views of strings with offsets, which are new  strings that the type has with offsets
  *     list views and runs, which become lists and   offsets of a part of a list column that do not begin at 0, if
- *     values                                        its elements are nested, strings, views or decimals of 128
- *                                                   bits, or not nullable
+ *     values                                        its elements are nested, fixed-size binary, strings, views,
+ *                                                   128-bit integers or binary with 32-bit offsets, or not nullable
  *
  * The bytes, values and children that copied offsets and views refer to are not copied, except for 128-bit integers,
  * list views, runs, and strings that are exported with offsets.
@@ -106,19 +106,27 @@ typedef struct sel_type {
  * keys; the dictionary is a part of the type. For any other format the status is SEL_ERROR_ARROW_FORMAT, and
  * sel_unsupported_format returns the format.
  *
- * A released array is SEL_ERROR_ARROW_RELEASED. Then the schema is checked, at every depth. Before a buffer of an array
- * is read, the counts of its level are checked: the length and the offset are not negative and are at most
- * 4,294,967,295 together (SEL_ERROR_TOO_MANY_ROWS), the null count is -1 or at most the length, the array has as many
- * buffers and children as its format (n and +r may have any buffers), and no more than 2,147,483,647. Then the rules of
- * columns are checked: a null count above 0 is the number of nulls in the validity, and run ends increase; a view or a
- * key in a null slot may be any bytes. The producer must ensure that the buffers are as long as the length, the offset
- * and the offsets buffer say: no call can check that.
+ * Before a buffer of an array is read, the counts of its level are checked: the length and the offset are not negative
+ * and are at most 4,294,967,295 together, the null count is -1 or at most the length, the array has as many buffers and
+ * children as its format (n and +r may have any buffers), and no more than 2,147,483,647. Then the rules of columns are
+ * checked: a null count above 0 is the number of nulls in the validity, and run ends increase; a view or a key in a
+ * null slot may be any bytes. The producer must ensure that the buffers are as long as the length, the offset and the
+ * offsets buffer say: no call can check that.
  *
- * Errors: SEL_ERROR_OUT_OF_MEMORY, SEL_ERROR_TOO_DEEP (a list, struct or dictionary below 128 others, whose children
- * are not read), SEL_ERROR_ARROW_DICTIONARY (an array with a dictionary, and `type` is null),
- * SEL_ERROR_INDEX_OUT_OF_BOUNDS (a key), SEL_ERROR_ROW_LIMIT and SEL_ERROR_OFFSET_LIMIT (the lists or values that list
- * views and runs become exceed a size limit), the status of the rule of columns that is broken, or a SEL_ERROR_ARROW_
- * status. */
+ * Errors: SEL_ERROR_ARROW_RELEASED: the array is released.
+ * Then of the schema, of each level before those below it: SEL_ERROR_ARROW_RELEASED. SEL_ERROR_ARROW_LENGTH: a count in
+ * the metadata is negative. SEL_ERROR_ARROW_FORMAT. SEL_ERROR_LIST_SIZE. SEL_ERROR_ARROW_DICTIONARY: its format is not
+ * that of integers, and it has a dictionary. SEL_ERROR_TOO_DEEP: a list, struct or dictionary below 128 others, whose
+ * children are not read. SEL_ERROR_ARROW_CHILDREN. SEL_ERROR_ARROW_FORMAT: run ends are not signed integers. After the
+ * levels below it SEL_ERROR_ARROW_CHILDREN: the entries of a map are not structs of two fields.
+ * Then SEL_ERROR_ARROW_DICTIONARY: the schema has a dictionary, and `type` is null.
+ * Then of the array, of each level before those below it: SEL_ERROR_ARROW_RELEASED. SEL_ERROR_ARROW_DICTIONARY: only
+ * the array or only the schema has a dictionary. SEL_ERROR_ARROW_LENGTH, SEL_ERROR_TOO_MANY_ROWS: the length, the
+ * offset and the null count. SEL_ERROR_ARROW_CHILDREN. SEL_ERROR_ARROW_BUFFERS. SEL_ERROR_ARROW_LENGTH: there are
+ * nulls, and no validity. After the levels below it the status of the rule of columns that is broken, or a
+ * SEL_ERROR_ARROW_ status. SEL_ERROR_ROW_LIMIT, SEL_ERROR_OFFSET_LIMIT: the lists or values that list views and runs
+ * become exceed a size limit. At last, of keys, the errors of the dictionary, and SEL_ERROR_INDEX_OUT_OF_BOUNDS: a key
+ * has no row in it. */
 sel_status sel_import(struct ArrowArray *array, const struct ArrowSchema *schema, sel_column *out, sel_type *type);
 
 /* Writes the column to two structures, which the caller releases, in any order, on any thread, before or after the
@@ -230,8 +238,8 @@ sel_status sel_type_dictionary(const sel_type *of, sel_column *values, sel_type 
 
 /* Returns in `out` and `out_type` the column without dictionaries, at every depth: each key is replaced by the row of
  * the dictionary that it names, and is null if that is null. The type of the keys is that of the values, with the
- * name of the keys, and with their metadata unless the values have an extension type. A column without a dictionary is
- * shared.
+ * name of the keys, and with their metadata unless the values have an extension type; it is nullable if the keys or the
+ * values are, or if the dictionary has nulls. A column without a dictionary is shared.
  * Errors: SEL_ERROR_NO_COLUMN: `of` or `type` is empty. SEL_ERROR_TYPE_MISMATCH: the column does not have the storage
  * of the type. SEL_ERROR_ARROW_DICTIONARY: a dictionary has no values. SEL_ERROR_INDEX_OUT_OF_BOUNDS: a key has no
  * row in its dictionary. SEL_ERROR_ROW_LIMIT, SEL_ERROR_OFFSET_LIMIT: the result exceeds a size limit. */
@@ -273,8 +281,8 @@ sel_status sel_stream_open(struct ArrowArrayStream *source, sel_stream *out);
 sel_status sel_stream_type(const sel_stream *of, sel_type *type);
 
 /* Returns in `out` the next batch and in `type` its type; `type` may be a null pointer. At the end of the stream it
- * returns SEL_OK, and `out` and `type` are empty. On error `out` and `type` are unchanged; if an import failed, the
- * next call imports the same batch again.
+ * returns SEL_OK, and `out` and `type` are empty; after the end the producer is not called again. On error `out` and
+ * `type` are unchanged; if an import failed, the next call imports the same batch again.
  * Errors: SEL_ERROR_NO_COLUMN: `of` is empty. SEL_ERROR_ARROW_STREAM: the producer reports an error. Then the errors of
  * sel_import. */
 sel_status sel_stream_next(sel_stream *of, sel_column *out, sel_type *type);

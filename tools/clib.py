@@ -30,7 +30,7 @@ sys.dont_write_bytecode = True
 sys.path.insert(0, str(ROOT / "tools"))
 
 import verdicts  # noqa: E402
-from commands import CC, HELGRIND, INCLUDE, MEMCHECK, WARN, WRAPPED, check_header, has, left_out, run, run_printing  # noqa: E402
+from commands import CC, HELGRIND, INCLUDE, MEMCHECK, WARN, WRAPPED, check_header, has, left_out, run, run_printing, wrapped  # noqa: E402
 from libraries import Build  # noqa: E402
 from package import ARROW_SOURCES, LEAST_CPU, SONAME, SOURCES, filled, folder_of, functions, hash_of_sources  # noqa: E402
 from prover import kit, words  # noqa: E402
@@ -212,7 +212,7 @@ def check(cpu: str) -> None:
     check_header("sel.h")
     if foreign_symbols(folder):
         sys.exit(f"the shared library exports {', '.join(foreign_symbols(folder))}")
-    test = compiled(folder, "test", ["test", "test_several", "test_empty", "test_memory"], *WRAPPED)
+    test = compiled(folder, "test", ["test", "test_several", "test_empty", "test_memory"], *WRAPPED, *wrapped("sel_proved_int64_new", "sel_proved_take_rows"))
     run_printing(test)
     if has("valgrind"):
         run_printing(*MEMCHECK, test)

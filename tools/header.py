@@ -143,7 +143,8 @@ AFTER = """
 
 LAYER_BEFORE = """\
 /* The calls with arrays. Written by tools/header.py from the sources. Each replaces a null pointer to an empty array,
- * which the proved function must not get, by a valid one. */
+ * which the proved function must not get, by a valid one. The bits of a validity that is ignored are an empty array,
+ * whatever length the caller passes. */
 #include "sel.h"
 
 #include <stdlib.h>
@@ -273,6 +274,8 @@ class Call:
             lines = [f"    byte_refs {name}_refs;" for name in refs]
             lines += [f"    if (!read_byte_refs({name}, {name}_len, &{name}_refs)) return SEL_ERROR_OUT_OF_MEMORY;" for name in refs]
             lines += [f"    {self.result} result = {call};", *(f"    free({name}_refs.copy);" for name in refs), "    return result;"]
+        if any(parameter.name == "has_bits" for parameter in self.parameters):
+            lines.insert(0, "    if (!has_bits) bits_len = 0;")
         return "\n" + self.head(self.proved_name(), ";") + "\n" + self.head(self.name, " {") + "\n" + "\n".join(lines) + "\n}\n"
 
 

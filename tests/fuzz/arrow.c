@@ -1,6 +1,6 @@
 /* Fuzz target: the Arrow interface. The bytes make an array and its schema, whose buffers are as long as the array says. What is
- * imported has the rows that an independent reader finds in the buffers. It is filtered, taken, exported and imported again, and must be
- * equal, its type too; an array is released once, or stays with the producer, and nothing of it is written. */
+ * imported has the rows that an independent reader finds in the buffers. It is filtered, taken, decoded, exported and imported again, and
+ * must be equal, its type too; an array is released once, or stays with the producer, and nothing of it is written. */
 #include "producer.h"
 
 #include "../../c/arrow_test.h"
@@ -87,12 +87,35 @@ static void check_rows(const sel_column *column, const sel_type *type, const str
     schema.release(&schema);
 }
 
+/* Exports the column with a type, and releases what is exported. */
+static sel_status export_once(const sel_column *column, const sel_type *type) {
+    struct ArrowArray array;
+    struct ArrowSchema schema;
+    sel_status status = sel_export(column, type, &array, &schema);
+    if (status == SEL_OK) {
+        array.release(&array);
+        schema.release(&schema);
+    }
+    return status;
+}
+
+/* Decodes the keys of dictionaries: the decoded column can be exported with its type if the column can be. */
+static void check_decoded(const sel_column *column, const sel_type *type) {
+    sel_column decoded = {0};
+    sel_type decoded_type = {0};
+    require(sel_decode(column, type, &decoded, &decoded_type) == SEL_OK && sel_len(&decoded) == sel_len(column));
+    require(export_once(column, type) != SEL_OK || export_once(&decoded, &decoded_type) == SEL_OK);
+    sel_free(&decoded);
+    sel_type_free(&decoded_type);
+}
+
 static void check_imported(struct draws *draws, const sel_column *column, const sel_type *type) {
     size_t len = 0;
     uint8_t none[1];
     require(column->at != NULL && sel_print(column, none, 0, &len) == SEL_OK && len >= 2);
     check_kernels(draws, column, type);
     check_round_trip(column, type);
+    check_decoded(column, type);
 }
 
 int LLVMFuzzerTestOneInput(const uint8_t *input, size_t len) {
