@@ -1,8 +1,9 @@
 //! Each allocation of the crate fails in turn: a call returns `OutOfMemory` if one failed, and else its result.
 
-use sel::{collect_rows, common_type, flatten, ArrowType, Column, Error, TypedColumn};
+use sel::{collect_rows, common_type, export_stream, flatten, ArrowType, Column, Error, TypedColumn};
 use std::alloc::{GlobalAlloc, Layout, System};
 use std::cell::Cell;
+use std::iter::empty;
 
 thread_local! {
     /// How many allocations of this thread succeed before one fails; with `None` all succeed.
@@ -154,4 +155,10 @@ fn typed_columns_are_joined_or_out_of_memory() {
     let mask = Column::from_values(&[true]).expect("a column");
     assert!(fail_each(|| TypedColumn::if_then_else_broadcast_both(&mask, &typed, &typed)) >= 6);
     assert_eq!(fail_each(|| typed.slice(0, 1)), 0);
+}
+
+#[test]
+fn streams_are_exported_or_out_of_memory() {
+    let of_type = ArrowType::new("i", &[]).expect("a type");
+    assert!(fail_each(|| export_stream(&of_type, empty())) >= 1);
 }
