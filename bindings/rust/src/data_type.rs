@@ -3,7 +3,7 @@
 use crate::column::Column;
 use crate::error::Error;
 use crate::kind::Kind;
-use crate::memory::try_collect;
+use crate::memory::{boxed, try_collect};
 use std::fmt;
 use std::str::FromStr;
 
@@ -152,8 +152,8 @@ impl Column {
             Kind::Binary => DataType::Binary,
             Kind::BinaryView => DataType::BinaryView,
             Kind::StringView => DataType::StringView,
-            Kind::List => DataType::List(Box::new(self.child()?.data_type()?)),
-            Kind::FixedSizeList => DataType::FixedSizeList(Box::new(self.child()?.data_type()?), self.list_size()?),
+            Kind::List => DataType::List(boxed(self.child()?.data_type()?)?),
+            Kind::FixedSizeList => DataType::FixedSizeList(boxed(self.child()?.data_type()?)?, self.list_size()?),
             Kind::Struct => {
                 DataType::Struct(try_collect((0..self.field_count()?).map(|i| self.field(i)?.data_type()))?)
             }

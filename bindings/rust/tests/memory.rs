@@ -1,6 +1,6 @@
 //! Each allocation of the crate fails in turn: a call returns `OutOfMemory` if one failed, and else its result.
 
-use sel::{collect_rows, common_type, export_stream, flatten, ArrowType, Column, Error, TypedColumn};
+use sel::{collect_rows, common_type, export_stream, flatten, ArrowType, Column, DataType, Error, TypedColumn};
 use std::alloc::{GlobalAlloc, Layout, System};
 use std::cell::Cell;
 use std::iter::empty;
@@ -141,6 +141,10 @@ fn types_are_made_or_out_of_memory() {
     let of_type = ArrowType::new("l", &[]).expect("a type");
     assert!(fail_each(|| ArrowType::new("+s", &[&of_type, &of_type])) >= 2);
     assert!(fail_each(|| of_type.as_field("a name", false)) >= 1);
+    let nested = Column::parse("list<struct<i8,fixed<2,list<utf8>>>>", "[]").expect("a column");
+    assert!(fail_each(|| nested.data_type()) >= 4);
+    assert!(fail_each(|| nested.try_eq(&nested.slice(0, 0)?)) >= 8);
+    assert!(fail_each(|| "list<struct<i8,fixed<2,utf8>>>".parse::<DataType>()) >= 3);
     assert!(fail_each(|| ArrowType::dictionary("C", &numbers, Some(&of_type), false)) >= 1);
     assert!(fail_each(|| common_type(&[(&numbers, Some(&of_type)), (&numbers, None)])) >= 6);
 }
