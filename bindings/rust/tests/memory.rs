@@ -166,3 +166,15 @@ fn streams_are_exported_or_out_of_memory() {
     let of_type = ArrowType::new("i", &[]).expect("a type");
     assert!(fail_each(|| export_stream(&of_type, empty())) >= 1);
 }
+
+#[test]
+fn columns_of_another_kind_are_errors_before_memory_is_allocated() {
+    let nulls = Column::new_null(1_000_000).expect("a column of nulls");
+    LARGEST.set(0);
+    assert_eq!(nulls.offsets().err(), Some(Error::WrongArgument(3)));
+    assert_eq!(nulls.views().err(), Some(Error::WrongArgument(3)));
+    assert_eq!(nulls.bytes().err(), Some(Error::WrongArgument(3)));
+    assert_eq!(nulls.to_bools().err(), Some(Error::WrongArgument(3)));
+    assert_eq!(nulls.values::<i64>().err(), Some(Error::WrongArgument(3)));
+    assert_eq!(LARGEST.get(), 0);
+}
