@@ -275,8 +275,8 @@ impl Column {
     /// ones `w:16` with the extension name `sel.uint128`. The fields of struct values have their numbers as names.
     ///
     /// # Errors
-    /// [`Error::Arrow`] for a signed 128-bit integer of more than 38 digits, and for an offset in a data buffer of more than
-    /// 2,147,483,647; [`Error::OutOfMemory`].
+    /// [`Error::Arrow`] for a signed 128-bit integer of more than 38 digits, and for a view whose length or offset in a data
+    /// buffer is more than 2,147,483,647; [`Error::OutOfMemory`].
     ///
     /// ```
     /// # use sel::{Column, Error};

@@ -3,7 +3,7 @@
 use crate::column::Column;
 use crate::error::Error;
 use crate::kind::Kind;
-use crate::memory::try_collect;
+use crate::memory::{boxed, try_collect};
 use std::fmt;
 use std::str::FromStr;
 
@@ -89,22 +89,42 @@ impl DataType {
     }
 }
 
-impl fmt::Display for DataType {
-    fn fmt(&self, f: &mut fmt::Formatter<'_>) -> fmt::Result {
-        f.write_str(self.kind().name())?;
+impl DataType {
+    fn write_to(&self, out: &mut dyn fmt::Write) -> fmt::Result {
+        out.write_str(self.kind().name())?;
         match self {
-            DataType::List(child) => write!(f, "<{child}>"),
-            DataType::FixedSizeList(child, list_size) => write!(f, "<{list_size},{child}>"),
+            DataType::List(child) => {
+                out.write_str("<")?;
+                child.write_to(out)?;
+                out.write_str(">")
+            }
+            DataType::FixedSizeList(child, list_size) => {
+                write!(out, "<{list_size},")?;
+                child.write_to(out)?;
+                out.write_str(">")
+            }
             DataType::Struct(fields) => {
-                f.write_str("<")?;
+                out.write_str("<")?;
                 for (i, field) in fields.iter().enumerate() {
-                    let comma = if i == 0 { "" } else { "," };
-                    write!(f, "{comma}{field}")?;
+                    out.write_str(if i == 0 { "" } else { "," })?;
+                    field.write_to(out)?;
                 }
-                f.write_str(">")
+                out.write_str(">")
             }
             _ => Ok(()),
         }
+    }
+}
+
+impl fmt::Display for DataType {
+    /// Prints the type, padded to the width or cut off at the precision of the format.
+    fn fmt(&self, f: &mut fmt::Formatter<'_>) -> fmt::Result {
+        if f.width().is_none() && f.precision().is_none() {
+            return self.write_to(f);
+        }
+        let mut text = String::new();
+        self.write_to(&mut text)?;
+        f.pad(&text)
     }
 }
 
@@ -152,8 +172,8 @@ impl Column {
             Kind::Binary => DataType::Binary,
             Kind::BinaryView => DataType::BinaryView,
             Kind::StringView => DataType::StringView,
-            Kind::List => DataType::List(Box::new(self.child()?.data_type()?)),
-            Kind::FixedSizeList => DataType::FixedSizeList(Box::new(self.child()?.data_type()?), self.list_size()?),
+            Kind::List => DataType::List(boxed(self.child()?.data_type()?)?),
+            Kind::FixedSizeList => DataType::FixedSizeList(boxed(self.child()?.data_type()?)?, self.list_size()?),
             Kind::Struct => {
                 DataType::Struct(try_collect((0..self.field_count()?).map(|i| self.field(i)?.data_type()))?)
             }

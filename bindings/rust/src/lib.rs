@@ -47,9 +47,9 @@
 //! Arrow C interfaces, whose producer may depend on its thread. `examples/threads.rs` filters the columns of a batch on several threads.
 //!
 //! # Errors and panics
-//! Functions return an [`Error`], and none panics. Cloning, comparison and formatting cannot return an error: they abort if an
-//! allocation fails (see [`Column`]), and `==` of a [`TypedColumn`] panics if a size limit would be exceeded, which
-//! [`TypedColumn::try_eq`] returns as an error. [`Error`], [`Kind`] and [`DataType`] may get more variants.
+//! Functions return an [`Error`], and none panics. Those that return no `Result`, such as cloning, comparison, formatting and
+//! [`StreamReader::message`], abort if an allocation fails (see [`Column`]), and `==` of a [`TypedColumn`] panics if a size limit
+//! would be exceeded, which [`TypedColumn::try_eq`] returns as an error. [`Error`], [`Kind`] and [`DataType`] may get more variants.
 //!
 //! # The functions of the C headers
 //!

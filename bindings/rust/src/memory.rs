@@ -1,4 +1,4 @@
-//! Vectors of a length that a column or a caller gives: a failed allocation is an error and does not abort.
+//! Vectors of a length that a column or a caller gives, and boxes: a failed allocation is an error and does not abort.
 
 use crate::error::Error;
 
@@ -27,6 +27,17 @@ pub(crate) fn try_collect<T>(items: impl IntoIterator<Item = Result<T, Error>>) 
         collected.push(item?);
     }
     Ok(collected)
+}
+
+/// Returns a value in a box.
+pub(crate) fn boxed<T>(value: T) -> Result<Box<T>, Error> {
+    let mut items = Vec::new();
+    items.try_reserve_exact(1).map_err(|_| Error::OutOfMemory)?;
+    items.push(value);
+    // the capacity is the length, so that the slice takes the vector's memory and does not allocate
+    let slice = Box::into_raw(items.into_boxed_slice());
+    // SAFETY: the memory is that of a box of one value, since a slice of one value has its layout. It has no other owner.
+    Ok(unsafe { Box::from_raw(slice.cast::<T>()) })
 }
 
 /// Returns a copy of bytes.

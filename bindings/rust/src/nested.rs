@@ -4,6 +4,7 @@ use crate::bits::Validity;
 use crate::column::Column;
 use crate::error::{checked, Error};
 use crate::handle::HandleArray;
+use crate::kind::Kind;
 use crate::memory::zeroed;
 use crate::raw;
 
@@ -147,6 +148,9 @@ impl Column {
     /// # }
     /// ```
     pub fn offsets(&self) -> Result<Vec<i64>, Error> {
+        if self.kind() != Kind::Binary {
+            self.expect_kind(Kind::List)?;
+        }
         let mut offsets = zeroed::<i64>(self.len().checked_add(1).ok_or(Error::OutOfMemory)?)?;
         // SAFETY: the offsets are valid for their length, and the handle is owned by the column.
         checked(unsafe { raw::sel_offsets(self.at(), offsets.as_mut_ptr(), offsets.len()) })?;

@@ -67,7 +67,7 @@ impl Selection {
     fn made(call: impl FnOnce(*mut SelectionHandle) -> u32) -> Result<Selection, Error> {
         let mut made = Selection { handle: SelectionHandle::EMPTY, len: 0, count: 0 };
         checked(call(&mut made.handle))?;
-        // SAFETY: the handle has a mask, and the numbers are variables of this function's caller.
+        // SAFETY: the handle has a mask, and the number is a field next to it.
         checked(unsafe { raw::sel_selection_len(&made.handle, &mut made.len) })?;
         // SAFETY: as before.
         checked(unsafe { raw::sel_selection_count(&made.handle, &mut made.count) })?;

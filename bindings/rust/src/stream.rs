@@ -5,6 +5,7 @@ use crate::arrow_type::ArrowType;
 use crate::column::Column;
 use crate::error::{checked, status, Error};
 use crate::handle::OwnedHandle;
+use crate::memory::boxed;
 use crate::raw::{self, Handle, StreamHandle, TypeHandle};
 use std::ffi::c_void;
 use std::iter::FusedIterator;
@@ -142,8 +143,8 @@ impl FusedIterator for StreamReader {}
 pub type Batch = Result<(Column, Option<ArrowType>), Error>;
 
 /// An iterator that is exported, and whether it may be called again.
-struct Producer {
-    batches: Box<dyn Iterator<Item = Batch>>,
+struct Producer<I> {
+    batches: I,
     state: State,
 }
 
@@ -153,7 +154,7 @@ enum State {
     Panicked,
 }
 
-impl Producer {
+impl<I: Iterator<Item = Batch>> Producer<I> {
     /// Returns the next batch, `None` after the last one, or the status of an error.
     fn next_batch(&mut self) -> Result<Option<(Column, Option<ArrowType>)>, u32> {
         match self.state {
@@ -198,9 +199,13 @@ fn caught<T>(call: impl FnOnce() -> T) -> Option<T> {
     }
 }
 
-unsafe extern "C" fn next_of(context: *mut c_void, out: *mut Handle, out_type: *mut TypeHandle) -> u32 {
-    // SAFETY: the context is that of `export_stream`, and the consumer makes one call at a time.
-    let producer = unsafe { &mut *context.cast::<Producer>() };
+unsafe extern "C" fn next_of<I: Iterator<Item = Batch>>(
+    context: *mut c_void,
+    out: *mut Handle,
+    out_type: *mut TypeHandle,
+) -> u32 {
+    // SAFETY: the context is that of `export_stream` for this iterator, and the consumer makes one call at a time.
+    let producer = unsafe { &mut *context.cast::<Producer<I>>() };
     let (column, of_type) = match producer.next_batch() {
         Ok(Some(batch)) => batch,
         Ok(None) => return status::OK,
@@ -215,9 +220,9 @@ unsafe extern "C" fn next_of(context: *mut c_void, out: *mut Handle, out_type: *
     }
 }
 
-unsafe extern "C" fn free_of(context: *mut c_void) {
-    // SAFETY: the context is that of `export_stream`, and this is called once.
-    let producer = unsafe { Box::from_raw(context.cast::<Producer>()) };
+unsafe extern "C" fn free_of<I>(context: *mut c_void) {
+    // SAFETY: the context is that of `export_stream` for this iterator, and this is called once.
+    let producer = unsafe { Box::from_raw(context.cast::<Producer<I>>()) };
     caught(|| drop(producer));
 }
 
@@ -236,14 +241,20 @@ pub fn export_stream(
     of_type: &ArrowType,
     batches: impl Iterator<Item = Batch> + 'static,
 ) -> Result<ArrowArrayStream, Error> {
-    let producer = Producer { batches: Box::new(batches), state: State::Open };
-    let context = Box::into_raw(Box::new(producer)).cast::<c_void>();
+    export_of(of_type, Producer { batches, state: State::Open })
+}
+
+fn export_of<I: Iterator<Item = Batch> + 'static>(
+    of_type: &ArrowType,
+    producer: Producer<I>,
+) -> Result<ArrowArrayStream, Error> {
+    let context = Box::into_raw(boxed(producer)?).cast::<c_void>();
     let mut stream = ArrowArrayStream::empty();
     // SAFETY: the type is valid, the stream is released, and the functions are those of this context.
-    let found = unsafe { raw::sel_stream_export(of_type.at(), next_of, context, free_of, &mut stream) };
+    let found = unsafe { raw::sel_stream_export(of_type.at(), next_of::<I>, context, free_of::<I>, &mut stream) };
     if let Err(error) = checked(found) {
         // SAFETY: on an error the context is not freed.
-        unsafe { free_of(context) };
+        unsafe { free_of::<I>(context) };
         return Err(error);
     }
     Ok(stream)

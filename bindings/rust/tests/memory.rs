@@ -1,8 +1,9 @@
 //! Each allocation of the crate fails in turn: a call returns `OutOfMemory` if one failed, and else its result.
 
-use sel::{collect_rows, common_type, flatten, ArrowType, Column, Error, TypedColumn};
+use sel::{collect_rows, common_type, export_stream, flatten, ArrowType, Column, DataType, Error, TypedColumn};
 use std::alloc::{GlobalAlloc, Layout, System};
 use std::cell::Cell;
+use std::iter::empty;
 
 thread_local! {
     /// How many allocations of this thread succeed before one fails; with `None` all succeed.
@@ -140,6 +141,10 @@ fn types_are_made_or_out_of_memory() {
     let of_type = ArrowType::new("l", &[]).expect("a type");
     assert!(fail_each(|| ArrowType::new("+s", &[&of_type, &of_type])) >= 2);
     assert!(fail_each(|| of_type.as_field("a name", false)) >= 1);
+    let nested = Column::parse("list<struct<i8,fixed<2,list<utf8>>>>", "[]").expect("a column");
+    assert!(fail_each(|| nested.data_type()) >= 4);
+    assert!(fail_each(|| nested.try_eq(&nested.slice(0, 0)?)) >= 8);
+    assert!(fail_each(|| "list<struct<i8,fixed<2,utf8>>>".parse::<DataType>()) >= 3);
     assert!(fail_each(|| ArrowType::dictionary("C", &numbers, Some(&of_type), false)) >= 1);
     assert!(fail_each(|| common_type(&[(&numbers, Some(&of_type)), (&numbers, None)])) >= 6);
 }
@@ -154,4 +159,22 @@ fn typed_columns_are_joined_or_out_of_memory() {
     let mask = Column::from_values(&[true]).expect("a column");
     assert!(fail_each(|| TypedColumn::if_then_else_broadcast_both(&mask, &typed, &typed)) >= 6);
     assert_eq!(fail_each(|| typed.slice(0, 1)), 0);
+}
+
+#[test]
+fn streams_are_exported_or_out_of_memory() {
+    let of_type = ArrowType::new("i", &[]).expect("a type");
+    assert!(fail_each(|| export_stream(&of_type, empty())) >= 1);
+}
+
+#[test]
+fn columns_of_another_kind_are_errors_before_memory_is_allocated() {
+    let nulls = Column::new_null(1_000_000).expect("a column of nulls");
+    LARGEST.set(0);
+    assert_eq!(nulls.offsets().err(), Some(Error::WrongArgument(3)));
+    assert_eq!(nulls.views().err(), Some(Error::WrongArgument(3)));
+    assert_eq!(nulls.bytes().err(), Some(Error::WrongArgument(3)));
+    assert_eq!(nulls.to_bools().err(), Some(Error::WrongArgument(3)));
+    assert_eq!(nulls.values::<i64>().err(), Some(Error::WrongArgument(3)));
+    assert_eq!(LARGEST.get(), 0);
 }

@@ -1,6 +1,6 @@
 //! The standard traits of columns: clones, comparison, formatting, conversions and iterators.
 
-use sel::{ArrowType, Column, Error, Kind, StreamReader, TypedColumn, Value};
+use sel::{ArrowType, Column, DataType, Error, Kind, StreamReader, TypedColumn, Value};
 use std::collections::HashSet;
 use std::iter::FusedIterator;
 
@@ -60,6 +60,14 @@ fn columns_are_formatted_as_text() -> Result<(), Error> {
     let (numbers, date) = (Column::from_values(&[1i64, 2])?, ArrowType::new("tdD", &[])?);
     assert_eq!(format!("{numbers:>8}|{numbers:.3}|{date:<12}|"), "   [1,2]|[1,|date32[day] |");
     Ok(())
+}
+
+#[test]
+fn types_are_formatted_with_the_width_and_the_precision() {
+    let pairs = DataType::FixedSizeList(Box::new(DataType::Int8), 2);
+    let rows = DataType::Struct(vec![pairs, DataType::StringView]);
+    let text = "struct<fixed<2,i8>,utf8>";
+    assert_eq!(format!("{rows}|{rows:26}|{rows:>26}|{rows:.6}"), format!("{text}|{text}  |  {text}|struct"));
 }
 
 /// Makes the same column in all ways from these rows.
