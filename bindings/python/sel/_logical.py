@@ -7,7 +7,7 @@ from collections.abc import Sequence
 from ctypes import byref, c_size_t
 from typing import TYPE_CHECKING, Any, overload
 
-from ._checks import checked_name, checked_text
+from ._checks import checked_name, checked_text, shown
 from ._errors import LimitPassed
 from ._library import ArrowSchema, Handle, TypeHandle, call, lib
 from ._memory import room
@@ -78,6 +78,8 @@ class ArrowType(Type):
     _owner: TypeOwner
 
     def __init__(self, owner: TypeOwner) -> None:
+        if not isinstance(owner, TypeOwner):
+            raise TypeError(f"{shown(owner)} is of type {type(owner).__name__}, and an ArrowType is not made of it; parse_type makes one of a text")
         kind, children, width = _storage_of(owner)
         super().__init__(kind, children, width)
         object.__setattr__(self, "_owner", owner)

@@ -169,6 +169,11 @@ class Types(unittest.TestCase):
             self.assertEqual((str(wanted), parse_type(text)), (text, wanted))
         self.assertNotEqual(parse_type("list<double>"), Type("list", (whole,)))
 
+    def test_logical_types_are_not_made_of_texts(self) -> None:
+        for value in table("double", Type("i64"), None, parse_type("double")):
+            with self.assertRaisesRegex(TypeError, "parse_type"):
+                sel.ArrowType(value)
+
     def test_types_that_there_are_not(self) -> None:
         makers: list[Any] = [lambda: Type("foo"), lambda: Type("list"), lambda: Type("fixed", (), 2), lambda: Type("i64", (Type("i64"),)), lambda: Type("list", (Type("i8"),) * 2),
                              lambda: Type("i64", (), 3), lambda: Type("list", (Type("i8"),), 2), lambda: Type("struct", (Type("i8"),), 1)]
