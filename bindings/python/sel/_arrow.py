@@ -35,7 +35,8 @@ _GetNext = CFUNCTYPE(c_int, c_void_p, c_void_p)
 _GetLastError = CFUNCTYPE(c_char_p, c_void_p)
 
 
-_MOVING = threading.Lock()
+# a finalizer may import an array while its thread has the lock
+_MOVING = threading.RLock()
 
 
 def _moved(there: Any) -> Any:

@@ -145,6 +145,26 @@ class Streams(unittest.TestCase):
             found = [moved.release for moved in pool.map(_arrow._moved, [there] * 4)]
         self.assertEqual(sorted(found, key=str), [1, None, None, None])
 
+    def test_a_finalizer_that_imports_during_an_import(self) -> None:
+        """The copy of a structure may start the garbage collector, and a finalizer may move another structure on the same thread."""
+        class Structure:
+            release: int | None = 1
+
+            @classmethod
+            def from_buffer_copy(cls, there: Structure) -> Structure:
+                if there is outer:
+                    _arrow._moved(inner)
+                moved = cls()
+                moved.release = there.release
+                return moved
+
+        outer, inner = Structure(), Structure()
+        thread = threading.Thread(target=_arrow._moved, args=(outer,), daemon=True)
+        thread.start()
+        thread.join(10)
+        self.assertFalse(thread.is_alive())
+        self.assertEqual((outer.release, inner.release), (None, None))
+
     def test_sources(self) -> None:
         class Both(Stream):
             def __arrow_c_array__(self, requested_schema: object = None) -> tuple[object, object]:
