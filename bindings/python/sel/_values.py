@@ -7,6 +7,7 @@ such as nanoseconds in a datetime or a year beyond 9999, stays the integer of th
 from __future__ import annotations
 
 import datetime
+import math
 import re
 import struct
 from collections.abc import Callable, Sequence
@@ -220,10 +221,21 @@ def comparable_value(type: ArrowType | None, kind: str) -> Converter | None:
 # ---- from Python values
 
 
+def _is_finite(value: Any) -> bool:
+    """Returns whether a number is between the infinities: `float` makes an infinity of a Decimal or a longdouble that it cannot hold."""
+    try:
+        return bool(-math.inf < value < math.inf)
+    except TypeError:  # an object that is a number by `__float__` alone
+        return False
+
+
 def _number_of(format: str, value: Any, name: str) -> Any:
     plain, bits = _FLOATS[format]
     try:
-        return struct.unpack(bits, struct.pack(plain, real(value, name)))[0]
+        number = real(value, name)
+        if math.isinf(number) and _is_finite(value):
+            raise OverflowError
+        return struct.unpack(bits, struct.pack(plain, number))[0]
     except OverflowError:
         raise OverflowError(f"{name}: {shown(value)} is too large for a float of {8 * struct.calcsize(plain)} bits") from None
 
