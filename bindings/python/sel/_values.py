@@ -95,6 +95,12 @@ def _times(unit: str) -> Converter:
     return convert
 
 
+def _date_of_milliseconds(value: int) -> Any:
+    """Returns the date of a count of milliseconds, or the count if it is not a whole number of days."""
+    days, left = divmod(value, _MILLISECONDS_OF_DAY)
+    return value if left else _DAY + datetime.timedelta(days=days)
+
+
 def _durations(unit: str) -> Converter:
     scale = _microseconds(unit)
 
@@ -133,7 +139,7 @@ def python_value(type: ArrowType | None, kind: str) -> Converter | None:
     if format == "tdD":
         return _or_storage(lambda value: _DAY + datetime.timedelta(days=value))
     if format == "tdm":
-        return _or_storage(lambda value: _DAY + datetime.timedelta(days=value // _MILLISECONDS_OF_DAY))
+        return _or_storage(_date_of_milliseconds)
     if format.startswith("ts"):
         return _timestamps(format[2], _zone(format[4:]))
     if format.startswith("tt"):

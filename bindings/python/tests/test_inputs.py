@@ -106,7 +106,7 @@ class Conversions(unittest.TestCase):
             for source in table(Column(counts, before), Column.from_arrow(Column(counts, before))):
                 self.assertEqual(rows_of(Column(source, after)), expected)
         for before, count, after, error in table(
-            ("timestamp[ns]", 1, "timestamp[s]", ValueError), ("timestamp[ns]", 1, "timestamp[us]", ValueError), ("duration[ns]", 7, "duration[s]", ValueError),
+            ("date64", 1, "date32", ValueError), ("date64", -86_399_999, "date32", ValueError), ("timestamp[ns]", 1, "timestamp[s]", ValueError), ("timestamp[ns]", 1, "timestamp[us]", ValueError), ("duration[ns]", 7, "duration[s]", ValueError),
             ("time64[ns]", 1, "time64[us]", ValueError), ("timestamp[s]", 10**17, "timestamp[ms]", OverflowError), ("timestamp[s]", 10**14, "timestamp[s, tz=UTC]", TypeError),
             ("timestamp[ns]", 1, "duration[ns]", TypeError), ("timestamp[ns]", 1, "i64", TypeError), ("duration[ns]", 1, "double", TypeError), ("duration[s]", 10**15, "time64[ns]", TypeError),
         ):

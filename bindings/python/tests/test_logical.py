@@ -70,7 +70,7 @@ class Values(unittest.TestCase):
             self.assertEqual(str(column.type), text)
 
     def test_values_that_python_has_none_for(self) -> None:
-        for text, value in table(("timestamp[ns]", 1), ("timestamp[s]", 10**17), ("time64[ns]", 1), ("date64[ms]", 10**17), ("duration[s]", 10**17), ("duration[ns]", 7),
+        for text, value in table(("timestamp[ns]", 1), ("timestamp[s]", 10**17), ("time64[ns]", 1), ("date64[ms]", 10**17), ("date64[ms]", 1), ("date64[ms]", -86_399_999), ("duration[s]", 10**17), ("duration[ns]", 7),
                                  ("time32[s]", -1)):
             self.assertEqual(Column([value], text).to_pylist(), [value])
 
