@@ -54,8 +54,9 @@ _NO_ROWS = (str, bytes, bytearray, set, frozenset, Mapping)
 
 
 def listed(values: Any, name: str) -> list[Any]:
-    """Returns the items of an iterable as a list. Raises TypeError for a text, bytes, a dict or a set: their items are no rows, or have no order."""
-    if not isinstance(values, _NO_ROWS):
+    """Returns the items of an iterable as a list. Raises TypeError for a text, bytes, a dict, a set, or what has several dimensions, such as a
+    data frame: their items are no rows, or have no order."""
+    if not isinstance(values, _NO_ROWS) and getattr(values, "ndim", 1) == 1:
         try:
             items = iter(values)
         except TypeError:
