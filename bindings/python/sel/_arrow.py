@@ -155,15 +155,25 @@ def _imported(array: ArrowArray, schema: ArrowSchema) -> Typed:
     """Returns the column of an array, which reads its buffers, and its logical type. Releases the array on an error."""
     made, found = Owner(), TypeOwner()
     try:
-        status = attempt("sel_import", byref(array), byref(schema), byref(made._handle), byref(found._handle))
-        if status == ARROW_FORMAT:
-            format = (lib.sel_unsupported_format(byref(schema)) or b"").decode(errors="replace")
-            raise error_of(status, f"{status_of(status)} {format!r}")
-        if status != OK:
-            raise error_of(status, status_of(status))
+        _check_import(attempt("sel_import", byref(array), byref(schema), byref(made._handle), byref(found._handle)), schema)
     finally:
         _release(array)
     return made, logical_type(made, found)
+
+
+def _check_import(status: int, schema: ArrowSchema) -> None:
+    """Raises the exception of a status of the import of a schema, or of an array that has it; none for `SEL_OK`."""
+    if status == ARROW_FORMAT:
+        format = (lib.sel_unsupported_format(byref(schema)) or b"").decode(errors="replace")
+        raise error_of(status, f"{status_of(status)} {format!r}")
+    if status != OK:
+        raise error_of(status, status_of(status))
+
+
+def _check_schema(schema: ArrowSchema) -> None:
+    """Raises the exception of a schema that no column has. Others have as many children as their formats, and do not contain themselves."""
+    found = TypeOwner()
+    _check_import(attempt("sel_type_import", byref(schema), byref(found._handle)), schema)
 
 
 def _import_array(schema: object, array: object) -> Typed:
@@ -188,6 +198,7 @@ def batches(capsule: object) -> Iterator[Typed]:
             count += 1
             yield batch
         if count == 0:
+            _check_schema(schema)
             yield _imported(_empty_array(schema), schema)
     finally:
         _release(schema)
@@ -243,19 +254,14 @@ def _chunks(stream: ArrowArrayStream, schema: ArrowSchema) -> Iterator[Typed]:
         yield _imported(array, schema)
 
 
-# The library does not look at what is below this level.
-_DEEPEST = 257
-
-
-def _empty_array(schema: ArrowSchema, level: int = 0) -> ArrowArray:
-    """Returns an array of a schema without rows. It has as many buffers as the format's layout: the library checks the format."""
-    name = schema.format or b""
+def _empty_array(schema: ArrowSchema) -> ArrowArray:
+    """Returns an array without rows, of a schema that `_check_schema` accepts. It has as many buffers as the format's layout."""
+    name = schema.format
     buffers = 0 if name == b"+r" else 1 if name[:2] in (b"+s", b"+w") else 3 if name[:1] in (b"z", b"Z", b"u", b"U", b"v") or name[:2] == b"+v" else 2
     array = ArrowArray(n_buffers=buffers, buffers=(c_void_p * buffers)(), n_children=schema.n_children, release=ctypes.cast(NO_RELEASE, c_void_p))
-    if name[:1] == b"+" and schema.children and level < _DEEPEST:
-        children = [schema.children[number] for number in range(schema.n_children)]
-        array.children = (POINTER(ArrowArray) * len(children))(*[
-            ctypes.pointer(_empty_array(child.contents, level + 1)) if child else POINTER(ArrowArray)() for child in children])
-    if schema.dictionary and level < _DEEPEST:
-        array.dictionary = ctypes.pointer(_empty_array(schema.dictionary.contents, level + 1))
+    if schema.n_children > 0:
+        children = [_empty_array(schema.children[number].contents) for number in range(schema.n_children)]
+        array.children = (POINTER(ArrowArray) * len(children))(*[ctypes.pointer(child) for child in children])
+    if schema.dictionary:
+        array.dictionary = ctypes.pointer(_empty_array(schema.dictionary.contents))
     return array
