@@ -398,7 +398,7 @@ class Column(Owner):
         >>> sel.Column([[1, 2], [], None, [3]]).child()
         Column(i64, [1,2,3])
         """
-        return self._new("sel_child", logical=self._field_type(0))
+        return self._part("sel_child", logical=self._field_type(0))
 
     def field(self, field: str | SupportsIndex) -> Column:
         """Returns a field of structs by its name or its number. It shares memory with this column; in null structs it is as stored.
@@ -411,7 +411,7 @@ class Column(Owner):
         Column(double, [0.5,2.5])
         """
         place = self._place_of(field) if isinstance(field, str) else integer_within(field, "field", FIELD_NUMBER)
-        return self._new("sel_field", place, logical=self._field_type(place))
+        return self._part("sel_field", place, logical=self._field_type(place))
 
     def _place_of(self, name: str) -> int:
         names = [] if self._logical is None else [field.name for field in self._logical.fields]
@@ -632,6 +632,11 @@ class Column(Owner):
     def _like(self, name: str, *arguments: Any) -> Column:
         """Returns what a call makes, which has the type of this column."""
         return self._new(name, *arguments, logical=self._logical)
+
+    def _part(self, name: str, *arguments: Any, logical: ArrowType | None) -> Column:
+        """Returns a field or the elements, whose type allows nulls if there are some: below a null row also what must not be null is."""
+        made = derived(self, name, *arguments)
+        return Column._owning(made, nullable(logical) if lib.sel_null_count(made) > 0 else logical)
 
     def _field_type(self, number: int) -> ArrowType | None:
         fields = () if self._logical is None else self._logical.fields

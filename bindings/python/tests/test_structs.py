@@ -4,6 +4,7 @@ from __future__ import annotations
 
 import datetime
 import json
+import pickle
 import struct
 import unittest
 from typing import Any
@@ -67,6 +68,20 @@ class Fields(unittest.TestCase):
                 parse_type(text)
         with self.assertRaisesRegex(ValueError, "half a surrogate pair"):
             Table({"\udfff": [1]})
+
+
+class Nulls(unittest.TestCase):
+    def test_fields_and_elements_below_nulls(self) -> None:
+        """A field or an element that is not null is null below a null row. As a column it has these nulls, and a type that allows them."""
+        structs, lists = Column([{"a": 1}, None], "struct<a: i64 not null>"), Column([[0.5, 1.5], None], "fixed_size_list<item: double not null>[2]")
+        nested = Column([{"a": {"b": 1}}, None], "struct<a: struct<b: i64 not null> not null>")
+        for found, rows in table((structs.field("a"), [1, None]), (structs.field(0), [1, None]), (lists.child(), [0.5, 1.5, None, None]), (nested.field("a").field("b"), [1, None]),
+                                 (structs.take([None, 0]).field("a"), [None, 1]), (lists.take([None, 0]).child(), [None, None, 0.5, 1.5])):
+            self.assertEqual((found.to_pylist(), getattr(found.type, "is_nullable", True)), (rows, True))
+            for again in (Column.from_arrow(found), Table.from_arrow(Table({"a": found}))["a"], Column(found, found.type), pickle.loads(pickle.dumps(found))):
+                self.assertEqual((again.to_pylist(), again.type), (rows, found.type))
+        for found in (structs[:1].field("a"), structs.drop_null().field("a"), lists.drop_null().child(), Table.from_arrow(structs.drop_null())["a"]):
+            self.assertFalse(getattr(found.type, "is_nullable", True))
 
 
 class Texts(unittest.TestCase):
