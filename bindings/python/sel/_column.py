@@ -745,12 +745,21 @@ def concat(columns: Iterable[Column]) -> Column:
     columns_of(given, "columns")
     if not given:
         raise ValueError("columns: there is no column, and so no type of the result")
-    wanted = given[0].type
-    for position, column in enumerate(given):
-        if column.storage != given[0].storage:
-            raise WrongArgument(TYPE_MISMATCH, f"columns[{position}]: a column of type {column.type}, where columns[0] has type {wanted}")
-    owners, logical = common_type(given, _types_of(given))
+    try:
+        owners, logical = common_type(given, _types_of(given))
+    except WrongArgument:
+        _check_storages([column.decoded() for column in given], given)
+        raise
+    _check_storages(owners, given)
     return Column._owning(concatenated(owners), logical)
+
+
+def _check_storages(owners: Sequence[Owner], columns: Sequence[Column]) -> None:
+    """Raises WrongArgument for the first of the columns that, as it is to be joined with the others, has another storage than columns[0]."""
+    first = storage_type(owners[0])
+    for position, owner in enumerate(owners):
+        if storage_type(owner) != first:
+            raise WrongArgument(TYPE_MISMATCH, f"columns[{position}]: a column of type {columns[position].type}, where columns[0] has type {columns[0].type}")
 
 
 def _types_of(columns: Iterable[Owner]) -> list[ArrowType | None]:

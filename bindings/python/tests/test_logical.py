@@ -176,6 +176,8 @@ class Dictionaries(unittest.TestCase):
             for found in (sel.collect_rows([column, two], [(0, 0), (0, 1), (1, 0), (1, 1)]),):
                 self.assertEqual((str(found.type), found.to_pylist()), (text, rows))
             self.assertEqual(sel.if_else([True, False], column, two).to_pylist(), [rows[0], rows[3]])
+            for found in table(sel.concat([column, two]), sel.flatten([column, two], [2, 2], 1)):
+                self.assertEqual((str(found.type), found.to_pylist()), (text, rows))
         self.assertTrue(column.equals(Column(["b", "a"])))
         self.assertFalse(column.equals(other))
 
