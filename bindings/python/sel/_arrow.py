@@ -12,7 +12,7 @@ from typing import Any, Iterator, Optional, Tuple
 
 from ._callbacks import NO_RELEASE, Release, callback
 from ._checks import shown
-from ._errors import BrokenRule, WrongArgument, error_of
+from ._errors import BrokenRule, LimitPassed, WrongArgument, error_of
 from ._library import ArrowArray, ArrowArrayStream, ArrowSchema, attempt, call, lib, status_of
 from ._logical import ArrowType, TypeOwner, as_logical_of, common_type, logical_type, type_parameter
 from ._owner import Owner, concatenated
@@ -98,7 +98,7 @@ def _requested(column: Owner, logical: ArrowType | None, schema: object) -> Type
         call("sel_type_import", byref(there), byref(wanted._handle))
         common_type((column, column), (ArrowType(wanted), as_logical_of(column, logical)))
         return wanted
-    except (WrongArgument, BrokenRule):
+    except (WrongArgument, BrokenRule, LimitPassed):
         return own
 
 

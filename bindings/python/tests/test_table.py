@@ -5,13 +5,14 @@ from __future__ import annotations
 import datetime
 import unittest
 from collections.abc import Iterator
-from ctypes import byref
+from ctypes import POINTER, byref, c_void_p, cast, pointer
 from typing import Any
 
 import sel
 from cases import table
-from sel import Column, Selection, Stream, Table
-from sel._library import ArrowArray, ArrowArrayStream
+from sel import Column, Selection, Stream, Table, _arrow
+from sel._callbacks import NO_RELEASE
+from sel._library import ArrowArray, ArrowArrayStream, ArrowSchema
 from streams import Only
 
 DAY = datetime.date(2020, 1, 1)
@@ -30,6 +31,16 @@ def codes_of(source: Stream) -> list[int]:
         sel._arrow._release(array)
     sel._arrow._release(stream)
     return codes
+
+
+class Given:
+    """An object with the array of two capsules."""
+
+    def __init__(self, schema: object, array: object) -> None:
+        self.capsules = schema, array
+
+    def __arrow_c_array__(self, requested_schema: object = None) -> tuple[object, object]:
+        return self.capsules
 
 
 class Tables(unittest.TestCase):
@@ -108,14 +119,19 @@ class Tables(unittest.TestCase):
             type_ = sel._logical.of_format(strings[requested])
             like = Column._owning(sel._makers.made_of([], sel.parse_type("utf8" if text == "string" else "u64")), type_)
             schema, array = wanted["a"].__arrow_c_array__(like.__arrow_c_schema__())
-
-            class Given:
-                def __arrow_c_array__(self, requested_schema: object = None) -> tuple[object, object]:
-                    return schema, array
-
-            again = Column.from_arrow(Given())
+            again = Column.from_arrow(Given(schema, array))
             self.assertEqual(str(again.type), "utf8" if found == "string_view" else found)
             self.assertEqual(again.to_pylist(), wanted["a"].to_pylist())
+
+    def test_requested_schemas_that_no_column_has(self) -> None:
+        """The export has the type of the column then, whatever is wrong with the request."""
+        for format, count in table((b"+l", 1), (b"+us:0", 1), (b"+l", 0), (b"", 0)):
+            there, capsule = _arrow._new_capsule(ArrowSchema, _arrow._SCHEMA, _arrow._DESTROY_SCHEMA)
+            there.format, there.n_children, there.release = format, count, cast(NO_RELEASE, c_void_p)
+            there.children = (POINTER(ArrowSchema) * 1)(pointer(there))  # it contains itself
+            for column in table(Column([1, None]), Column([["a"]]), Table({"a": [0.5]})):
+                schema, array = column.__arrow_c_array__(capsule)
+                self.assertEqual(Column.from_arrow(Given(schema, array)).to_pylist(), list(column))
 
     def test_unions_are_named(self) -> None:
         from streams import Stream as Producer
