@@ -131,7 +131,9 @@ class Table:
             place = position_of(key, "index", self._length)
             self._check_distinct()
             return {name: column[place] for name, column in zip(self._names, self._columns)}
-        return self._each([column[key] for column in self._columns], lambda: len(self._rows()[key]))
+        found = None if isinstance(key, Owner) else imported_if_arrow(key)
+        rows = key if found is None else Column._owning(*found)
+        return self._each([column[rows] for column in self._columns], lambda: len(self._rows()[rows]))
 
     def __contains__(self, name: object) -> bool:
         """Returns whether a column has this name.

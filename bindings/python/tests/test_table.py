@@ -43,6 +43,16 @@ class Given:
         return self.capsules
 
 
+class Once:
+    """An object with the stream of a column, which is always the same one."""
+
+    def __init__(self, column: Column) -> None:
+        self.capsule = column.__arrow_c_stream__()
+
+    def __arrow_c_stream__(self, requested_schema: object = None) -> object:
+        return self.capsule
+
+
 class Tables(unittest.TestCase):
     def test_columns(self) -> None:
         made = Table(ROWS)
@@ -71,6 +81,13 @@ class Tables(unittest.TestCase):
         with self.assertRaises(IndexError):
             made.take([-1])
         self.assertEqual(repr(Table({"a": list(range(9)), "b": [0.5] * 9})), "Table of 9 rows\na: i64 [0,1,2,3,4,5, ...]\nb: double [0.5,0.5,0.5,0.5,0.5,0.5, ...]")
+
+    def test_keys_that_are_read_once(self) -> None:
+        """A key of another library may be a stream, which gives its rows once, and not once for each column."""
+        rows = Table({"a": [1, 2, 3], "b": ["x", "y", "z"]})
+        for key, found in table((Column([2, None, 0]), {"a": [3, None, 1], "b": ["z", None, "x"]}), (Column([True, False, None]), {"a": [1], "b": ["x"]})):
+            self.assertEqual(rows[Once(key)].to_pydict(), found)
+            self.assertEqual(len(Table({})[Once(key[:0])]), 0)
 
     def test_without_columns(self) -> None:
         """The rows are counted as those of a column are."""
