@@ -139,7 +139,7 @@ def imported_if_arrow(values: Any) -> Typed | None:
     """Returns the column of values of another library that offer Arrow data, and its type; none if they do not, or are an array of numpy.
 
     Other protocols of such values may lose nulls: numpy's makes NaN of them. Where an object needs a module for the Arrow data that is not
-    installed, as a Series of pandas does, it is taken as if it offered none.
+    installed, and numpy can make an array of it, as of a Series of pandas, it is taken as if it offered none.
     """
     numpy = sys.modules.get("numpy")
     is_own = isinstance(values, Owner) or (numpy is not None and isinstance(values, numpy.ndarray))
@@ -148,6 +148,8 @@ def imported_if_arrow(values: Any) -> Typed | None:
     try:
         return imported(values)
     except ImportError:
+        if not hasattr(values, "__array__"):
+            raise
         return None
 
 

@@ -3,6 +3,7 @@
 from __future__ import annotations
 
 import datetime
+import importlib
 import unittest
 from collections.abc import Iterator
 from ctypes import POINTER, byref, c_void_p, cast, pointer
@@ -189,6 +190,17 @@ class Streams(unittest.TestCase):
             Stream(iter(())).__arrow_c_stream__()
         with self.assertRaises(TypeError):
             Stream.from_arrow([1])
+
+    def test_a_module_that_is_missing(self) -> None:
+        """The ImportError of a generator is raised: the tables that it has left, none, are not the rows of a column."""
+        def tables() -> Iterator[Table]:
+            importlib.import_module("no_such_module")
+            yield Table({"a": [1]})
+
+        for use in table(Column, Column.from_pylist, lambda stream: Column(stream, "i64"), Column.from_arrow, Table.from_arrow, lambda stream: Table({"a": stream}), Column([1]).take,
+                         Column([1]).filter, Selection, lambda stream: Column([1])[stream]):
+            with self.assertRaises(ModuleNotFoundError):
+                use(Stream(tables()))
 
     def test_every_exception_is_an_error(self) -> None:
         """None of them looks like the end of the stream. This package gets it, or has it as the cause; another consumer gets a code."""
