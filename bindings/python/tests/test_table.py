@@ -20,16 +20,19 @@ DAY = datetime.date(2020, 1, 1)
 ROWS: dict[str, list[Any]] = {"id": [1, 2, 3], "when": [DAY, None, DAY], "name": ["a", "a name of more than twelve bytes", None], "lists": [[0.5], [], None]}
 
 
-def codes_of(source: Stream) -> list[int]:
-    """Returns the codes that another consumer of a stream gets: for each array, and for what ends the stream."""
+def codes_of(source: Stream, further: int = 0) -> list[int]:
+    """Returns the codes that another consumer of a stream gets: for each array, for what ends the stream, and for so many calls after that."""
     capsule, codes = source.__arrow_c_stream__(), []
     stream = sel._arrow._moved(ArrowArrayStream.from_address(sel._arrow._api.PyCapsule_GetPointer(capsule, sel._arrow._STREAM)))
     while True:
         array = ArrowArray()
         codes.append(sel._arrow._GetNext(stream.get_next)(byref(stream), byref(array)))
-        if not array.release:
+        if array.release:
+            sel._arrow._release(array)
+        elif further == 0:
             break
-        sel._arrow._release(array)
+        else:
+            further -= 1
     sel._arrow._release(stream)
     return codes
 
@@ -224,6 +227,30 @@ class Streams(unittest.TestCase):
             list(Stream.from_arrow(Stream(failing(cause))))
         self.assertIs(given.exception.__cause__, cause)
         self.assertEqual((sel._arrow.PASSED.errors, sel._stream._OPEN), (None, {}))
+
+    def test_calls_after_an_error(self) -> None:
+        """A generator has ended after its exception, and another iterator may go on. A consumer that asks again gets the error again."""
+        class Going:
+            def __init__(self) -> None:
+                self.count = 0
+
+            def __iter__(self) -> Iterator[Table]:
+                return self
+
+            def __next__(self) -> Table:
+                self.count += 1
+                if self.count == 2:
+                    raise KeyError("x")
+                return Table({"a": [self.count]})
+
+        def failing(error: BaseException) -> Iterator[Table]:
+            yield Table({"a": [1]})
+            raise error
+
+        for tables, code in table((failing(KeyError("x")), 22), (failing(MemoryError()), 12), (failing(KeyboardInterrupt()), 22), (Going(), 22), (iter([Table({"a": [1]}), 5]), 22)):
+            self.assertEqual(codes_of(Stream(tables), 3), [0, code, code, code, code])
+        self.assertEqual(codes_of(Stream([Table({"a": [1]})]), 3), [0, 0, 0, 0, 0])
+        self.assertEqual(sel._stream._OPEN, {})
 
     def test_a_stream_that_is_not_read_is_released(self) -> None:
         capsule = Stream(iter([Table({"a": [1]})])).__arrow_c_stream__()
