@@ -304,7 +304,7 @@ def nullable(type: Type | None, name: str | None = None, *, is_nullable: bool = 
     logical = type if isinstance(type, ArrowType) else _of_storage(type)
     if logical.is_nullable == is_nullable and name is None:
         return logical
-    return ArrowType(_made("sel_type_as_field", logical._owner, (logical.name if name is None else name).encode(), is_nullable))
+    return ArrowType(_made("sel_type_as_field", logical._owner, lib.sel_type_name(logical._owner) if name is None else name.encode(), is_nullable))
 
 
 def dictionary_of(type: ArrowType) -> tuple[Owner, ArrowType | None]:

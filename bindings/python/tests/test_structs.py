@@ -13,7 +13,9 @@ import sel
 from arrays import Piece
 from cases import table
 from sel import Column, Table, Type, parse_type
-from sel._logical import coded_type, of_format
+from sel._logical import as_logical_of, coded_type, of_format
+from sel._makers import made_of
+from sel._pickle import described, type_again
 
 DAY = datetime.date(2024, 2, 29)
 ORDER = {"id": 1, "price": 2.5}
@@ -165,6 +167,16 @@ class Texts(unittest.TestCase):
         self.assertNotEqual(parse_type("struct<a: double>"), parse_type("struct<b: double>"))
         self.assertNotEqual(parse_type("struct<a: i64>"), Type("struct", (Type("i64"),)))
         self.assertEqual(parse_type('struct<"0": i64>'), Type("struct", (Type("i64"),)))
+
+
+class Names(unittest.TestCase):
+    def test_a_type_that_becomes_nullable_keeps_its_name(self) -> None:
+        """Also if it has none, or one that is not UTF-8, which another library has made."""
+        for name in (None, b"", b"a", b"\xff"):
+            column = Column._owning(made_of([1, 2], Type("i64")), type_again((b"l", name, None, 0, (), None)))
+            self.assertFalse(getattr(column.type, "is_nullable", True))
+            for found in (column, column.take([None, 0]), column[::-1], column[[0]], sel.collect_rows([column], [(0, 0), None])):
+                self.assertEqual(described(as_logical_of(found, found._logical)._owner)[1], name)
 
 
 class Types(unittest.TestCase):
