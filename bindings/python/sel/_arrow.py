@@ -10,7 +10,7 @@ import threading
 from ctypes import CFUNCTYPE, POINTER, byref, c_char_p, c_int, c_void_p, py_object
 from typing import Any, Iterator, Optional, Tuple
 
-from ._callbacks import NO_RELEASE, Release, callback
+from ._callbacks import NO_RELEASE, Release, callback, lock_of_process
 from ._checks import shown
 from ._errors import BrokenRule, LimitPassed, WrongArgument, error_of
 from ._library import ArrowArray, ArrowArrayStream, ArrowSchema, attempt, call, lib, status_of
@@ -35,13 +35,9 @@ _GetNext = CFUNCTYPE(c_int, c_void_p, c_void_p)
 _GetLastError = CFUNCTYPE(c_char_p, c_void_p)
 
 
-# a finalizer may import an array while its thread has the lock
-_MOVING = threading.RLock()
-
-
 def _moved(there: Any) -> Any:
     """Moves a structure out of a capsule: its release is up to the caller, and no other thread can take it as well."""
-    with _MOVING:
+    with lock_of_process():
         moved = type(there).from_buffer_copy(there)
         there.release = None
     return moved
