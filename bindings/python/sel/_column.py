@@ -285,7 +285,7 @@ class Column(Owner):
         >>> numpy.asarray(sel.Column([1, None, 3]).fill_null(0))
         array([1, 0, 3])
         """
-        array: Array = _arrays.plain_array_of(self, dtype, copy, self._logical)
+        array: Array = _arrays.plain_array_of(self, dtype, None if copy is None else boolean(copy, "copy"), self._logical)
         return array
 
     def values_buffer(self) -> memoryview:
