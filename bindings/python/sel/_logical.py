@@ -61,7 +61,8 @@ def _made(name: str, *arguments: Any) -> TypeOwner:
 
 
 class ArrowType(Type):
-    """The logical type of a column: an Arrow type, over the storage that `kind`, `children` and `width` describe.
+    """The logical type of a column: an Arrow type, over the storage that `kind`, `children` and `width` describe. `parse_type` and
+    `Column.type` return one.
 
     It prints as pyarrow prints it, with short names of integers, and with quotes around names of fields that `parse_type` could not read
     without them. Two logical types are equal if their formats, names, metadata and flags are the same at each depth, and if their

@@ -333,7 +333,7 @@ class Stream:
     def __arrow_c_stream__(self, requested_schema: object = None) -> object:
         """Returns a capsule with a stream of the tables. The first one gives the schema; raises ValueError if there is none.
 
-        An exception of the iterator is an error of the stream: `Stream.from_arrow` raises KeyboardInterrupt and the like themselves, and
+        An exception of the iterator is an error of the stream, also of each further call: `Stream.from_arrow` raises KeyboardInterrupt and the like themselves, and
         others as the cause of its own. A value that is not a table is an error of the stream too.
         """
         first = next(self._tables, None)
