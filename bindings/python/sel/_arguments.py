@@ -7,7 +7,7 @@ from typing import Any
 
 from . import _arrays
 from ._arrow import Typed, imported_if_arrow
-from ._checks import ROW_INDEX, SIZE, Limits, integers_within, listed, shown
+from ._checks import NO_ROWS, ROW_INDEX, SIZE, Limits, integers_within, listed, shown
 from ._conversions import converted
 from ._errors import WrongArgument
 from ._logical import ArrowType, decoded
@@ -108,9 +108,9 @@ def columns_of(values: Iterable[Any], name: str) -> list[Owner]:
 
 
 def _pair(pick: Any, name: str) -> list[int]:
-    """Returns a column number and a row number."""
+    """Returns a column number and a row number. Raises ValueError for what is not a pair of numbers in an order."""
     try:
-        column, row = pick
+        column, row = () if isinstance(pick, NO_ROWS) else pick
     except (TypeError, ValueError):
         raise ValueError(f"{name}: {shown(pick)} is not a pair of a column number and a row number") from None
     return integers_within((column, row), name, ROW_INDEX)

@@ -6,7 +6,7 @@ import importlib
 from ctypes import byref
 from typing import Any
 
-from ._checks import ROW_INDEX, Limits, booleans, error_out_of_bounds, error_outside
+from ._checks import ROW_INDEX, Limits, booleans, error_out_of_bounds, error_outside, listed
 from ._lending import Piece, lent, values_of
 from ._library import call, lib
 from ._logical import ArrowType, decoded, of_format
@@ -107,7 +107,7 @@ def _valid_flags(valid: Any, name: str, count: int) -> Any:
     numpy = _numpy()
     array = opened(valid, name) if is_array(valid) else None
     if array is None or is_of_objects(array):
-        flags = numpy.array(booleans(valid if array is None else array.tolist(), name), dtype=bool)
+        flags = numpy.array(booleans(listed(valid, name) if array is None else array.tolist(), name), dtype=bool)
     else:
         checked(array, name, "b")
         if numpy.ma.getmaskarray(array).any():

@@ -10,9 +10,9 @@ import threading
 from ctypes import CFUNCTYPE, POINTER, byref, c_char_p, c_int, c_void_p, py_object
 from typing import Any, Iterator, Optional, Tuple
 
-from ._callbacks import NO_RELEASE, Release, callback
+from ._callbacks import NO_RELEASE, Release, callback, lock_of_process
 from ._checks import shown
-from ._errors import BrokenRule, WrongArgument, error_of
+from ._errors import BrokenRule, LimitPassed, WrongArgument, error_of
 from ._library import ArrowArray, ArrowArrayStream, ArrowSchema, attempt, call, lib, status_of
 from ._logical import ArrowType, TypeOwner, as_logical_of, common_type, logical_type, type_parameter
 from ._owner import Owner, concatenated
@@ -35,12 +35,9 @@ _GetNext = CFUNCTYPE(c_int, c_void_p, c_void_p)
 _GetLastError = CFUNCTYPE(c_char_p, c_void_p)
 
 
-_MOVING = threading.Lock()
-
-
 def _moved(there: Any) -> Any:
     """Moves a structure out of a capsule: its release is up to the caller, and no other thread can take it as well."""
-    with _MOVING:
+    with lock_of_process():
         moved = type(there).from_buffer_copy(there)
         there.release = None
     return moved
@@ -97,7 +94,7 @@ def _requested(column: Owner, logical: ArrowType | None, schema: object) -> Type
         call("sel_type_import", byref(there), byref(wanted._handle))
         common_type((column, column), (ArrowType(wanted), as_logical_of(column, logical)))
         return wanted
-    except (WrongArgument, BrokenRule):
+    except (WrongArgument, BrokenRule, LimitPassed):
         return own
 
 
@@ -138,7 +135,7 @@ def imported_if_arrow(values: Any) -> Typed | None:
     """Returns the column of values of another library that offer Arrow data, and its type; none if they do not, or are an array of numpy.
 
     Other protocols of such values may lose nulls: numpy's makes NaN of them. Where an object needs a module for the Arrow data that is not
-    installed, as a Series of pandas does, it is taken as if it offered none.
+    installed, and numpy can make an array of it, as of a Series of pandas, it is taken as if it offered none.
     """
     numpy = sys.modules.get("numpy")
     is_own = isinstance(values, Owner) or (numpy is not None and isinstance(values, numpy.ndarray))
@@ -147,6 +144,8 @@ def imported_if_arrow(values: Any) -> Typed | None:
     try:
         return imported(values)
     except ImportError:
+        if not hasattr(values, "__array__"):
+            raise
         return None
 
 
@@ -154,15 +153,25 @@ def _imported(array: ArrowArray, schema: ArrowSchema) -> Typed:
     """Returns the column of an array, which reads its buffers, and its logical type. Releases the array on an error."""
     made, found = Owner(), TypeOwner()
     try:
-        status = attempt("sel_import", byref(array), byref(schema), byref(made._handle), byref(found._handle))
-        if status == ARROW_FORMAT:
-            format = (lib.sel_unsupported_format(byref(schema)) or b"").decode(errors="replace")
-            raise error_of(status, f"{status_of(status)} {format!r}")
-        if status != OK:
-            raise error_of(status, status_of(status))
+        _check_import(attempt("sel_import", byref(array), byref(schema), byref(made._handle), byref(found._handle)), schema)
     finally:
         _release(array)
     return made, logical_type(made, found)
+
+
+def _check_import(status: int, schema: ArrowSchema) -> None:
+    """Raises the exception of a status of the import of a schema, or of an array that has it; none for `SEL_OK`."""
+    if status == ARROW_FORMAT:
+        format = (lib.sel_unsupported_format(byref(schema)) or b"").decode(errors="replace")
+        raise error_of(status, f"{status_of(status)} {format!r}")
+    if status != OK:
+        raise error_of(status, status_of(status))
+
+
+def _check_schema(schema: ArrowSchema) -> None:
+    """Raises the exception of a schema that no column has. Others have as many children as their formats, and do not contain themselves."""
+    found = TypeOwner()
+    _check_import(attempt("sel_type_import", byref(schema), byref(found._handle)), schema)
 
 
 def _import_array(schema: object, array: object) -> Typed:
@@ -187,6 +196,7 @@ def batches(capsule: object) -> Iterator[Typed]:
             count += 1
             yield batch
         if count == 0:
+            _check_schema(schema)
             yield _imported(_empty_array(schema), schema)
     finally:
         _release(schema)
@@ -242,19 +252,14 @@ def _chunks(stream: ArrowArrayStream, schema: ArrowSchema) -> Iterator[Typed]:
         yield _imported(array, schema)
 
 
-# The library does not look at what is below this level.
-_DEEPEST = 257
-
-
-def _empty_array(schema: ArrowSchema, level: int = 0) -> ArrowArray:
-    """Returns an array of a schema without rows. It has as many buffers as the format's layout: the library checks the format."""
-    name = schema.format or b""
+def _empty_array(schema: ArrowSchema) -> ArrowArray:
+    """Returns an array without rows, of a schema that `_check_schema` accepts. It has as many buffers as the format's layout."""
+    name = schema.format
     buffers = 0 if name == b"+r" else 1 if name[:2] in (b"+s", b"+w") else 3 if name[:1] in (b"z", b"Z", b"u", b"U", b"v") or name[:2] == b"+v" else 2
     array = ArrowArray(n_buffers=buffers, buffers=(c_void_p * buffers)(), n_children=schema.n_children, release=ctypes.cast(NO_RELEASE, c_void_p))
-    if name[:1] == b"+" and schema.children and level < _DEEPEST:
-        children = [schema.children[number] for number in range(schema.n_children)]
-        array.children = (POINTER(ArrowArray) * len(children))(*[
-            ctypes.pointer(_empty_array(child.contents, level + 1)) if child else POINTER(ArrowArray)() for child in children])
-    if schema.dictionary and level < _DEEPEST:
-        array.dictionary = ctypes.pointer(_empty_array(schema.dictionary.contents, level + 1))
+    if schema.n_children > 0:
+        children = [_empty_array(schema.children[number].contents) for number in range(schema.n_children)]
+        array.children = (POINTER(ArrowArray) * len(children))(*[ctypes.pointer(child) for child in children])
+    if schema.dictionary:
+        array.dictionary = ctypes.pointer(_empty_array(schema.dictionary.contents))
     return array

@@ -11,12 +11,13 @@ the memory. No column has wrong rows by it.
 from __future__ import annotations
 
 import ctypes
+import os
 import threading
 from ctypes import c_void_p, py_object
 from itertools import count
 from typing import Any
 
-__all__ = ["NO_RELEASE", "Numbers", "Release", "callback"]
+__all__ = ["NO_RELEASE", "Numbers", "Release", "callback", "lock_of_process"]
 
 
 def callback(kind: Any, function: Any) -> Any:
@@ -31,14 +32,31 @@ Release = ctypes.CFUNCTYPE(None, c_void_p)
 NO_RELEASE = callback(Release, lambda address: None)
 
 
+class _Locks:
+    """The lock of this process. A finalizer may ask for it while its thread has it."""
+
+    now = threading.RLock()
+
+
+def lock_of_process() -> Any:
+    """Returns the lock of this process. The child of a fork has another one than its parent: the thread that has the lock may not be in the child."""
+    return _Locks.now
+
+
+def _renew() -> None:
+    _Locks.now = threading.RLock()
+
+
+os.register_at_fork(after_in_child=_renew)
+
+
 class Numbers:
     """The integers from 1 on, of which each is given once, to whichever thread asks for it."""
 
     def __init__(self) -> None:
-        # a finalizer may ask for a number while its thread has the lock
-        self._lock, self._left = threading.RLock(), count(1)
+        self._left = count(1)
 
     def next(self) -> int:
         """Returns the next integer."""
-        with self._lock:
+        with lock_of_process():
             return next(self._left)

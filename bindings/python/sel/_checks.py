@@ -15,7 +15,7 @@ from typing import Any, NamedTuple
 from ._errors import OutOfBounds
 from ._statuses import INDEX_OUT_OF_BOUNDS
 
-__all__ = ["FIELD_NUMBER", "LIST_INDEX", "LIST_SIZE", "ROW_INDEX", "ROW_OFFSET", "SIZE", "Limits",
+__all__ = ["FIELD_NUMBER", "LIST_INDEX", "LIST_SIZE", "NO_ROWS", "ROW_INDEX", "ROW_OFFSET", "SIZE", "Limits",
            "boolean", "booleans", "checked_name", "checked_text", "error_out_of_bounds", "error_outside", "integer", "integer_within", "integers_within", "is_boolean", "is_integer", "listed",
            "position_of", "real", "shown", "utf8_of"]
 
@@ -50,12 +50,13 @@ def shown(value: object) -> str:
 
 
 # Iterables whose items are no rows: characters, bytes, names, or values without an order.
-_NO_ROWS = (str, bytes, bytearray, set, frozenset, Mapping)
+NO_ROWS = (str, bytes, bytearray, set, frozenset, Mapping)
 
 
 def listed(values: Any, name: str) -> list[Any]:
-    """Returns the items of an iterable as a list. Raises TypeError for a text, bytes, a dict or a set: their items are no rows, or have no order."""
-    if not isinstance(values, _NO_ROWS):
+    """Returns the items of an iterable as a list. Raises TypeError for a text, bytes, a dict, a set, or what has several dimensions, such as a
+    data frame: their items are no rows, or have no order."""
+    if not isinstance(values, NO_ROWS) and getattr(values, "ndim", 1) == 1:
         try:
             items = iter(values)
         except TypeError:

@@ -56,7 +56,7 @@ class Column(Owner):
     Columns can be copied by `copy` and pickled. A copy shares memory with its column. A pickle of protocol 5 has the column's buffers,
     which are not copied if they are passed out of band (`pickle.dumps(column, 5, buffer_callback=..)`), as Dask does; the column that is
     read from it reads the buffers that it gets. Earlier protocols have the rows as Python values. A pickle of a slice has the slice's
-    rows alone, and its cost is in proportion to them.
+    rows alone, and its cost is in proportion to them; a dictionary is pickled as a whole.
 
     Each method that takes a mask or indices takes a column, a numpy array or an iterable of Python values. `None` and what is
     masked are null.
@@ -84,8 +84,8 @@ class Column(Owner):
         A column as the values, or Arrow data of another library, keeps its type if none is given. Times in another unit are converted, or
         raise ValueError if the unit cannot hold them.
 
-        Raises TypeError for a value of another type, and for values that are a text, bytes, a dict or a set; OverflowError for an integer
-        that the type cannot hold, ValueError for a dict with other keys than the names of the fields and for a null where the type has none,
+        Raises TypeError for a value of another type, and for values that are a text, bytes, a dict, a set or a data frame without Arrow data;
+        OverflowError for a number that the type cannot hold, ValueError for a dict with other keys than the names of the fields and for a null where the type has none,
         and LimitPassed, an OverflowError, for a type with more than 128 levels.
 
         >>> sel.Column([1, None], "uint8")
@@ -198,6 +198,9 @@ class Column(Owner):
     def decoded(self) -> Column:
         """Returns the column without dictionaries, at every depth: the values in place of their keys.
 
+        Where a key names a null value, the row is None. It counts as null in the decoded column alone: `null_count`, `valid`, `drop_null`
+        and `fill_null` of a column with a dictionary see its null keys, as in Arrow.
+
         >>> sel.Column([1, None]).decoded()
         Column(i64, [1,null])
         """
@@ -244,7 +247,8 @@ class Column(Owner):
         """Returns the rows as Python values: int, bool, str, bytes, list, tuple (of a struct), and `None` for null.
 
         With a logical type they are float, date, time, datetime, timedelta, Decimal, the values of a dictionary, and dicts of structs whose
-        fields have names; maps are lists of pairs. What Python cannot represent, such as nanoseconds in a datetime, is an int.
+        fields have names; maps are lists of pairs. What Python cannot represent, such as nanoseconds in a datetime or a time of day in a date,
+        is an int.
 
         >>> sel.Column.parse("struct<i8,binary>", '[(1, h"00ff"), null]').to_pylist()
         [(1, b'\\x00\\xff'), None]
@@ -285,15 +289,15 @@ class Column(Owner):
         >>> numpy.asarray(sel.Column([1, None, 3]).fill_null(0))
         array([1, 0, 3])
         """
-        array: Array = _arrays.plain_array_of(self, dtype, copy, self._logical)
+        array: Array = _arrays.plain_array_of(self, dtype, None if copy is None else boolean(copy, "copy"), self._logical)
         return array
 
     def values_buffer(self) -> memoryview:
         """Returns a read-only memoryview of the values of integers of 8 to 64 bits or floats, those in null slots too: `valid` says which
         rows are null. It keeps the column's memory, and copies nothing.
 
-        Dates, timestamps and durations are the integers of their storage, half floats their bits, rows of a dictionary their keys. Raises
-        TypeError for another type.
+        Dates, times, timestamps, durations, and decimals and intervals of 32 or 64 bits are the integers of their storage, half floats their
+        bits, rows of a dictionary their keys. Raises TypeError for another type.
 
         >>> view = sel.Column([1.5, -2.0]).values_buffer()
         >>> view.format, view.tolist(), view.readonly
@@ -395,13 +399,16 @@ class Column(Owner):
     def child(self) -> Column:
         """Returns the elements of lists or fixed-size lists as a column, with those outside of the lists. It shares memory with this one.
 
+        Its type is nullable if an element is null, also one below a null list.
+
         >>> sel.Column([[1, 2], [], None, [3]]).child()
         Column(i64, [1,2,3])
         """
-        return self._new("sel_child", logical=self._field_type(0))
+        return self._part("sel_child", logical=self._field_type(0))
 
     def field(self, field: str | SupportsIndex) -> Column:
-        """Returns a field of structs by its name or its number. It shares memory with this column; in null structs it is as stored.
+        """Returns a field of structs by its name or its number. It shares memory with this column; in null structs it is as stored, and its
+        type is nullable if a row of it is null there.
 
         Raises KeyError for a name and IndexError for a number that no field has.
 
@@ -411,7 +418,7 @@ class Column(Owner):
         Column(double, [0.5,2.5])
         """
         place = self._place_of(field) if isinstance(field, str) else integer_within(field, "field", FIELD_NUMBER)
-        return self._new("sel_field", place, logical=self._field_type(place))
+        return self._part("sel_field", place, logical=self._field_type(place))
 
     def _place_of(self, name: str) -> int:
         names = [] if self._logical is None else [field.name for field in self._logical.fields]
@@ -633,6 +640,11 @@ class Column(Owner):
         """Returns what a call makes, which has the type of this column."""
         return self._new(name, *arguments, logical=self._logical)
 
+    def _part(self, name: str, *arguments: Any, logical: ArrowType | None) -> Column:
+        """Returns a field or the elements, whose type allows nulls if there are some: below a null row also what must not be null is."""
+        made = derived(self, name, *arguments)
+        return Column._owning(made, nullable(logical) if lib.sel_null_count(made) > 0 else logical)
+
     def _field_type(self, number: int) -> ArrowType | None:
         fields = () if self._logical is None else self._logical.fields
         return fields[number] if number < len(fields) else None
@@ -729,7 +741,7 @@ def collect_rows(columns: Iterable[Column], picks: Iterable[tuple[SupportsIndex,
 
 
 def concat(columns: Iterable[Column]) -> Column:
-    """Returns the rows of all columns, one column after the other.
+    """Returns the rows of all columns, one column after the other. Dictionaries that differ, or have keys of several types, are decoded.
 
     Raises ValueError if there is no column, and WrongArgument, a TypeError, if they have several types.
 
@@ -740,12 +752,21 @@ def concat(columns: Iterable[Column]) -> Column:
     columns_of(given, "columns")
     if not given:
         raise ValueError("columns: there is no column, and so no type of the result")
-    wanted = given[0].type
-    for position, column in enumerate(given):
-        if column.storage != given[0].storage:
-            raise WrongArgument(TYPE_MISMATCH, f"columns[{position}]: a column of type {column.type}, where columns[0] has type {wanted}")
-    owners, logical = common_type(given, _types_of(given))
+    try:
+        owners, logical = common_type(given, _types_of(given))
+    except WrongArgument:
+        _check_storages([column.decoded() for column in given], given)
+        raise
+    _check_storages(owners, given)
     return Column._owning(concatenated(owners), logical)
+
+
+def _check_storages(owners: Sequence[Owner], columns: Sequence[Column]) -> None:
+    """Raises WrongArgument for the first of the columns that, as it is to be joined with the others, has another storage than columns[0]."""
+    first = storage_type(owners[0])
+    for position, owner in enumerate(owners):
+        if storage_type(owner) != first:
+            raise WrongArgument(TYPE_MISMATCH, f"columns[{position}]: a column of type {columns[position].type}, where columns[0] has type {columns[0].type}")
 
 
 def _types_of(columns: Iterable[Owner]) -> list[ArrowType | None]:

@@ -183,7 +183,7 @@ _CALLS: dict[str, list[Any]] = {
     "sel_type_of_storage": [_COLUMN, _TYPE],
     "sel_type_new": [_BYTES, _TYPE, _SIZE, _TYPE],
     "sel_type_dictionary_new": [_BYTES, _COLUMN, _TYPE, c_bool, _TYPE],
-    "sel_type_as_field": [_TYPE, _BYTES, c_bool, _TYPE],
+    "sel_type_as_field": [_TYPE, c_char_p, c_bool, _TYPE],
     "sel_type_share": [_TYPE, _TYPE],
     "sel_type_child": [_TYPE, _SIZE, _TYPE],
     "sel_type_format": [_TYPE, _BYTES, _SIZE, POINTER(_SIZE)],

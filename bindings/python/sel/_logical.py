@@ -7,7 +7,7 @@ from collections.abc import Sequence
 from ctypes import byref, c_size_t
 from typing import TYPE_CHECKING, Any, overload
 
-from ._checks import checked_name, checked_text
+from ._checks import checked_name, checked_text, shown
 from ._errors import LimitPassed
 from ._library import ArrowSchema, Handle, TypeHandle, call, lib
 from ._memory import room
@@ -61,7 +61,8 @@ def _made(name: str, *arguments: Any) -> TypeOwner:
 
 
 class ArrowType(Type):
-    """The logical type of a column: an Arrow type, over the storage that `kind`, `children` and `width` describe.
+    """The logical type of a column: an Arrow type, over the storage that `kind`, `children` and `width` describe. `parse_type` and
+    `Column.type` return one.
 
     It prints as pyarrow prints it, with short names of integers, and with quotes around names of fields that `parse_type` could not read
     without them. Two logical types are equal if their formats, names, metadata and flags are the same at each depth, and if their
@@ -78,6 +79,8 @@ class ArrowType(Type):
     _owner: TypeOwner
 
     def __init__(self, owner: TypeOwner) -> None:
+        if not isinstance(owner, TypeOwner):
+            raise TypeError(f"{shown(owner)} is of type {type(owner).__name__}, and an ArrowType is not made of it; parse_type makes one of a text")
         kind, children, width = _storage_of(owner)
         super().__init__(kind, children, width)
         object.__setattr__(self, "_owner", owner)
@@ -302,7 +305,7 @@ def nullable(type: Type | None, name: str | None = None, *, is_nullable: bool = 
     logical = type if isinstance(type, ArrowType) else _of_storage(type)
     if logical.is_nullable == is_nullable and name is None:
         return logical
-    return ArrowType(_made("sel_type_as_field", logical._owner, (logical.name if name is None else name).encode(), is_nullable))
+    return ArrowType(_made("sel_type_as_field", logical._owner, lib.sel_type_name(logical._owner) if name is None else name.encode(), is_nullable))
 
 
 def dictionary_of(type: ArrowType) -> tuple[Owner, ArrowType | None]:

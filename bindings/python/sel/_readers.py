@@ -14,10 +14,10 @@ from typing import Any
 
 from ._library import call
 from ._logical import ArrowType, dictionary_of
-from ._makers import CODES
+from ._makers import CODES, made_of
 from ._memory import NO_VALIDITY, Memory, room, room_for_bits, unpacked, words
 from ._owner import Owner, derived
-from ._types import NUMBERS
+from ._types import NUMBERS, Type
 from ._values import Converters, python_value
 
 __all__ = ["compacted", "is_mostly", "printed", "rows_of", "start_of_rows", "text_of", "validity_bits"]
@@ -55,8 +55,11 @@ def rows_of(owner: Owner, logical: ArrowType | None = None, converters: Converte
 def _read_keys(owner: Owner, logical: ArrowType, converters: Converters) -> list[Any]:
     """Returns for each key the value of the dictionary that it names."""
     dictionary, value_type = dictionary_of(logical)
+    keys = rows_of(owner)
+    if len(keys) < len(dictionary):  # only these values are read
+        return rows_of(derived(dictionary, "sel_take", made_of(keys, Type("u32"))), value_type, converters)
     values = rows_of(dictionary, value_type, converters)
-    return [None if key is None else values[key] for key in rows_of(owner)]
+    return [None if key is None else values[key] for key in keys]
 
 
 def _values_of(owner: Owner, kind: str, logical: ArrowType | None, converters: Converters) -> list[Any]:

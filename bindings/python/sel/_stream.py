@@ -32,14 +32,30 @@ def _share_next(batches: Iterator[Typed], out: Any, type: Any) -> int:
     return OK
 
 
+class _Failed:
+    """What is left of an iterator after an exception: the exception again, and never the end."""
+
+    __slots__ = ("_error",)
+
+    def __init__(self, error: BaseException) -> None:
+        self._error = error
+
+    def __iter__(self) -> Iterator[Typed]:
+        return self
+
+    def __next__(self) -> Typed:
+        raise self._error
+
+
 # No exception can pass through the consumer, not even KeyboardInterrupt: where one leaves the function, ctypes returns any number, and 0
 # would be the end of the stream. A consumer of this package gets the exception itself. The defaults are what the function uses: a stream may
 # be read after the names of this module are gone.
 def _next_batch(number: int, out: Any, type: Any, open: Dict[int, Iterator[Typed]] = _OPEN, share: Any = _share_next, passed: Any = PASSED,
-                statuses: Any = (SelError, MemoryError, OUT_OF_MEMORY, ARROW_STREAM)) -> int:
+                failed: Any = _Failed, statuses: Any = (SelError, MemoryError, OUT_OF_MEMORY, ARROW_STREAM)) -> int:
     try:
         return int(share(open[number], out, type))
     except BaseException as error:
+        open[number] = failed(error)
         if passed.errors is not None:
             passed.errors.append(error)
         if isinstance(error, statuses[0]):

@@ -131,7 +131,9 @@ class Table:
             place = position_of(key, "index", self._length)
             self._check_distinct()
             return {name: column[place] for name, column in zip(self._names, self._columns)}
-        return self._each([column[key] for column in self._columns], lambda: len(self._rows()[key]))
+        found = None if isinstance(key, Owner) else imported_if_arrow(key)
+        rows = key if found is None else Column._owning(*found)
+        return self._each([column[rows] for column in self._columns], lambda: len(self._rows()[rows]))
 
     def __contains__(self, name: object) -> bool:
         """Returns whether a column has this name.
@@ -331,7 +333,7 @@ class Stream:
     def __arrow_c_stream__(self, requested_schema: object = None) -> object:
         """Returns a capsule with a stream of the tables. The first one gives the schema; raises ValueError if there is none.
 
-        An exception of the iterator is an error of the stream: `Stream.from_arrow` raises KeyboardInterrupt and the like themselves, and
+        An exception of the iterator is an error of the stream, also of each further call: `Stream.from_arrow` raises KeyboardInterrupt and the like themselves, and
         others as the cause of its own. A value that is not a table is an error of the stream too.
         """
         first = next(self._tables, None)

@@ -7,6 +7,7 @@ such as nanoseconds in a datetime or a year beyond 9999, stays the integer of th
 from __future__ import annotations
 
 import datetime
+import math
 import re
 import struct
 from collections.abc import Callable, Sequence
@@ -94,6 +95,12 @@ def _times(unit: str) -> Converter:
     return convert
 
 
+def _date_of_milliseconds(value: int) -> Any:
+    """Returns the date of a count of milliseconds, or the count if it is not a whole number of days."""
+    days, left = divmod(value, _MILLISECONDS_OF_DAY)
+    return value if left else _DAY + datetime.timedelta(days=days)
+
+
 def _durations(unit: str) -> Converter:
     scale = _microseconds(unit)
 
@@ -132,7 +139,7 @@ def python_value(type: ArrowType | None, kind: str) -> Converter | None:
     if format == "tdD":
         return _or_storage(lambda value: _DAY + datetime.timedelta(days=value))
     if format == "tdm":
-        return _or_storage(lambda value: _DAY + datetime.timedelta(days=value // _MILLISECONDS_OF_DAY))
+        return _or_storage(_date_of_milliseconds)
     if format.startswith("ts"):
         return _timestamps(format[2], _zone(format[4:]))
     if format.startswith("tt"):
@@ -220,10 +227,21 @@ def comparable_value(type: ArrowType | None, kind: str) -> Converter | None:
 # ---- from Python values
 
 
+def _is_finite(value: Any) -> bool:
+    """Returns whether a number is between the infinities: `float` makes an infinity of a Decimal or a longdouble that it cannot hold."""
+    try:
+        return bool(-math.inf < value < math.inf)
+    except TypeError:  # an object that is a number by `__float__` alone
+        return False
+
+
 def _number_of(format: str, value: Any, name: str) -> Any:
     plain, bits = _FLOATS[format]
     try:
-        return struct.unpack(bits, struct.pack(plain, real(value, name)))[0]
+        number = real(value, name)
+        if math.isinf(number) and _is_finite(value):
+            raise OverflowError
+        return struct.unpack(bits, struct.pack(plain, number))[0]
     except OverflowError:
         raise OverflowError(f"{name}: {shown(value)} is too large for a float of {8 * struct.calcsize(plain)} bits") from None
 

@@ -120,6 +120,9 @@ class Values(unittest.TestCase):
             with self.assertRaises(TypeError, msg=valid) as caught:
                 Column.from_numpy(values, valid=valid)
             self.assertIn("valid", str(caught.exception))
+        for valid in table({True, False}, {True: 1, False: 2, None: 3}, frozenset([True]), "abc", b"abc", 5):
+            with self.assertRaisesRegex(TypeError, "valid: .* not a list or another iterable of rows"):
+                Column.from_numpy(values, valid=valid)
         for valid in table([], [True], [True] * 4, numpy.array([True] * 2), numpy.array([[True, True, True]]), numpy.array(True)):
             with self.assertRaises(ValueError, msg=valid) as refused:
                 Column.from_numpy(values, valid=valid)

@@ -4,7 +4,7 @@ from __future__ import annotations
 
 import datetime
 import unittest
-from collections.abc import Callable
+from collections.abc import Callable, Iterator
 from decimal import Decimal
 from typing import Any
 
@@ -106,7 +106,7 @@ class Conversions(unittest.TestCase):
             for source in table(Column(counts, before), Column.from_arrow(Column(counts, before))):
                 self.assertEqual(rows_of(Column(source, after)), expected)
         for before, count, after, error in table(
-            ("timestamp[ns]", 1, "timestamp[s]", ValueError), ("timestamp[ns]", 1, "timestamp[us]", ValueError), ("duration[ns]", 7, "duration[s]", ValueError),
+            ("date64", 1, "date32", ValueError), ("date64", -86_399_999, "date32", ValueError), ("timestamp[ns]", 1, "timestamp[s]", ValueError), ("timestamp[ns]", 1, "timestamp[us]", ValueError), ("duration[ns]", 7, "duration[s]", ValueError),
             ("time64[ns]", 1, "time64[us]", ValueError), ("timestamp[s]", 10**17, "timestamp[ms]", OverflowError), ("timestamp[s]", 10**14, "timestamp[s, tz=UTC]", TypeError),
             ("timestamp[ns]", 1, "duration[ns]", TypeError), ("timestamp[ns]", 1, "i64", TypeError), ("duration[ns]", 1, "double", TypeError), ("duration[s]", 10**15, "time64[ns]", TypeError),
         ):
@@ -139,6 +139,22 @@ class Iterables(unittest.TestCase):
                     use(values)
         for values in table([1, 2], (1, 2), range(1, 3), iter([1, 2]), (number for number in (1, 2)), {1: 0, 2: 0}.keys(), {0: 1, 1: 2}.values(), memoryview(b"\1\2")):
             self.assertEqual(Column(values).to_pylist(), [1, 2])
+
+    def test_what_has_several_dimensions(self) -> None:
+        """The items of a data frame are the names of its columns, and those of an array of two dimensions are arrays."""
+        class Frame:
+            ndim = 2
+
+            def __iter__(self) -> Iterator[str]:
+                return iter(["id", "price"])
+
+        values = table(Frame(), memoryview(bytes(4)).cast("B", (2, 2)))
+        if numpy is not None:
+            values += [numpy.zeros((2, 2), dtype="int64"), numpy.zeros((0, 2), dtype="int64"), numpy.array(5)]
+        for each in values:
+            for text in table(None, "utf8", "i64"):
+                with self.assertRaisesRegex(TypeError, "not a list or another iterable of rows"):
+                    Column(each, text)
 
     def test_values_that_do_not_fit_the_first_one(self) -> None:
         for values in table([[1], 2], [[1], "ab"], [[1], (1,)], [(1,), 5], [(1,), {"a": 1}], [(1,), [1]], [(1,), "a"]):

@@ -223,7 +223,7 @@ class Integers(unittest.TestCase):
                 self.assertIn("length of values[1]: 21 is outside [0, 20]", str(caught.exception))
 
     def test_picks_are_pairs(self) -> None:
-        for pick in table((), (0,), (0, 0, 0), [0], 5, 1.5, "abc", object()):
+        for pick in table((), (0,), (0, 0, 0), [0], 5, 1.5, "abc", object(), "ab", b"\0\0", bytearray(2), {0, 1}, frozenset((0, 1)), {0: "column", 1: "row"}):
             with self.assertRaises(ValueError, msg=pick) as caught:
                 sel.collect_rows([NUMBERS], [(0, 0), pick])
             self.assertIn("picks[1]", str(caught.exception))

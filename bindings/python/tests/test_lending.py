@@ -320,6 +320,15 @@ class ToNumpy(unittest.TestCase):
         self.assertEqual(column.__array__("int64", copy=False).ctypes.data, address_of(column))
         with self.assertRaisesRegex(ValueError, "int8"):
             column.__array__("int8", copy=False)
+        for copy in table(False, numpy.bool_(False)):
+            self.assertEqual(column.__array__(copy=copy).ctypes.data, address_of(column))
+            for other in (Column([True]), Column.from_numpy(numpy.array(["2024-02-29"], dtype="datetime64[D]"))):
+                with self.assertRaisesRegex(ValueError, "is a copy"):
+                    other.__array__(copy=copy)
+        self.assertTrue(column.__array__(copy=numpy.bool_(True)).flags.writeable)
+        for copy in table(0, 1, "no", []):
+            with self.assertRaisesRegex(TypeError, "copy: .* not a boolean"):
+                column.__array__(copy=copy)
 
     def test_views_keep_the_memory(self) -> None:
         watched = Watched()

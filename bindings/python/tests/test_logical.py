@@ -70,7 +70,7 @@ class Values(unittest.TestCase):
             self.assertEqual(str(column.type), text)
 
     def test_values_that_python_has_none_for(self) -> None:
-        for text, value in table(("timestamp[ns]", 1), ("timestamp[s]", 10**17), ("time64[ns]", 1), ("date64[ms]", 10**17), ("duration[s]", 10**17), ("duration[ns]", 7),
+        for text, value in table(("timestamp[ns]", 1), ("timestamp[s]", 10**17), ("time64[ns]", 1), ("date64[ms]", 10**17), ("date64[ms]", 1), ("date64[ms]", -86_399_999), ("duration[s]", 10**17), ("duration[ns]", 7),
                                  ("time32[s]", -1)):
             self.assertEqual(Column([value], text).to_pylist(), [value])
 
@@ -176,6 +176,8 @@ class Dictionaries(unittest.TestCase):
             for found in (sel.collect_rows([column, two], [(0, 0), (0, 1), (1, 0), (1, 1)]),):
                 self.assertEqual((str(found.type), found.to_pylist()), (text, rows))
             self.assertEqual(sel.if_else([True, False], column, two).to_pylist(), [rows[0], rows[3]])
+            for found in table(sel.concat([column, two]), sel.flatten([column, two], [2, 2], 1)):
+                self.assertEqual((str(found.type), found.to_pylist()), (text, rows))
         self.assertTrue(column.equals(Column(["b", "a"])))
         self.assertFalse(column.equals(other))
 

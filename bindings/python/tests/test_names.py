@@ -52,6 +52,16 @@ class Names(unittest.TestCase):
         self.assertLessEqual(set(LONG_NAMES.values()), set(KINDS))
         self.assertEqual(set(LONG_NAMES) & set(KINDS), set())
 
+    def test_long_white_space(self) -> None:
+        """The time is in proportion to the text; a search for commas that began at each space took hours for these."""
+        space = " " * 1_000_000
+        for text in (f"i64{space}x", f"timestamp[ms{space}x]", f"list<item: i64{space}x>", f"decimal128(5{space}2)"):
+            with self.assertRaises(ValueError):
+                parse_type(text)
+        for text, found in ((f"{space}decimal128(5{space},{space}2){space}", "decimal128(5, 2)"), (f"timestamp[ms{space},{space}tz=UTC]", "timestamp[ms, tz=UTC]"),
+                            (f"list<{space}item{space}:{space}int8{space}not null{space}>{space}", "large_list<item: i8 not null>")):
+            self.assertEqual(str(parse_type(text)), found)
+
     def test_texts_that_are_no_types(self) -> None:
         for text in NOT_NAMES:
             for use in table(parse_type, lambda text: Column([], text), lambda text: Column.parse(text, "[]")):

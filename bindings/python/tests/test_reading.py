@@ -13,6 +13,7 @@ from unittest.mock import patch
 import model
 from cases import table
 from sel import Column, Type, _library, _makers, _readers, parse_type
+from sel._logical import coded_type
 from sel._makers import made_of
 from sel._memory import Memory, validity_of, words
 from sel._owner import Owner
@@ -182,6 +183,21 @@ class Costs(unittest.TestCase):
             _library.call("sel_list_new", offsets, 4, *validity_of([True] * 3), child, byref(made._handle))
             wanted = Type("list", (Type(kind),))
             self.check(Column._owning(made), [[], items[20_000:20_002], items[20_002:20_003]], wanted, kind)
+
+    def test_dictionaries(self) -> None:
+        """Of a large dictionary only the values of the rows are read, at every depth."""
+        for kind in ("utf8", "binary", "i64", "list<utf8>", "fixed<3,binview>"):
+            wanted = parse_type(kind)
+            values = [None if number % 7 == 0 else KINDS[kind](number) for number in range(10_000)]
+            for format, storage in (("I", "u32"), ("l", "i64")):
+                coded = coded_type(format, Column(values, kind))
+                for keys in table([], [5_000], [9_999, None, 0, 3, 3], list(range(0, 10_000, 500))):
+                    rows = [None if key is None else values[key] for key in keys]
+                    column = Column._owning(made_of(keys, Type(storage)), coded)
+                    self.check(column, rows, wanted, (kind, keys))
+                    self.check(column.unit_list(), [[row] for row in rows], Type("list", (wanted,)), (kind, keys))
+                all_keys = [None, *range(9_999, -1, -1), 5]
+                self.assertEqual(Column._owning(made_of(all_keys, Type(storage)), coded).to_pylist(), [None, *values[::-1], values[5]])
 
     def test_rows_that_were_taken_or_filtered(self) -> None:
         for kind, row in KINDS.items():

@@ -8,12 +8,15 @@ import threading
 import time
 import unittest
 from collections import Counter
+from collections.abc import Sequence
 from concurrent.futures import ThreadPoolExecutor
+from ctypes import POINTER, addressof, c_void_p, cast, memmove, pointer, sizeof
 
 import model
 import sel
 from cases import table
 from sel import Column, _arrow, parse_type
+from sel._callbacks import NO_RELEASE, Release
 from sel._library import ArrowArray, ArrowSchema
 from streams import Stream, counted
 
@@ -34,6 +37,20 @@ class Exported:
     def __arrow_c_array__(self, requested_schema: object = None) -> tuple[object, object]:
         schema, array = self.capsules
         return schema, array
+
+
+class Malformed(Stream):
+    """A stream whose schema is a copy of another one, which need not be well-formed."""
+
+    def __init__(self, like: Column, chunks: Sequence[Column], schema: ArrowSchema) -> None:
+        super().__init__(like, chunks)
+        self.schema = schema
+
+    def _get_schema(self, stream: int, address: int) -> int:
+        own = self.waiting.pop(0)
+        Release(own.release)(addressof(own))
+        memmove(address, addressof(self.schema), sizeof(self.schema))
+        return 0
 
 
 class Streams(unittest.TestCase):
@@ -96,6 +113,19 @@ class Streams(unittest.TestCase):
                 self.assertEqual(stream.made["array"], min(1, len(chunks)))
                 self.check_released(stream)
 
+    def test_malformed_schemas(self) -> None:
+        """Without a chunk too, the schema is checked before its children are read: there may be fewer than it says, or it may contain itself."""
+        for format, count, children, kind, status in table((b"+s", 2, 2, sel.LimitPassed, 12), (b"+l", 1, 1, sel.LimitPassed, 12), (b"+l", 1 << 40, 1, sel.BrokenRule, 67),
+                                                           (b"i", 1 << 40, 0, sel.BrokenRule, 67), (b"+s", -1, 0, sel.BrokenRule, 67), (b"+us:0", 1 << 40, 1, sel.BrokenRule, 65)):
+            schema = ArrowSchema(format=format, n_children=count, release=cast(NO_RELEASE, c_void_p))
+            schema.children = (POINTER(ArrowSchema) * max(1, children))(*[pointer(schema)] * children)
+            for chunks in table([], [Column([1])]):
+                stream = Malformed(Column([1]), chunks, schema)
+                with self.assertRaises(kind, msg=format) as caught:
+                    Column.from_arrow(stream)
+                self.assertEqual(caught.exception.status, status)
+                self.assertEqual((stream.released["array"], stream.released["stream"]), (len(chunks), 1))
+
     def test_chunks_that_do_not_fit_the_schema(self) -> None:
         for like, chunks in table((Column([1]), [Column([1]), Column([(1,)])]), (Column(["a"]), [Column(["a"]), Column([1])]), (Column([[1]]), [Column([1])])):
             stream = Stream(like, chunks)
@@ -144,6 +174,26 @@ class Streams(unittest.TestCase):
         with ThreadPoolExecutor(4) as pool:
             found = [moved.release for moved in pool.map(_arrow._moved, [there] * 4)]
         self.assertEqual(sorted(found, key=str), [1, None, None, None])
+
+    def test_a_finalizer_that_imports_during_an_import(self) -> None:
+        """The copy of a structure may start the garbage collector, and a finalizer may move another structure on the same thread."""
+        class Structure:
+            release: int | None = 1
+
+            @classmethod
+            def from_buffer_copy(cls, there: Structure) -> Structure:
+                if there is outer:
+                    _arrow._moved(inner)
+                moved = cls()
+                moved.release = there.release
+                return moved
+
+        outer, inner = Structure(), Structure()
+        thread = threading.Thread(target=_arrow._moved, args=(outer,), daemon=True)
+        thread.start()
+        thread.join(10)
+        self.assertFalse(thread.is_alive())
+        self.assertEqual((outer.release, inner.release), (None, None))
 
     def test_sources(self) -> None:
         class Both(Stream):

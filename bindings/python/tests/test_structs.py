@@ -4,6 +4,7 @@ from __future__ import annotations
 
 import datetime
 import json
+import pickle
 import struct
 import unittest
 from typing import Any
@@ -12,7 +13,9 @@ import sel
 from arrays import Piece
 from cases import table
 from sel import Column, Table, Type, parse_type
-from sel._logical import coded_type, of_format
+from sel._logical import as_logical_of, coded_type, of_format
+from sel._makers import made_of
+from sel._pickle import described, type_again
 
 DAY = datetime.date(2024, 2, 29)
 ORDER = {"id": 1, "price": 2.5}
@@ -67,6 +70,20 @@ class Fields(unittest.TestCase):
                 parse_type(text)
         with self.assertRaisesRegex(ValueError, "half a surrogate pair"):
             Table({"\udfff": [1]})
+
+
+class Nulls(unittest.TestCase):
+    def test_fields_and_elements_below_nulls(self) -> None:
+        """A field or an element that is not null is null below a null row. As a column it has these nulls, and a type that allows them."""
+        structs, lists = Column([{"a": 1}, None], "struct<a: i64 not null>"), Column([[0.5, 1.5], None], "fixed_size_list<item: double not null>[2]")
+        nested = Column([{"a": {"b": 1}}, None], "struct<a: struct<b: i64 not null> not null>")
+        for found, rows in table((structs.field("a"), [1, None]), (structs.field(0), [1, None]), (lists.child(), [0.5, 1.5, None, None]), (nested.field("a").field("b"), [1, None]),
+                                 (structs.take([None, 0]).field("a"), [None, 1]), (lists.take([None, 0]).child(), [None, None, 0.5, 1.5])):
+            self.assertEqual((found.to_pylist(), getattr(found.type, "is_nullable", True)), (rows, True))
+            for again in (Column.from_arrow(found), Table.from_arrow(Table({"a": found}))["a"], Column(found, found.type), pickle.loads(pickle.dumps(found))):
+                self.assertEqual((again.to_pylist(), again.type), (rows, found.type))
+        for found in (structs[:1].field("a"), structs.drop_null().field("a"), lists.drop_null().child(), Table.from_arrow(structs.drop_null())["a"]):
+            self.assertFalse(getattr(found.type, "is_nullable", True))
 
 
 class Texts(unittest.TestCase):
@@ -152,6 +169,16 @@ class Texts(unittest.TestCase):
         self.assertEqual(parse_type('struct<"0": i64>'), Type("struct", (Type("i64"),)))
 
 
+class Names(unittest.TestCase):
+    def test_a_type_that_becomes_nullable_keeps_its_name(self) -> None:
+        """Also if it has none, or one that is not UTF-8, which another library has made."""
+        for name in (None, b"", b"a", b"\xff"):
+            column = Column._owning(made_of([1, 2], Type("i64")), type_again((b"l", name, None, 0, (), None)))
+            self.assertFalse(getattr(column.type, "is_nullable", True))
+            for found in (column, column.take([None, 0]), column[::-1], column[[0]], sel.collect_rows([column], [(0, 0), None])):
+                self.assertEqual(described(as_logical_of(found, found._logical)._owner)[1], name)
+
+
 class Types(unittest.TestCase):
     def test_logical_types_below_others(self) -> None:
         double = parse_type("double")
@@ -168,6 +195,11 @@ class Types(unittest.TestCase):
                                   (Type("struct", (whole, Type("i8"), double)), "struct<double not null,i8,double>"), (Type("list", (Type("list", (whole,)),)), "list<list<double not null>>")):
             self.assertEqual((str(wanted), parse_type(text)), (text, wanted))
         self.assertNotEqual(parse_type("list<double>"), Type("list", (whole,)))
+
+    def test_logical_types_are_not_made_of_texts(self) -> None:
+        for value in table("double", Type("i64"), None, parse_type("double")):
+            with self.assertRaisesRegex(TypeError, "parse_type"):
+                sel.ArrowType(value)
 
     def test_types_that_there_are_not(self) -> None:
         makers: list[Any] = [lambda: Type("foo"), lambda: Type("list"), lambda: Type("fixed", (), 2), lambda: Type("i64", (Type("i64"),)), lambda: Type("list", (Type("i8"),) * 2),

@@ -3,33 +3,58 @@
 from __future__ import annotations
 
 import datetime
+import importlib
 import unittest
 from collections.abc import Iterator
-from ctypes import byref
+from ctypes import POINTER, byref, c_void_p, cast, pointer
 from typing import Any
 
 import sel
 from cases import table
-from sel import Column, Selection, Stream, Table
-from sel._library import ArrowArray, ArrowArrayStream
+from sel import Column, Selection, Stream, Table, _arrow
+from sel._callbacks import NO_RELEASE
+from sel._library import ArrowArray, ArrowArrayStream, ArrowSchema
 from streams import Only
 
 DAY = datetime.date(2020, 1, 1)
 ROWS: dict[str, list[Any]] = {"id": [1, 2, 3], "when": [DAY, None, DAY], "name": ["a", "a name of more than twelve bytes", None], "lists": [[0.5], [], None]}
 
 
-def codes_of(source: Stream) -> list[int]:
-    """Returns the codes that another consumer of a stream gets: for each array, and for what ends the stream."""
+def codes_of(source: Stream, further: int = 0) -> list[int]:
+    """Returns the codes that another consumer of a stream gets: for each array, for what ends the stream, and for so many calls after that."""
     capsule, codes = source.__arrow_c_stream__(), []
     stream = sel._arrow._moved(ArrowArrayStream.from_address(sel._arrow._api.PyCapsule_GetPointer(capsule, sel._arrow._STREAM)))
     while True:
         array = ArrowArray()
         codes.append(sel._arrow._GetNext(stream.get_next)(byref(stream), byref(array)))
-        if not array.release:
+        if array.release:
+            sel._arrow._release(array)
+        elif further == 0:
             break
-        sel._arrow._release(array)
+        else:
+            further -= 1
     sel._arrow._release(stream)
     return codes
+
+
+class Given:
+    """An object with the array of two capsules."""
+
+    def __init__(self, schema: object, array: object) -> None:
+        self.capsules = schema, array
+
+    def __arrow_c_array__(self, requested_schema: object = None) -> tuple[object, object]:
+        return self.capsules
+
+
+class Once:
+    """An object with the stream of a column, which is always the same one."""
+
+    def __init__(self, column: Column) -> None:
+        self.capsule = column.__arrow_c_stream__()
+
+    def __arrow_c_stream__(self, requested_schema: object = None) -> object:
+        return self.capsule
 
 
 class Tables(unittest.TestCase):
@@ -60,6 +85,13 @@ class Tables(unittest.TestCase):
         with self.assertRaises(IndexError):
             made.take([-1])
         self.assertEqual(repr(Table({"a": list(range(9)), "b": [0.5] * 9})), "Table of 9 rows\na: i64 [0,1,2,3,4,5, ...]\nb: double [0.5,0.5,0.5,0.5,0.5,0.5, ...]")
+
+    def test_keys_that_are_read_once(self) -> None:
+        """A key of another library may be a stream, which gives its rows once, and not once for each column."""
+        rows = Table({"a": [1, 2, 3], "b": ["x", "y", "z"]})
+        for key, found in table((Column([2, None, 0]), {"a": [3, None, 1], "b": ["z", None, "x"]}), (Column([True, False, None]), {"a": [1], "b": ["x"]})):
+            self.assertEqual(rows[Once(key)].to_pydict(), found)
+            self.assertEqual(len(Table({})[Once(key[:0])]), 0)
 
     def test_without_columns(self) -> None:
         """The rows are counted as those of a column are."""
@@ -108,14 +140,19 @@ class Tables(unittest.TestCase):
             type_ = sel._logical.of_format(strings[requested])
             like = Column._owning(sel._makers.made_of([], sel.parse_type("utf8" if text == "string" else "u64")), type_)
             schema, array = wanted["a"].__arrow_c_array__(like.__arrow_c_schema__())
-
-            class Given:
-                def __arrow_c_array__(self, requested_schema: object = None) -> tuple[object, object]:
-                    return schema, array
-
-            again = Column.from_arrow(Given())
+            again = Column.from_arrow(Given(schema, array))
             self.assertEqual(str(again.type), "utf8" if found == "string_view" else found)
             self.assertEqual(again.to_pylist(), wanted["a"].to_pylist())
+
+    def test_requested_schemas_that_no_column_has(self) -> None:
+        """The export has the type of the column then, whatever is wrong with the request."""
+        for format, count in table((b"+l", 1), (b"+us:0", 1), (b"+l", 0), (b"", 0)):
+            there, capsule = _arrow._new_capsule(ArrowSchema, _arrow._SCHEMA, _arrow._DESTROY_SCHEMA)
+            there.format, there.n_children, there.release = format, count, cast(NO_RELEASE, c_void_p)
+            there.children = (POINTER(ArrowSchema) * 1)(pointer(there))  # it contains itself
+            for column in table(Column([1, None]), Column([["a"]]), Table({"a": [0.5]})):
+                schema, array = column.__arrow_c_array__(capsule)
+                self.assertEqual(Column.from_arrow(Given(schema, array)).to_pylist(), list(column))
 
     def test_unions_are_named(self) -> None:
         from streams import Stream as Producer
@@ -157,6 +194,17 @@ class Streams(unittest.TestCase):
         with self.assertRaises(TypeError):
             Stream.from_arrow([1])
 
+    def test_a_module_that_is_missing(self) -> None:
+        """The ImportError of a generator is raised: the tables that it has left, none, are not the rows of a column."""
+        def tables() -> Iterator[Table]:
+            importlib.import_module("no_such_module")
+            yield Table({"a": [1]})
+
+        for use in table(Column, Column.from_pylist, lambda stream: Column(stream, "i64"), Column.from_arrow, Table.from_arrow, lambda stream: Table({"a": stream}), Column([1]).take,
+                         Column([1]).filter, Selection, lambda stream: Column([1])[stream]):
+            with self.assertRaises(ModuleNotFoundError):
+                use(Stream(tables()))
+
     def test_every_exception_is_an_error(self) -> None:
         """None of them looks like the end of the stream. This package gets it, or has it as the cause; another consumer gets a code."""
         def failing(error: BaseException) -> Iterator[Table]:
@@ -179,6 +227,30 @@ class Streams(unittest.TestCase):
             list(Stream.from_arrow(Stream(failing(cause))))
         self.assertIs(given.exception.__cause__, cause)
         self.assertEqual((sel._arrow.PASSED.errors, sel._stream._OPEN), (None, {}))
+
+    def test_calls_after_an_error(self) -> None:
+        """A generator has ended after its exception, and another iterator may go on. A consumer that asks again gets the error again."""
+        class Going:
+            def __init__(self) -> None:
+                self.count = 0
+
+            def __iter__(self) -> Iterator[Table]:
+                return self
+
+            def __next__(self) -> Table:
+                self.count += 1
+                if self.count == 2:
+                    raise KeyError("x")
+                return Table({"a": [self.count]})
+
+        def failing(error: BaseException) -> Iterator[Table]:
+            yield Table({"a": [1]})
+            raise error
+
+        for tables, code in table((failing(KeyError("x")), 22), (failing(MemoryError()), 12), (failing(KeyboardInterrupt()), 22), (Going(), 22), (iter([Table({"a": [1]}), 5]), 22)):
+            self.assertEqual(codes_of(Stream(tables), 3), [0, code, code, code, code])
+        self.assertEqual(codes_of(Stream([Table({"a": [1]})]), 3), [0, 0, 0, 0, 0])
+        self.assertEqual(sel._stream._OPEN, {})
 
     def test_a_stream_that_is_not_read_is_released(self) -> None:
         capsule = Stream(iter([Table({"a": [1]})])).__arrow_c_stream__()

@@ -4,6 +4,7 @@ from __future__ import annotations
 
 import copy
 import pickle
+import subprocess
 import sys
 import threading
 import unittest
@@ -53,6 +54,44 @@ def results(column: Column, mask: Column, indices: Column) -> list[Any]:
         Column.from_arrow(column), Column.parse(column.type, str(column)),
     ]
     return [*[each.to_pylist() for each in found], str(column), column.equals(found[-1]), column.null_count, len(column), column[11], column.valid(), str(column.type)]
+
+
+FORKED = """
+import os, pickle, signal, threading
+import sel
+from sel import Column, _arrow
+
+class Structure:
+    release = 1
+
+    @classmethod
+    def from_buffer_copy(cls, there):
+        begun.set()
+        ended.wait()
+        return there
+
+begun, ended = threading.Event(), threading.Event()
+thread = threading.Thread(target=_arrow._moved, args=(Structure(),))
+thread.start()
+begun.wait()
+child = os.fork()
+if child == 0:
+    signal.alarm(20)
+    column = Column([1, None])
+    for again in (Column.from_arrow(column), pickle.loads(pickle.dumps(column, 5)), pickle.loads(pickle.dumps(Column([0.5]).type)), sel.Table.from_arrow(sel.Stream([sel.Table({"a": column})]))["a"]):
+        str(again)
+    os._exit(0)
+print(os.waitpid(child, 0)[1])
+ended.set()
+thread.join()
+"""
+
+
+class Forks(unittest.TestCase):
+    def test_a_fork_while_another_thread_imports(self) -> None:
+        """The thread is not in the child, which must not wait for a lock that it had."""
+        done = subprocess.run([sys.executable, "-W", "ignore", "-c", FORKED], capture_output=True, text=True, check=False)
+        self.assertEqual((done.returncode, done.stdout, done.stderr), (0, "0\n", ""))
 
 
 class Threads(unittest.TestCase):

@@ -56,6 +56,19 @@ class Floats(unittest.TestCase):
                 with self.assertRaisesRegex(TypeError, r"values\[1\]: .* not a number"):
                     Column([1.5, value], text)
 
+    def test_finite_numbers_beyond_the_floats(self) -> None:
+        """`float` makes an infinity of them, which a column must not have in their place."""
+        values = table(Decimal("1E+400"), Decimal("-1E+400"), 10**400)
+        if numpy is not None and float(numpy.finfo("longdouble").max) == float("inf"):
+            values += [numpy.finfo("longdouble").max, numpy.finfo("longdouble").min]
+        for value in values:
+            for text in table("double", "float", "halffloat"):
+                with self.assertRaisesRegex(OverflowError, r"values\[1\]: .* too large for a float of"):
+                    Column([1.5, value], text)
+        infinite = table(Decimal("Infinity"), Decimal("-Infinity"), float("inf"), *([] if numpy is None else [numpy.longdouble("inf"), numpy.float16("-inf")]))
+        for text in table("double", "float", "halffloat"):
+            self.assertEqual(Column(infinite, text).to_pylist(), [float(value) for value in infinite])
+
     @unittest.skipIf(numpy is None, "numpy is not installed: its values are not tested")
     def test_values_of_numpy(self) -> None:
         self.assertEqual(Column([1.5, numpy.float32(0.5), numpy.int8(3), numpy.float64(2), numpy.float16(0.25)]).to_pylist(), [1.5, 0.5, 3.0, 2.0, 0.25])
