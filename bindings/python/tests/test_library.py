@@ -6,7 +6,7 @@ import ctypes
 import os
 import re
 import unittest
-from ctypes import c_bool, c_int64, c_size_t, c_uint32, c_void_p
+from ctypes import c_bool, c_char_p, c_int64, c_size_t, c_uint32, c_void_p
 from pathlib import Path
 from typing import Any
 from unittest.mock import patch
@@ -139,7 +139,7 @@ class Declarations(unittest.TestCase):
         for name, declared in _library._CALLS.items():
             for kind in declared:
                 is_pointer = issubclass(kind, ctypes._Pointer)
-                self.assertTrue(is_pointer or kind is c_bool or kind in RANGES, (name, kind))
+                self.assertTrue(is_pointer or kind in (c_bool, c_char_p) or kind in RANGES, (name, kind))
 
     @unittest.skipUnless(HEADER.exists(), f"{HEADER} is not there: the declarations are not compared with it")
     def test_declarations_are_those_of_the_header(self) -> None:
