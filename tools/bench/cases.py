@@ -295,10 +295,12 @@ def take_of_nulls(rows: int, nulls: bool = False) -> Case:
             return
         raise SystemExit("wrong result: an index out of bounds is taken")
 
+    def by_numpy() -> object:
+        return places.max() < rows if valid is None else ((places < rows) | ~valid).all()
+
     parts: dict[str, Part] = {} if valid is None else {"valid": packed(valid)}
-    return Case("take, nulls", rows, "random" + (", half of the indices null" if nulls else ""), ("take", "loop_in_bounds"), check,
-                (lambda: int(places.max()) < rows) if valid is None else (lambda: bool(((places < rows) | ~valid).all())),
-                made=rows, read=rows * 4 + (rows // 8 if nulls else 0), indices=places, first=column, second=indices, **parts)
+    return Case("take, nulls", rows, "random" + (", half of the indices null" if nulls else ""), ("take", "loop_in_bounds"), check, by_numpy,
+                made=rows, read=rows * 4 + (rows // 8 if nulls else 0), written=0, indices=places, first=column, second=indices, **parts)
 
 
 def take_of_others(rows: int) -> Iterator[Case]:
