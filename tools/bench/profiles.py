@@ -24,7 +24,7 @@ import upstream  # noqa: E402
 from package import BUILD  # noqa: E402
 
 # the rounds of a case by its number of rows, and those of the run that shows what only prepares it
-ROUNDS, FEW_ROUNDS = {16384: 150, 1048576: 15}, 1
+ROUNDS, FEW_ROUNDS = {16384: 1000, 1048576: 15}, 1
 # what compares the results of a case before it is timed
 COMPARES = "sel_text::"
 # the shares of the library's samples that are listed: at least this, and at most so many functions
