@@ -6,10 +6,10 @@ tools/gate.py anew    the same as a clean build, to measure the time: what `make
 tools/gate.py check   proves what has changed over cached proofs and runs the fast checks: what `make check` runs
 tools/gate.py setup   installs the optional programs and libraries that the checks use: what `make setup` runs. Exits with status 1 if one is missing then
 
-Checks that need only some of the proved libraries run while `rt ci` runs, as soon as those are proved, at a lower priority. (The C
-library is built at the same priority as the proofs, since its checks and those of the bindings wait for it.) The others run after `rt ci`. The table
-lists what a check leaves out because an optional dependency is missing. A check that takes more than two hours is ended, and has failed; proofs may
-take as long as they need.
+Optional programs and libraries that are missing are installed while the first crates are proved, which need none of them. Checks that need
+only some of the proved libraries run while `rt ci` runs, as soon as those are proved, at a lower priority. (The C library is built at the same
+priority as the proofs, since its checks and those of the bindings wait for it.) The others run after `rt ci`. The table lists what a check leaves
+out because an optional dependency is missing. A check that takes more than two hours is ended, and has failed; proofs may take as long as they need.
 """
 
 from __future__ import annotations
@@ -357,10 +357,13 @@ def try_mutants(board: Board, proofs: Proofs, room: threading.Semaphore, name: s
     return run_in(room, board, name, ["tools/mutants.py", *labels])
 
 
-def try_library(board: Board, proofs: Proofs, room: threading.Semaphore) -> bool:
-    """Builds the C library, and tests it and what uses it, as soon as the crates that it depends on are proved."""
+def try_library(board: Board, proofs: Proofs, room: threading.Semaphore, installed: Future[int]) -> bool:
+    """Builds the C library, and tests it and what uses it, as soon as the crates that it depends on are proved and the setup has ended."""
+    if not proofs.wait_for(below("sel_c")):
+        return False
+    installed.result()
     # not at a lower priority, since the others wait for it
-    if not proofs.wait_for(below("sel_c")) or not run_check(board, "C library", ["tools/clib.py", "--gate", proofs.sources], limit=None):
+    if not run_check(board, "C library", ["tools/clib.py", "--gate", proofs.sources], limit=None):
         return False
     with ThreadPoolExecutor(len(AFTER_LIBRARY)) as pool:
         passed = all(list(pool.map(lambda check: run_in(room, board, *check), AFTER_LIBRARY)))
@@ -371,17 +374,19 @@ def try_library(board: Board, proofs: Proofs, room: threading.Semaphore) -> bool
 def run_all(anew: bool) -> int:
     mutants = mutants_by_check()
     board = Board(1 + len(DOCUMENTS) + len(mutants) + 1 + len(AFTER_LIBRARY) + len(AFTER_BOTH) + len(AFTER_PROOFS))
-    setup()
+    absent = announced()
     for name, command in DOCUMENTS:
         if not run_check(board, name, command):
             board.table()
             return 1
     proofs, room, library_room = Proofs(board, anew), threading.Semaphore(AT_ONCE), threading.Semaphore(LIBRARY_AT_ONCE)
-    with ThreadPoolExecutor(2) as pool, ThreadPoolExecutor(len(mutants)) as trials:
-        waited: list[Future[bool]] = [pool.submit(try_library, board, proofs, library_room)]
+    with ThreadPoolExecutor(3) as pool, ThreadPoolExecutor(len(mutants)) as trials:
+        installed = pool.submit(install, absent)
+        waited: list[Future[bool]] = [pool.submit(try_library, board, proofs, library_room, installed)]
         waited += [trials.submit(try_mutants, board, proofs, room, name, labels) for name, labels in mutants.items()]
         pool.submit(proofs.run)
         if proofs.wait():
+            installed.result()
             for rooms, at_once in (room, AT_ONCE), (library_room, LIBRARY_AT_ONCE):
                 more = len(os.sched_getaffinity(0)) - at_once
                 if more > 0:
@@ -417,15 +422,25 @@ def missing() -> list[str]:
     return [name for name in SETUP if subprocess.run([*need, name], stderr=subprocess.DEVNULL, check=False).returncode]
 
 
-def setup(*options: str) -> int:
-    """Prints what is missing and what it is for, and installs it from the system's packages if possible.
-
-    Returns 1 if something is missing afterwards, and names it; tools/need, which gets the options, prints why it is missing.
-    """
-    before = missing()
-    for name in before:
+def announced() -> list[str]:
+    """Returns which of the optional programs and libraries are missing, and prints what each is for."""
+    absent = missing()
+    for name in absent:
         print(f"missing: {name}, which {SETUP[name]}; it is installed from the system's packages if that is possible", flush=True)
-    if not before or subprocess.run([str(ROOT / "tools" / "need"), *options, *before], check=False).returncode == 0:
+    return absent
+
+
+def install(absent: list[str], *options: str) -> int:
+    """Installs what is missing from the system's packages if possible. tools/need, which gets the options, prints why something is missing afterwards.
+
+    Returns 1 if something is, and names it.
+    """
+    status = 0
+    if absent:
+        with CHILDREN.started([str(ROOT / "tools" / "need"), *options, *absent], None) as ran:
+            print(ran.stdout.read() if ran.stdout else "", end="", flush=True)
+            status, _ = ended(ran)
+    if status == 0:
         print("all that the checks use besides the toolchain is installed", flush=True)
         return 0
     print(f"still missing: {', '.join(missing())}; the checks leave out what needs them", flush=True)
@@ -436,7 +451,7 @@ def main() -> int:
     CHILDREN.catch_signals()
     if sys.argv[1:] == ["setup"]:
         # what failed before is tried again, since its cause may be gone
-        return setup("--again")
+        return install(announced(), "--again")
     if sys.argv[1:] == ["check"]:
         return run_fast()
     if sys.argv[1:] not in ([], ["anew"]):

@@ -1,9 +1,8 @@
-//! Shared by several files and crates: columns built from rows, and columns compared with rows.
+//! Shared by several files: columns built from rows, and columns compared with rows.
 
 ghost use Rattle.std.specs.Prelude.{length, IfOk};
 ghost use Rattle.sel_arrow.specs.Masked.{Covers};
 
-use crate::fixtures::{both, buffer};
 use sel_arrow::array::Array;
 use sel_arrow::array_ref::ArrayRef;
 use sel_arrow::binary::BinaryArray;
@@ -15,14 +14,9 @@ use sel_bits::bitmap::Bitmap;
 use sel_bits::buffer::Buffer;
 use sel_bits::faults::PolarsResult;
 use sel_bits::native::{NativeType, Offset};
-use sel_bits::offsets::OffsetsBuffer;
 use std::alloc::Global;
 use std::test::Fail;
-
-/// Returns these offsets.
-pub fn offsets(alloc: Global, offsets: &[i64]) -> Result<OffsetsBuffer<i64>, Fail> {
-    Ok(OffsetsBuffer::try_from(Vec::from_slice(alloc, offsets)?)?)
-}
+use tests_bits::fixtures::{both, buffer};
 
 /// Returns these bits as a validity.
 pub fn validity(alloc: Global, bits: &[bool]) -> PolarsResult<Option<Bitmap>>

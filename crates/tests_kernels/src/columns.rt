@@ -4,9 +4,8 @@ ghost use Rattle.sel_arrow.specs.Masked.{Covers};
 ghost use Rattle.sel_arrow.specs.Rows.{IsWellFormed};
 
 use crate::column_fixtures::{
-    has_bytes, has_bytes_at, has_numbers, numbers, offsets, one_buffer, truths, validity,
+    has_bytes, has_bytes_at, has_numbers, numbers, one_buffer, truths, validity,
 };
-use crate::fixtures::{both, buffer, same};
 use sel_arrow::array::Array;
 use sel_arrow::array_ref::ArrayRef;
 use sel_arrow::binary::BinaryArray;
@@ -28,6 +27,7 @@ use std::alloc::Global;
 use std::fmt::Debug;
 use std::process::Abort;
 use std::test::Fail;
+use tests_bits::fixtures::{both, buffer, offsets, same};
 
 const WHOLE: View = View {
     length: 13,
