@@ -87,7 +87,7 @@ static bool ends(const struct step *step, const char *call, sel_status status, s
 
 /* ---- one column ---- */
 
-/* Filters by a mask that is prepared, and another column of as many rows by the same. */
+/* Filters by a mask that is prepared, twice; the results must be equal. */
 static sel_status filter_by_selection(const struct entry *entry, const sel_column *mask, sel_column *out) {
     sel_selection by = {0};
     sel_column again = {0};

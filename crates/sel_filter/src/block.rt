@@ -50,11 +50,11 @@ pub(crate) fn append_blocks<T: Copy>(
     let len = values.len();
     let mut block: usize = 0;
     while block < len / 64 {
-        let mask = whole_word(bytes, 8 * block, 0);
-        if is_mixed(mask, values) {
-            block = push_mixed(values, bytes, block, out);
-        } else if are_four_full(mask, &bytes[8 * block..]) {
+        if are_four_full(&bytes[8 * block..]) {
             block = append_full(values, bytes, block, out)?;
+        }
+        if block < len / 64 && is_mixed(whole_word(bytes, 8 * block, 0), values) {
+            block = push_mixed(values, bytes, block, out);
         }
         if block < len / 64 {
             let word = whole_word(bytes, 8 * block, 0);
@@ -96,11 +96,10 @@ fn few_runs<T: Copy>(values: &[T]) -> u32 {
     FEW_RUNS
 }
 
-/// Returns whether all bits of four blocks are set, by the bits of the first one and the bytes of
-/// all. Only speed depends on the result.
+/// Returns whether all bits of the first four blocks are set. Only speed depends on the result.
 #[inline(always)]
-fn are_four_full(first: u64, bytes: &[u8]) -> bool {
-    if first != u64::MAX || bytes.len() < 32 {
+fn are_four_full(bytes: &[u8]) -> bool {
+    if bytes.len() < 32 || whole_word(bytes, 0, 0) != u64::MAX {
         return false;
     }
     let second = whole_word(bytes, 8, 0);
