@@ -287,7 +287,7 @@ DOCUMENTS = [
     ("toolchain", ["tools/toolchain.py", "--check"]),
     ("report of make lib", ["tools/libraries.py", "--check"]),
 ]
-# these read sources alone: `make check` runs them while it builds the C library
+# these read sources alone, and use programs that the setup installs
 LINTS = [
     ("Rust lint", ["tools/bindings.py", "lint"]),
     ("Python types", ["tools/bindings.py", "types"]),
@@ -304,7 +304,6 @@ AFTER_LIBRARY = [
     ("Python wheel", ["tools/bindings.py", "wheel"]),
     ("Arrow interface in C", ["tools/bindings.py", "c"]),
     ("Arrow interface under valgrind", ["tools/bindings.py", "valgrind"]),
-    *LINTS,
     ("Dask example", ["tools/bindings.py", "dask"]),
     ("random columns", ["tools/soak.py", "--check"]),
     ("archive", ["tools/dist.py", "--check"]),
@@ -371,18 +370,24 @@ def try_library(board: Board, proofs: Proofs, room: threading.Semaphore, install
     return passed and answered
 
 
+def try_lints(board: Board, installed: Future[int]) -> bool:
+    """Runs the checks that read sources alone as soon as the setup has ended, while processors are idle."""
+    installed.result()
+    return all([run_check(board, name, command, beside=True) for name, command in LINTS])
+
+
 def run_all(anew: bool) -> int:
     mutants = mutants_by_check()
-    board = Board(1 + len(DOCUMENTS) + len(mutants) + 1 + len(AFTER_LIBRARY) + len(AFTER_BOTH) + len(AFTER_PROOFS))
+    board = Board(1 + len(DOCUMENTS) + len(LINTS) + len(mutants) + 1 + len(AFTER_LIBRARY) + len(AFTER_BOTH) + len(AFTER_PROOFS))
     absent = announced()
     for name, command in DOCUMENTS:
         if not run_check(board, name, command):
             board.table()
             return 1
     proofs, room, library_room = Proofs(board, anew), threading.Semaphore(AT_ONCE), threading.Semaphore(LIBRARY_AT_ONCE)
-    with ThreadPoolExecutor(3) as pool, ThreadPoolExecutor(len(mutants)) as trials:
+    with ThreadPoolExecutor(4) as pool, ThreadPoolExecutor(len(mutants)) as trials:
         installed = pool.submit(install, absent)
-        waited: list[Future[bool]] = [pool.submit(try_library, board, proofs, library_room, installed)]
+        waited: list[Future[bool]] = [pool.submit(try_library, board, proofs, library_room, installed), pool.submit(try_lints, board, installed)]
         waited += [trials.submit(try_mutants, board, proofs, room, name, labels) for name, labels in mutants.items()]
         pool.submit(proofs.run)
         if proofs.wait():
@@ -405,7 +410,7 @@ def run_fast() -> int:
     # linked with the shared library, the tests of the Rust package are compiled only when they change
     os.environ |= {"SEL_LIBRARY_KIND": "dylib", "CARGO_PROFILE_DEV_OPT_LEVEL": "1"}
     sources = [*DOCUMENTS, *LINTS]
-    fast = [(name, [*command, *FAST_OPTIONS.get(name, [])]) for name, command in AFTER_LIBRARY if name not in NOT_FAST and (name, command) not in LINTS]
+    fast = [(name, [*command, *FAST_OPTIONS.get(name, [])]) for name, command in AFTER_LIBRARY if name not in NOT_FAST]
     board = Board(1 + len(sources) + len(fast))
     with ThreadPoolExecutor(len(fast)) as pool:
         built = pool.submit(run_check, board, "C library", ["tools/clib.py", "--fast"], limit=None)

@@ -7,8 +7,12 @@ tools/runs.py NAME ..   only these
 A folder has three files: stdin is the input, stdout the expected output, status the expected exit status. In the first two,
 `<TEXT*N>` means N times TEXT. An optional fourth file, how, has one word: `closed` closes the input; `full` writes to /dev/full;
 `refused` makes the first allocation fail (tools/refuse); `each` runs each line of stdin alone, followed by the line `take 5 0`, and
-expects the same output and status each time. An optional fifth file, args, has the program's arguments, a line each. Only a line feed
-ends a line. A line may be empty; there must be at least one.
+expects the same output and status each time; `pieces` makes each read and each write transfer one byte (tools/refuse/transfers.c): first
+none fails, then each read does, then each write, then each write accepts no byte. After a failed read the output must be the answers to
+the lines before, after a failed write what was written before, and the exit status 1. Each line of stdin must have one answer then.
+
+An optional fifth file, args, has the program's arguments, a line each. Only a line feed ends a line. A line may be empty; there must be
+at least one.
 
 Uses the program that `rt ci` built. If it is missing or older than its sources, proves and builds it first.
 """
@@ -23,7 +27,8 @@ import tempfile
 
 TOP = pathlib.Path(__file__).resolve().parent.parent
 RUNS = TOP / "crates" / "sel_bench" / "runs"
-HOW = ("closed", "full", "refused", "each")
+HOW = ("closed", "full", "refused", "each", "pieces")
+TRANSFERS = TOP / "tools" / "refuse" / "transfers.c"
 BEHIND = b"take 5 0\n"
 SECONDS = 60
 sys.dont_write_bytecode = True
@@ -70,6 +75,30 @@ def fault_of(program: list[str], given: bytes, how: str, wanted: bytes, status: 
     return None
 
 
+def pieces_of(given: bytes, wanted: bytes, status: int) -> list[tuple[str, int, int, bytes]]:
+    """Returns the runs in pieces: a variable of the shim, the number of the transfer that fails, the exit status and the output."""
+    answers = wanted.splitlines(keepends=True)
+    runs = [("FAIL_READ", at, 1, b"".join(answers[:given.count(b"\n", 0, at - 1)])) for at in range(1, len(given) + 2)]
+    runs += [(fault, at, 1, wanted[:at - 1]) for fault in ("FAIL_WRITE", "EMPTY_WRITE") for at in range(1, len(wanted) + 1)]
+    # without a failure, and with the failure of a transfer that does not happen
+    return [("FAIL_READ", 0, status, wanted), *runs, ("FAIL_READ", len(given) + 2, status, wanted), ("FAIL_WRITE", len(wanted) + 1, status, wanted)]
+
+
+def tried_in_pieces(program: list[str], given: bytes, wanted: bytes, status: int, room: str) -> tuple[int, str | None]:
+    """Runs the program in pieces. Returns the number of runs, and what is wrong with the first wrong one, or None."""
+    shim = refuse.built_shim(room, TRANSFERS)
+    runs = pieces_of(given, wanted, status)
+    for count, (fault, at, ended, wrote) in enumerate(runs, 1):
+        env = {"PATH": "/usr/bin:/bin", "LD_PRELOAD": str(shim), fault: str(at)}
+        try:
+            done = subprocess.run(program, env=env, input=given, capture_output=True, timeout=SECONDS)
+        except subprocess.TimeoutExpired:
+            return count, f"{fault}={at}: still running after {SECONDS} seconds"
+        if (done.returncode, done.stdout) != (ended, wrote):
+            return count, f"{fault}={at}: exit status {done.returncode} and output {done.stdout[:200]!r} instead of {ended} and {wrote[:200]!r}"
+    return len(runs), None
+
+
 def tried(folder: pathlib.Path, program: pathlib.Path, room: str) -> tuple[int, str | None]:
     """Runs a folder. Returns the number of runs, and what is wrong with the first wrong one, or None."""
     how = (folder / "how").read_text().strip() if (folder / "how").exists() else ""
@@ -80,6 +109,8 @@ def tried(folder: pathlib.Path, program: pathlib.Path, room: str) -> tuple[int, 
         return 0, "stdin has no line"
     wanted, status = text_of(folder / "stdout"), int((folder / "status").read_text())
     args = (folder / "args").read_text().splitlines() if (folder / "args").exists() else []
+    if how == "pieces":
+        return tried_in_pieces([str(program), *args], inputs[0], wanted, status, room)
     for at, given in enumerate(inputs, 1):
         fault = fault_of([str(program), *args], given, how, wanted, status, room)
         if fault:

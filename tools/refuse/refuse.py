@@ -70,13 +70,13 @@ def compilers() -> Iterator[list[str]]:
     yield [*CC, *plain]
 
 
-def built_shim(room: str) -> pathlib.Path:
-    """Builds the shim. Returns its shared library."""
-    made = pathlib.Path(room) / "growths.so"
+def built_shim(room: str, source: pathlib.Path = SHIM) -> pathlib.Path:
+    """Builds a shim. Returns its shared library."""
+    made = pathlib.Path(room) / f"{source.stem}.so"
     said = []
     for command in compilers():
         try:
-            ran = subprocess.run([*command, "-o", str(made), str(SHIM)], capture_output=True, text=True)
+            ran = subprocess.run([*command, "-o", str(made), str(source)], capture_output=True, text=True)
         except OSError as error:
             said.append(str(error))
             continue

@@ -1,12 +1,12 @@
-//! The run over the lines of an input: in-memory readers and writers, some of which fail.
+//! Lines read from readers, and answers sent to writers, of which some fail. The run over an input
+//! is tested on the built program, with reads and writes that fail (`runs/transfers_that_fail`).
 use sel_lines::counted::Counted;
 use sel_lines::reading::{LineEnd, read_line};
-use sel_lines::run::{Done, RunError, run};
+use sel_lines::run::RunError;
 use sel_lines::writing::{flush, send};
 use std::alloc::Global;
 use std::io;
 use std::io::{ErrorKind, Read, Write};
-use std::test::Fail;
 
 // A reader of `rest` that fails at read `fails_at`.
 #[derive(Drop)]
@@ -86,94 +86,6 @@ const TWO_LINES: &[u8] = b"filter 10,20,30,40 t,n,f,t\ntake 5,n,7 2,n,1\n";
 
 const TWO_ANSWERS: &[u8] = b"10,40\n7,n,n\n";
 
-// Runs over the two lines, into a writer with this piece size and fault.
-fn run_into(
-    alloc: Global,
-    piece: usize,
-    fault: Fault,
-) -> (Result<Done, RunError>, u64, FakeWriter) {
-    let mut reader = Counted::new(TWO_LINES);
-    let mut writer = Counted::new(FakeWriter::new(alloc, piece, fault));
-    let result = run(alloc, &mut reader, &mut writer);
-    let failures = writer.failures();
-    (result, failures, writer.into_inner())
-}
-
-// Returns whether a run over the two lines fails at this read only, after writing `output`.
-fn fails_by_input(alloc: Global, fails_at: u64, output: &[u8]) -> bool {
-    let fake = FakeReader {
-        rest: TWO_LINES,
-        reads: 0,
-        fails_at,
-    };
-    let mut reader = Counted::new(fake);
-    let mut writer = Counted::new(Vec::new(alloc));
-    let result = run(alloc, &mut reader, &mut writer);
-    let has_failed = result == Err(RunError::Input);
-    let failures = (reader.failures(), writer.failures());
-    let written = writer.into_inner();
-    let is_so = has_failed && failures == (1, 0) && written.as_slice() == output;
-    drop(written);
-    is_so
-}
-
-#[test]
-fn each_read_fails(rt: HostRuntime) -> Result<(), Fail> {
-    for fails_at in 1..46 {
-        let answered = if fails_at <= 27 {
-            0
-        } else if fails_at <= 44 {
-            6
-        } else {
-            12
-        };
-        assert!(rt; fails_by_input(rt.alloc(), fails_at, &TWO_ANSWERS[..answered]));
-    }
-    Ok(())
-}
-
-// Returns whether a run over the two lines, into a writer of one byte per write with a fault at
-// write `at`, fails at this write only, after the bytes before it and without a flush.
-fn fails_by_output(alloc: Global, at: u64, fault: Fault) -> bool {
-    let (result, failures, fake) = run_into(alloc, 1, fault);
-    (result == Err(RunError::Output))
-        & (failures == 1)
-        & (fake.taken.len() as u64 + 1 == at)
-        & (fake.flushes == 0)
-}
-
-#[test]
-fn each_write_fails(rt: HostRuntime) {
-    for at in 1..13 {
-        for fault in [Fault::Error(at), Fault::TakesNone(at)] {
-            assert!(rt; fails_by_output(rt.alloc(), at, fault));
-        }
-    }
-}
-
-// Returns whether a run over the two lines ends so, with so many failures of the writer, after both
-// answers and one flush.
-fn flushes_once(
-    alloc: Global,
-    piece: usize,
-    fault: Fault,
-    end: Result<Done, RunError>,
-    failed: u64,
-) -> bool {
-    let (result, failures, fake) = run_into(alloc, piece, fault);
-    (result == end)
-        & (failures == failed)
-        & (fake.taken.as_slice() == TWO_ANSWERS)
-        & (fake.flushes == 1)
-}
-
-#[test]
-fn a_run_flushes_once(rt: HostRuntime) {
-    assert!(rt; flushes_once(rt.alloc(), 1, Fault::None, Ok(Done::End), 0));
-    assert!(rt; flushes_once(rt.alloc(), 100, Fault::None, Ok(Done::End), 0));
-    assert!(rt; flushes_once(rt.alloc(), 100, Fault::Flush, Err(RunError::Output), 1));
-}
-
 // Returns whether `read_line` reads the first of the two lines, and nothing of the second.
 fn reads_one_line(alloc: Global) -> bool {
     let mut reader = Counted::new(TWO_LINES);
@@ -183,16 +95,72 @@ fn reads_one_line(alloc: Global) -> bool {
         & (reader.into_inner() == &TWO_LINES[27..])
 }
 
-// Returns whether `send` and `flush` write this line in pieces of four bytes, and flush once.
-fn sends_line(alloc: Global, line: &[u8]) -> bool {
-    let mut writer = Counted::new(FakeWriter::new(alloc, 4, Fault::None));
-    let is_sent = (send(&mut writer, line) == Ok(())) & (flush(&mut writer) == Ok(()));
-    let fake = writer.into_inner();
-    is_sent & (fake.taken.as_slice() == line) & (fake.flushes == 1)
+// Returns whether `read_line` fails at this read only, after it has read the bytes before.
+fn fails_at_read(alloc: Global, at: usize) -> bool {
+    let fake = FakeReader {
+        rest: TWO_LINES,
+        reads: 0,
+        fails_at: at as u64,
+    };
+    let mut reader = Counted::new(fake);
+    let mut line = Vec::new(alloc);
+    let has_failed = read_line(&mut reader, &mut line) == Err(RunError::Input);
+    let is_counted = reader.failures() == 1;
+    let rest = reader.into_inner().rest;
+    has_failed
+        & is_counted
+        & (rest.len().saturating_add(at) == TWO_LINES.len() + 1)
+        & (line.len() + 1 == at)
 }
 
 #[test]
-fn one_line_read_and_sent(rt: HostRuntime) {
+fn each_read_fails(rt: HostRuntime) {
     assert!(rt; reads_one_line(rt.alloc()));
-    assert!(rt; sends_line(rt.alloc(), &TWO_LINES[..26]));
+    for at in 1..28 {
+        assert!(rt; fails_at_read(rt.alloc(), at));
+    }
+}
+
+// Returns whether `send`, one byte per write with a fault at write `at`, fails at this write only,
+// after the bytes before it.
+fn fails_at_write(alloc: Global, at: u64, fault: Fault) -> bool {
+    let mut writer = Counted::new(FakeWriter::new(alloc, 1, fault));
+    let has_failed = send(&mut writer, TWO_ANSWERS) == Err(RunError::Output);
+    let is_counted = writer.failures() == 1;
+    let fake = writer.into_inner();
+    has_failed & is_counted & (fake.taken.len() as u64 + 1 == at) & (fake.flushes == 0)
+}
+
+#[test]
+fn each_write_fails(rt: HostRuntime) {
+    for at in 1..13 {
+        for fault in [Fault::Error(at), Fault::TakesNone(at)] {
+            assert!(rt; fails_at_write(rt.alloc(), at, fault));
+        }
+    }
+}
+
+// Returns whether both answers are sent in pieces of this length, and a flush after them ends so,
+// with so many failures of the writer.
+fn flushes(
+    alloc: Global,
+    piece: usize,
+    fault: Fault,
+    end: Result<(), RunError>,
+    failed: u64,
+) -> bool {
+    let mut writer = Counted::new(FakeWriter::new(alloc, piece, fault));
+    let is_sent = send(&mut writer, TWO_ANSWERS) == Ok(());
+    let is_so = flush(&mut writer) == end;
+    let is_counted = writer.failures() == failed;
+    let fake = writer.into_inner();
+    is_sent & is_so & is_counted & (fake.taken.as_slice() == TWO_ANSWERS) & (fake.flushes == 1)
+}
+
+#[test]
+fn an_output_is_sent_and_flushed(rt: HostRuntime) {
+    assert!(rt; flushes(rt.alloc(), 1, Fault::None, Ok(()), 0));
+    assert!(rt; flushes(rt.alloc(), 4, Fault::None, Ok(()), 0));
+    assert!(rt; flushes(rt.alloc(), 100, Fault::None, Ok(()), 0));
+    assert!(rt; flushes(rt.alloc(), 100, Fault::Flush, Err(RunError::Output), 1));
 }

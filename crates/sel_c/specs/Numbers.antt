@@ -6,9 +6,9 @@ use Rattle.sel_arrow.specs.Shape.{Shape}
 use Rattle.sel_ffi.specs.Held.{Held}
 use Rattle.sel_ffi.specs.Inputs.{flat_rules, validity_in}
 use Rattle.sel_ffi.specs.Status.{ok, out_of_memory, IsOneOf, Makes, ReportsOnly}
-use Rattle.sel_lent.specs.Buffers.{IsPartOf}
-use Rattle.sel_lent.specs.Held as lent
-use Rattle.sel_lent.specs.declared.shared_buffer.SharedBuffer.{SharedBuffer}
+use Rattle.sel_ffi.specs.Buffers.{IsPartOf}
+use Rattle.sel_ffi.specs.HeldBuffer as lent
+use Rattle.sel_ffi.specs.declared.shared_buffer.SharedBuffer.{SharedBuffer}
 
 -- A column of numbers is made: it has these values under a validity and this type, and the status
 -- is that of the first broken rule.

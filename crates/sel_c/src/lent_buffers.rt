@@ -5,17 +5,17 @@ ghost use Rattle.std.specs.Prelude.{◌≡◌, ◌≢◌, ◌≤◌, ◌+◌, �
 ghost use Rattle.sel_bits.specs.Bits.{bits_from, unsliced};
 ghost use Rattle.sel_ffi.specs.Status.{ok, length_mismatch, IsOneOf, ReturnsFirst};
 ghost use Rattle.sel_c.specs.Numbers.{in_use, GivesBack, Lends};
-ghost use Rattle.sel_lent.specs.Buffers.{IsBitsOf};
-ghost use Rattle.sel_lent.specs.declared.shared_buffer.SharedBuffer.TheVariants.{Bits, Int8, Int16, Int32, Int64, UInt8, UInt16, UInt32, UInt64, Views};
+ghost use Rattle.sel_ffi.specs.Buffers.{IsBitsOf};
+ghost use Rattle.sel_ffi.specs.declared.shared_buffer.SharedBuffer.TheVariants.{Bits, Int8, Int16, Int32, Int64, UInt8, UInt16, UInt32, UInt64, Views};
 
 use sel_bits::lent::Lent;
-use sel_ffi::status::{LENGTH_MISMATCH, OK, OUT_OF_MEMORY};
-use sel_lent::buffer_handle::BufferHandle;
-use sel_lent::lending::{give_back, give_back_bits, lend, lend_bits};
-use sel_lent::memory::{
+use sel_ffi::buffer_handle::BufferHandle;
+use sel_ffi::lending::{give_back, give_back_bits, lend, lend_bits};
+use sel_ffi::memory::{
     Int8Memory, Int16Memory, Int32Memory, Int64Memory, Memory, UInt8Memory, UInt16Memory,
     UInt32Memory, UInt64Memory, ViewMemory,
 };
+use sel_ffi::status::{LENGTH_MISMATCH, OK, OUT_OF_MEMORY};
 use std::alloc::Global;
 use std::mem::replace;
 

@@ -7,20 +7,20 @@ ghost use Rattle.sel_arrow.specs.Masked.{bool_rows};
 ghost use Rattle.sel_arrow.specs.Nested.{block_rows, struct_rows};
 ghost use Rattle.sel_arrow.specs.Shape.{of_boolean, of_large_binary, of_binary_view, of_utf8_view, of_large_list, of_fixed_size_list, of_struct, shapes_of};
 ghost use Rattle.sel_ffi.specs.Status.{ok, no_column, unsupported_type, length_mismatch, too_deep, held_count, held_rows, held_type, HasColumn};
-ghost use Rattle.sel_lent.specs.Buffers.{bits_of, bytes_in, bytes_of, count_over, integers_of, of_column, offsets_in, type_over, validity_over, values_in, views_of};
-ghost use Rattle.sel_lent.specs.ColumnsOver.{is_bitmap, is_int64_buffer, is_integer_buffer, may_be_validity, flat_rules_over, integer_rows_over, binary_conditions, binary_rows_over, binary_rules_over, list_rows_over, list_rules_over, block_rules_over, struct_rules_over, view_conditions, view_rows_over, binary_view_rules_over, string_view_rules_over, MakesColumn};
-ghost use Rattle.sel_lent.specs.Parts.{SharesData, SharesPart, SharesValidity, ShowsBuffer};
+ghost use Rattle.sel_ffi.specs.Buffers.{bits_of, bytes_in, bytes_of, count_over, integers_of, of_column, offsets_in, type_over, validity_over, values_in, views_of};
+ghost use Rattle.sel_ffi.specs.ColumnsOver.{is_bitmap, is_int64_buffer, is_integer_buffer, may_be_validity, flat_rules_over, integer_rows_over, binary_conditions, binary_rows_over, binary_rules_over, list_rows_over, list_rules_over, block_rules_over, struct_rules_over, view_conditions, view_rows_over, binary_view_rules_over, string_view_rules_over, MakesColumn};
+ghost use Rattle.sel_ffi.specs.BufferParts.{SharesData, SharesPart, SharesValidity, ShowsBuffer};
 
+use sel_ffi::buffer_handle::BufferHandle;
+use sel_ffi::buffer_parts::{bytes_of, data_of, offsets_of, validity_of, values_of};
+use sel_ffi::buffer_ref::BufferRef;
 use sel_ffi::column_ref::ColumnRef;
-use sel_ffi::handle::Handle;
-use sel_lent::buffer_handle::BufferHandle;
-use sel_lent::buffer_ref::BufferRef;
-use sel_lent::columns::{
+use sel_ffi::columns::{
     binary_over, booleans_over, fixed_size_list_over, integers_over, list_over, struct_over,
 };
-use sel_lent::parts::{bytes_of, data_of, offsets_of, validity_of, values_of};
-use sel_lent::showing::show;
-use sel_lent::view_columns::{binary_views_over, string_views_over};
+use sel_ffi::handle::Handle;
+use sel_ffi::showing::show;
+use sel_ffi::view_columns::{binary_views_over, string_views_over};
 use std::alloc::Global;
 
 /// Stores in `out` the column of the integers of a buffer. Its validity is the bits of `validity`

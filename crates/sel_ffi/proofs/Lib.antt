@@ -1,5 +1,7 @@
+pub mod BufferHandles
 pub mod Cloned
 pub mod Common
+pub mod Counts
 pub mod Crossing
 pub mod Depths
 pub mod Emptied
@@ -7,6 +9,8 @@ pub mod HandleShared
 pub mod HandleSteps
 pub mod Handles
 pub mod LooseSteps
+pub mod MemoryMoves
+pub mod MemoryStructs
 pub mod Positions
 pub mod RefShared
 pub mod RefSteps

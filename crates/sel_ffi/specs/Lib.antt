@@ -1,4 +1,8 @@
+pub mod BufferParts
+pub mod Buffers
+pub mod ColumnsOver
 pub mod Held
+pub mod HeldBuffer
 pub mod Inputs
 pub mod Kinds
 pub mod Layout

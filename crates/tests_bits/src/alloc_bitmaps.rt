@@ -3,7 +3,8 @@
 
 ghost use Rattle.std.specs.Prelude.{◌≡◌, length};
 
-use crate::fixtures::{has_bits, offsets, same};
+use crate::column_fixtures::offsets;
+use crate::fixtures::{has_bits, same};
 use crate::marks::{begins, begins_free, ends, ends_answered, ends_by};
 use sel_bits::bitmap::Bitmap;
 use sel_bits::bits_behind::BitsBehind;

@@ -1,6 +1,7 @@
 //! Functions on bitmaps, buffers, words and readers that must not allocate: each allocation fails.
 
-use crate::fixtures::{buffer, has_bits, offsets, same};
+use crate::column_fixtures::offsets;
+use crate::fixtures::{buffer, has_bits, same};
 use crate::marks::{begins_free, ends_answered};
 use sel_bits::aligned_words::AlignedWords;
 use sel_bits::bitmap::Bitmap;

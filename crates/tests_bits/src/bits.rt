@@ -1,6 +1,7 @@
 //! Each public function once, against values that are worked out by hand or bit by bit.
 
-use crate::fixtures::{begins_with, has_bits, offsets, same};
+use crate::column_fixtures::offsets;
+use crate::fixtures::{begins_with, has_bits, same};
 use sel_bits::bit_sink::{BitSink, append_bitmap, append_copies};
 use sel_bits::bitmap::Bitmap;
 use sel_bits::bits_behind::BitsBehind;

@@ -3,18 +3,11 @@
 use sel_bits::bitmap::Bitmap;
 use sel_bits::buffer::Buffer;
 use sel_bits::faults::PolarsResult;
-use sel_bits::offsets::OffsetsBuffer;
 use std::alloc::Global;
-use std::test::Fail;
 
 /// Returns the values as a buffer.
 pub fn buffer<T: Copy>(alloc: Global, values: &[T]) -> PolarsResult<Buffer<T>> {
     Buffer::from_vec(Vec::from_slice(alloc, values)?)
-}
-
-/// Returns these offsets.
-pub fn offsets(alloc: Global, offsets: &[i64]) -> Result<OffsetsBuffer<i64>, Fail> {
-    Ok(OffsetsBuffer::try_from(Vec::from_slice(alloc, offsets)?)?)
 }
 
 /// Returns whether two slices are equal.

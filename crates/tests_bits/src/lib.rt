@@ -1,4 +1,5 @@
-//! Tests of bitmaps, buffers, numbers and counted readers, and of filters of bits and of values.
+//! Tests of bitmaps, buffers, numbers and counted readers, of filters of bits and of values, and of
+//! columns without children. And the bounds `Send` and `Sync` of every type of column.
 //! The modules `alloc_*` mark where a call begins and ends, so that `tools/refuse` can make each of
 //! its allocations fail.
 #![tactic(auto)]
@@ -11,6 +12,9 @@ mod alloc_filters;
 mod alloc_words;
 #[cfg(test)]
 mod bits;
+pub mod column_fixtures;
+#[cfg(test)]
+mod columns;
 #[cfg(test)]
 mod filters;
 pub mod fixtures;
@@ -21,5 +25,7 @@ mod odd;
 mod readers;
 #[cfg(test)]
 mod shared;
+#[cfg(test)]
+mod threads;
 #[cfg(test)]
 mod words;

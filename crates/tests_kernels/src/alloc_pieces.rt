@@ -1,7 +1,6 @@
 //! The parts of the kernels with failing allocations: copies of items, runs, validities, data
 //! buffers, the rows of views, and if-then-else by words.
 
-use crate::column_fixtures::one_buffer;
 use crate::masks::has_validity;
 use crate::runs::{is_run, is_run_of_nulls};
 use polars_compute::if_then_else::if_then_else_validity;
@@ -22,6 +21,7 @@ use sel_gather::runs::{Run, nulls_of, push_run};
 use sel_gather::view::push_buffers;
 use std::alloc::Global;
 use std::test::Fail;
+use tests_bits::column_fixtures::one_buffer;
 use tests_bits::fixtures::{both, buffer, has_bits, same};
 use tests_bits::marks::{begins, ends_by};
 

@@ -1,7 +1,6 @@
 //! Takes of bits, of blocks, and of binary columns by other index and offset types, with failing
 //! allocations.
 
-use crate::column_fixtures::{column, has_bytes, validity};
 use crate::masks::made;
 use polars_compute::gather::bitmap::{take_bitmap_nulls_unchecked, take_bitmap_unchecked};
 use polars_compute::gather::{
@@ -19,6 +18,7 @@ use sel_bits::native::{Index, NativeType, Offset};
 use sel_bits::offsets::OffsetsBuffer;
 use std::alloc::Global;
 use std::test::Fail;
+use tests_bits::column_fixtures::{column, has_bytes, validity};
 use tests_bits::fixtures::{both, buffer, has_bits, same};
 use tests_bits::marks::{begins, ends_by};
 

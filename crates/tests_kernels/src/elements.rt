@@ -1,13 +1,12 @@
 //! Element access of lists: the rows of the child.
 
-use crate::column_fixtures::{has_numbers, nulls};
 use crate::parsed::{lists, returns};
 use polars_compute::gather::sublist::list::sublist_get_indexes;
 use sel_arrow::array::Array;
 use sel_arrow::list::ListArray;
 use std::alloc::Global;
 use std::test::Fail;
-use tests_bits::fixtures::offsets;
+use tests_bits::column_fixtures::{has_numbers, nulls, offsets};
 
 #[test]
 fn sublist_get_indexes_counts_in_the_child(rt: HostRuntime) -> Result<(), Fail> {

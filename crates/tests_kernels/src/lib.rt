@@ -1,7 +1,6 @@
-//! Tests of what only Rattle code can call: columns without children, kernels of typed arrays, of
-//! words and bits, the parts of the copies, and public functions without a C call. And the bounds
-//! `Send` and `Sync` of every type of column. The rows that the C calls return are tested as data,
-//! in `tests/rows`. The modules `alloc_*` mark where a call begins and ends, so that
+//! Tests of what only Rattle code can call: kernels of typed arrays, of words and bits, the parts
+//! of the copies, and public functions without a C call. The rows that the C calls return are tested
+//! as data, in `tests/rows`. The modules `alloc_*` mark where a call begins and ends, so that
 //! `tools/refuse` can make each of its allocations fail.
 #![tactic(auto)]
 
@@ -13,10 +12,6 @@ mod alloc_takes;
 mod alloc_words;
 #[cfg(test)]
 mod broadcasts;
-#[cfg(test)]
-mod column_fixtures;
-#[cfg(test)]
-mod columns;
 #[cfg(test)]
 mod elements;
 #[cfg(test)]
@@ -39,8 +34,6 @@ mod runs;
 mod select;
 #[cfg(test)]
 mod takes;
-#[cfg(test)]
-mod threads;
 #[cfg(test)]
 mod views;
 #[cfg(test)]

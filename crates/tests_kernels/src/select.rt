@@ -1,6 +1,5 @@
 //! `select_rows`: the rows of several columns at indices among those that a mask keeps.
 
-use crate::column_fixtures::{column, truths};
 use crate::parsed::{parsed, prints};
 use polars_compute::select::{select_is_safe, select_rows};
 use sel_arrow::array::Array;
@@ -12,6 +11,7 @@ use sel_arrow::primitive::IdxArr;
 use sel_bits::faults::{Limit, PolarsError, PolarsResult};
 use std::alloc::Global;
 use std::test::Fail;
+use tests_bits::column_fixtures::{column, truths};
 
 // A column as its type, its rows, and the rows that are selected of it.
 type Part = (&'static str, &'static str, &'static str);

@@ -1,7 +1,6 @@
 //! Bounds of indices, and the limit of 32-bit offsets. (`alloc_takes` has takes of bits, of blocks,
 //! and of binary columns.)
 
-use crate::column_fixtures::{numbers, validity};
 use crate::masks::made;
 use polars_compute::gather::binary::take_unchecked;
 use polars_compute::gather::{idx_slice_in_bounds, indices_in_bounds, indices_in_bounds_of};
@@ -15,6 +14,7 @@ use sel_bits::native::Index;
 use sel_bits::offsets::OffsetsBuffer;
 use std::alloc::Global;
 use std::test::Fail;
+use tests_bits::column_fixtures::{numbers, validity};
 use tests_bits::fixtures::both;
 
 // Returns one row of 65,536 bytes.

@@ -1,6 +1,5 @@
 //! The views and data buffers of an if-then-else of view columns; its rows are tested as data.
 
-use crate::column_fixtures::{has_bytes_at, one_buffer};
 use crate::masks::{is_as_long, made};
 use sel_arrow::array::Array;
 use sel_arrow::binview::BinaryViewArray;
@@ -10,6 +9,7 @@ use sel_bits::buffer::Buffer;
 use sel_bits::faults::{PolarsError, PolarsResult};
 use sel_ternary::if_then_else::IfThenElseKernel;
 use std::alloc::Global;
+use tests_bits::column_fixtures::{has_bytes_at, one_buffer};
 use tests_bits::fixtures::{both, buffer, same};
 
 const LONG: &[u8; 13] = b"abcdefghijklm";

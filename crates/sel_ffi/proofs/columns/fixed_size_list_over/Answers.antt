@@ -1,0 +1,33 @@
+use Rattle.std.proofs.Common.{rules, ◌≡◌, ◌<◌, ℕ, arith, inr, subst}
+use Rattle.sel_arrow.specs.Depth.{depth}
+use Rattle.sel_arrow.specs.Rows.{row_count}
+use Rattle.sel_ffi.proofs.Reported.{same_count}
+use Rattle.sel_ffi.specs.Status.{held_count, held_type, HasColumn, ReportsExactly}
+use Rattle.sel_ffi.specs.ColumnsOver.{block_rules_over}
+use Rattle.sel_ffi.proofs.columns.fixed_size_list_over.Goals as goal
+
+pub returns-in-Ok-blocks_from : goal.returns-in-Ok-blocks_from
+returns-in-Ok-blocks_from c =
+    let count : row_count c.in-Ok.copy.column ≡ held_count c.args.child.now.tree = search (rules, same_count) in
+    let has : HasColumn c.args.child.now.tree = search rules in
+    let shallow : depth (held_type c.args.child.now.tree) < 128 = search rules in
+    let status : ReportsExactly c.put.result (block_rules_over c.args.width c.args.len (held_count c.args.child.now.tree) c.args.validity.now.buffer c.args.first) =
+    subst (λ (n : ℕ). ReportsExactly c.put.result (block_rules_over c.args.width c.args.len n c.args.validity.now.buffer c.args.first)) count (search rules) in
+    record {
+      rows = search rules;
+      dtype = search rules;
+      checks = inr (inr (has, inr (inr (shallow, inr (inr (search rules, inr status))))));
+    }
+
+pub returns-in-Err : goal.returns-in-Err
+returns-in-Err c =
+    let count : row_count c.in-Ok.copy.column ≡ held_count c.args.child.now.tree = search (rules, same_count) in
+    let has : HasColumn c.args.child.now.tree = search rules in
+    let shallow : depth (held_type c.args.child.now.tree) < 128 = search rules in
+    let status : ReportsExactly c.status_of_maker.result (block_rules_over c.args.width c.args.len (held_count c.args.child.now.tree) c.args.validity.now.buffer c.args.first) =
+    subst (λ (n : ℕ). ReportsExactly c.status_of_maker.result (block_rules_over c.args.width c.args.len n c.args.validity.now.buffer c.args.first)) count (search rules) in
+    record {
+      rows = search rules;
+      dtype = search rules;
+      checks = inr (inr (has, inr (inr (shallow, inr (inr (search rules, inr status))))));
+    }

@@ -1,4 +1,0 @@
-pub mod Counts
-pub mod Handles
-pub mod MemoryMoves
-pub mod MemoryStructs

@@ -1,4 +1,0 @@
-pub mod Buffers
-pub mod ColumnsOver
-pub mod Held
-pub mod Parts
