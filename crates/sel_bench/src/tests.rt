@@ -152,7 +152,7 @@ fn flushes(
     let mut writer = Counted::new(FakeWriter::new(alloc, piece, fault));
     let is_sent = send(&mut writer, TWO_ANSWERS) == Ok(());
     let is_so = flush(&mut writer) == end;
-    let is_counted = writer.failures() == failed;
+    let is_counted = (writer.failures(), writer.flushes()) == (failed, 1);
     let fake = writer.into_inner();
     is_sent & is_so & is_counted & (fake.taken.as_slice() == TWO_ANSWERS) & (fake.flushes == 1)
 }

@@ -1,4 +1,4 @@
-//! A reader or writer that counts its failures.
+//! A reader or writer that counts its failures and flushes.
 ghost use Rattle.std.specs.Prelude.{◌≡◌, ℕ, ◌+◌, ◌-◌, ◌^◌, ◌<◌, ◌≤◌, min, is_err, is_ok, length, if◌then◌else◌, ◌||◌, ◌&&◌, ◌==◌, Ok, Err, true, false};
 ghost use Rattle.std.specs.Io.{ReadsAtMost, WritesAtMost};
 ghost use Rattle.std.specs.Io.KnownBytes.{Keeps, ReadConsumes, WriteAppends};
@@ -7,22 +7,28 @@ use std::io;
 use std::io::{Read, Write};
 
 /// Forwards reads, writes and flushes, and counts those that return an error and the writes that
-/// accept none of some bytes. The count saturates at `u64::MAX`.
+/// accept none of some bytes. Counts the flushes too. The counts saturate at `u64::MAX`.
 #[derive(Drop)]
 pub struct Counted<T> {
     inner: T,
     failures: u64,
+    flushes: u64,
 }
 
 impl<T> Counted<T> {
-    ghost use Rattle.sel_lines.specs.Counted.{inner_of, failures_of, counted_up};
+    ghost use Rattle.sel_lines.specs.Counted.{inner_of, failures_of, flushes_of, counted_up};
 
-    /// Wraps a reader or writer with a failure count of 0.
+    /// Wraps a reader or writer with counts of 0.
     pub fn new(inner: T) -> Counted<T>
         ensures inner { inner_of result ≡ inner }
-        ensures none_yet { failures_of result ≡ 0 }
+        ensures none_failed { failures_of result ≡ 0 }
+        ensures none_flushed { flushes_of result ≡ 0 }
     {
-        Counted { inner, failures: 0 }
+        Counted {
+            inner,
+            failures: 0,
+            flushes: 0,
+        }
     }
 
     /// Returns the number of calls that failed.
@@ -32,17 +38,29 @@ impl<T> Counted<T> {
         self.failures
     }
 
+    /// Returns the number of flushes, failed ones too.
+    pub fn flushes(&self) -> u64
+        ensures { result ≡ flushes_of self.now }
+    {
+        self.flushes
+    }
+
     /// Returns the inner reader or writer.
     pub fn into_inner(self) -> T
         ensures { result ≡ inner_of self }
     {
-        let Counted { inner, failures: _ } = self;
+        let Counted {
+            inner,
+            failures: _,
+            flushes: _,
+        } = self;
         inner
     }
 
     fn count(&mut self, has_failed: bool)
         ensures inner { inner_of self.new ≡ inner_of self.old }
         ensures failures { failures_of self.new ≡ counted_up has_failed (failures_of self.old) }
+        ensures flushes { flushes_of self.new ≡ flushes_of self.old }
     {
         if has_failed {
             self.failures = self.failures.saturating_add(1);
@@ -69,7 +87,7 @@ impl<R: Read> Read for Counted<R> {
 }
 
 impl<W: Write> Write for Counted<W> {
-    ghost use Rattle.sel_lines.specs.Counted.{inner_of, failures_of, counted_up, has_write_failed};
+    ghost use Rattle.sel_lines.specs.Counted.{inner_of, failures_of, flushes_of, counted_up, has_write_failed};
 
     ghost contents = { λ writer. W.contents (inner_of writer) };
 
@@ -79,6 +97,7 @@ impl<W: Write> Write for Counted<W> {
             (W.contents (inner_of self.new)) result buf.now }
         ensures failures { failures_of self.new ≡
             counted_up (has_write_failed result buf.now) (failures_of self.old) }
+        ensures flushes { flushes_of self.new ≡ flushes_of self.old }
     {
         let result = self.inner.write(buf);
         let has_failed = match &result {
@@ -93,9 +112,11 @@ impl<W: Write> Write for Counted<W> {
         ensures bytes { Keeps (W.contents (inner_of self.old)) (W.contents (inner_of self.new)) }
         ensures failures { failures_of self.new ≡
             counted_up (is_err result) (failures_of self.old) }
+        ensures flushes { flushes_of self.new ≡ counted_up true (flushes_of self.old) }
     {
         let result = self.inner.flush();
         self.count(result.is_err());
+        self.flushes = self.flushes.saturating_add(1);
         result
     }
 }
