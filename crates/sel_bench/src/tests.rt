@@ -150,9 +150,9 @@ fn flushes(
     failed: u64,
 ) -> bool {
     let mut writer = Counted::new(FakeWriter::new(alloc, piece, fault));
-    let is_sent = send(&mut writer, TWO_ANSWERS) == Ok(());
-    let is_so = flush(&mut writer) == end;
-    let is_counted = (writer.failures(), writer.flushes()) == (failed, 1);
+    let is_sent = (send(&mut writer, TWO_ANSWERS) == Ok(())) & !writer.is_flushed();
+    let is_so = (flush(&mut writer) == end) & (writer.is_flushed() == end.is_ok());
+    let is_counted = writer.failures() == failed;
     let fake = writer.into_inner();
     is_sent & is_so & is_counted & (fake.taken.as_slice() == TWO_ANSWERS) & (fake.flushes == 1)
 }

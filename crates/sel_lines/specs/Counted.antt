@@ -1,4 +1,4 @@
--- A reader or a writer that counts its failures and flushes.
+-- A reader or a writer that counts its failures, and knows whether it is flushed.
 use Rattle.std.specs.Prelude.{ℕ, suc, zero, ◌+◌, ◌-◌, ◌^◌, min, Bool, true, false, List, [], ◌∷◌}
 use Rattle.std.specs.Prelude.{if◌then◌else◌, Result, Ok, Err}
 use Rattle.sel_lines.specs.declared.counted.Counted.{Counted}
@@ -11,13 +11,13 @@ inner_of counted = counted.inner
 abbrev pub failures_of : {T : Type 0} → Counted T → ℕ
 failures_of counted = counted.failures
 
--- The number of flushes.
-abbrev pub flushes_of : {T : Type 0} → Counted T → ℕ
-flushes_of counted = counted.flushes
+-- Whether there was no write since the last successful flush.
+abbrev pub has_flushed : {T : Type 0} → Counted T → Bool
+has_flushed counted = counted.is_flushed
 
--- A count after a call: one more if the call is counted, at most 2^64 - 1.
+-- The count after a call: one more if it failed, at most 2^64 - 1.
 abbrev pub counted_up : Bool → ℕ → ℕ
-counted_up is_counted count = if is_counted then min (count + 1) (2 ^ 64 - 1) else count
+counted_up has_failed count = if has_failed then min (count + 1) (2 ^ 64 - 1) else count
 
 -- Whether a write has failed: it returned an error, or wrote none of some bytes.
 abbrev pub has_write_failed : {E : Type 0} → Result ℕ E → List ℕ → Bool

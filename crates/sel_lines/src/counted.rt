@@ -1,4 +1,4 @@
-//! A reader or writer that counts its failures and flushes.
+//! A reader or writer that counts its failures, and knows whether it is flushed.
 ghost use Rattle.std.specs.Prelude.{◌≡◌, ℕ, ◌+◌, ◌-◌, ◌^◌, ◌<◌, ◌≤◌, min, is_err, is_ok, length, if◌then◌else◌, ◌||◌, ◌&&◌, ◌==◌, Ok, Err, true, false};
 ghost use Rattle.std.specs.Io.{ReadsAtMost, WritesAtMost};
 ghost use Rattle.std.specs.Io.KnownBytes.{Keeps, ReadConsumes, WriteAppends};
@@ -7,27 +7,28 @@ use std::io;
 use std::io::{Read, Write};
 
 /// Forwards reads, writes and flushes, and counts those that return an error and the writes that
-/// accept none of some bytes. Counts the flushes too. The counts saturate at `u64::MAX`.
+/// accept none of some bytes. The count saturates at `u64::MAX`. Remembers whether there was a write
+/// since the last successful flush.
 #[derive(Drop)]
 pub struct Counted<T> {
     inner: T,
     failures: u64,
-    flushes: u64,
+    is_flushed: bool,
 }
 
 impl<T> Counted<T> {
-    ghost use Rattle.sel_lines.specs.Counted.{inner_of, failures_of, flushes_of, counted_up};
+    ghost use Rattle.sel_lines.specs.Counted.{inner_of, failures_of, has_flushed, counted_up};
 
-    /// Wraps a reader or writer with counts of 0.
+    /// Wraps a reader or writer with a failure count of 0 and nothing to flush.
     pub fn new(inner: T) -> Counted<T>
         ensures inner { inner_of result ≡ inner }
         ensures none_failed { failures_of result ≡ 0 }
-        ensures none_flushed { flushes_of result ≡ 0 }
+        ensures flushed { has_flushed result ≡ true }
     {
         Counted {
             inner,
             failures: 0,
-            flushes: 0,
+            is_flushed: true,
         }
     }
 
@@ -38,11 +39,11 @@ impl<T> Counted<T> {
         self.failures
     }
 
-    /// Returns the number of flushes, failed ones too.
-    pub fn flushes(&self) -> u64
-        ensures { result ≡ flushes_of self.now }
+    /// Returns whether there was no write since the last successful flush.
+    pub fn is_flushed(&self) -> bool
+        ensures { result ≡ has_flushed self.now }
     {
-        self.flushes
+        self.is_flushed
     }
 
     /// Returns the inner reader or writer.
@@ -52,7 +53,7 @@ impl<T> Counted<T> {
         let Counted {
             inner,
             failures: _,
-            flushes: _,
+            is_flushed: _,
         } = self;
         inner
     }
@@ -60,7 +61,7 @@ impl<T> Counted<T> {
     fn count(&mut self, has_failed: bool)
         ensures inner { inner_of self.new ≡ inner_of self.old }
         ensures failures { failures_of self.new ≡ counted_up has_failed (failures_of self.old) }
-        ensures flushes { flushes_of self.new ≡ flushes_of self.old }
+        ensures flushed { has_flushed self.new ≡ has_flushed self.old }
     {
         if has_failed {
             self.failures = self.failures.saturating_add(1);
@@ -87,7 +88,7 @@ impl<R: Read> Read for Counted<R> {
 }
 
 impl<W: Write> Write for Counted<W> {
-    ghost use Rattle.sel_lines.specs.Counted.{inner_of, failures_of, flushes_of, counted_up, has_write_failed};
+    ghost use Rattle.sel_lines.specs.Counted.{inner_of, failures_of, has_flushed, counted_up, has_write_failed};
 
     ghost contents = { λ writer. W.contents (inner_of writer) };
 
@@ -97,8 +98,9 @@ impl<W: Write> Write for Counted<W> {
             (W.contents (inner_of self.new)) result buf.now }
         ensures failures { failures_of self.new ≡
             counted_up (has_write_failed result buf.now) (failures_of self.old) }
-        ensures flushes { flushes_of self.new ≡ flushes_of self.old }
+        ensures flushed { has_flushed self.new ≡ false }
     {
+        self.is_flushed = false;
         let result = self.inner.write(buf);
         let has_failed = match &result {
             Ok(count) => *count == 0 && !buf.is_empty(),
@@ -112,11 +114,11 @@ impl<W: Write> Write for Counted<W> {
         ensures bytes { Keeps (W.contents (inner_of self.old)) (W.contents (inner_of self.new)) }
         ensures failures { failures_of self.new ≡
             counted_up (is_err result) (failures_of self.old) }
-        ensures flushes { flushes_of self.new ≡ counted_up true (flushes_of self.old) }
+        ensures flushed { has_flushed self.new ≡ is_ok result }
     {
         let result = self.inner.flush();
         self.count(result.is_err());
-        self.flushes = self.flushes.saturating_add(1);
+        self.is_flushed = result.is_ok();
         result
     }
 }

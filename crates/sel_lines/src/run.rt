@@ -1,6 +1,6 @@
 //! Runs the commands of an input, line by line.
-ghost use Rattle.std.specs.Prelude.{◌≡◌, ℕ, List, [], ◌∷◌, IfOk, string_bytes, if◌then◌else◌, is_some, true, None, Some, option_map};
-ghost use Rattle.sel_lines.specs.Counted.{inner_of, failures_of, flushes_of, counted_up};
+ghost use Rattle.std.specs.Prelude.{◌≡◌, ℕ, List, [], ◌∷◌, IfOk, string_bytes, if◌then◌else◌, IfSome, true, None, Some, option_map};
+ghost use Rattle.sel_lines.specs.Counted.{inner_of, failures_of, has_flushed, counted_up};
 ghost use Rattle.sel_lines.specs.Output.{answer_at, output_from, first_bad_from, output};
 ghost use Rattle.sel_lines.specs.RunError.{is_input_fault, is_output_fault};
 ghost use Rattle.sel_lines.specs.Step.{Step, lines_in};
@@ -52,7 +52,8 @@ impl<T: Drop> From<AllocFailed<T>> for RunError {
 ///
 /// For the first bad line it writes `bad line`, its number and a line feed, and returns
 /// `Done::BadLine`; at the end of the input it returns `Done::End`. In both cases it has flushed
-/// the writer once. Reads nothing of the next line before the answer to a line is written.
+/// the writer after its last write. Reads nothing of the next line before the answer to a line is
+/// written.
 ///
 /// # Requires
 /// The reader and the writer have counted no failures.
@@ -72,8 +73,7 @@ pub fn run<R: Read, W: Write>(
         (W.contents (inner_of writer.old)) (W.contents (inner_of writer.new)) }
     ensures input { failures_of reader.new ≡ (if is_input_fault result then 1 else 0) }
     ensures output { failures_of writer.new ≡ (if is_output_fault result then 1 else 0) }
-    ensures flushed { IfOk result (λ _. flushes_of writer.new ≡
-        counted_up true (flushes_of writer.old)) }
+    ensures flushed { IfOk result (λ _. has_flushed writer.new ≡ true) }
 {
     let mut line = Vec::new(alloc);
     let mut number = 1;
@@ -101,8 +101,7 @@ fn serve_line<R: Read, W: Write>(
         counted_up (is_input_fault result) (failures_of reader.old) }
     ensures output { failures_of writer.new ≡
         counted_up (is_output_fault result) (failures_of writer.old) }
-    ensures flushed { IfOk result (λ done. flushes_of writer.new ≡
-        counted_up (is_some done) (flushes_of writer.old)) }
+    ensures flushed { IfOk result (λ done. IfSome done (λ _. has_flushed writer.new ≡ true)) }
 {
     let end = read_line(reader, line)?;
     let Reply { text, is_good } = reply_to(alloc, number, line, end)?;

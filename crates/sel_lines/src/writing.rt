@@ -1,7 +1,7 @@
 //! Writes bytes completely, in as many writes as needed.
-ghost use Rattle.std.specs.Prelude.{◌≡◌, ℕ, is_err, take, true, OnOk, OnErr, IfErr};
+ghost use Rattle.std.specs.Prelude.{◌≡◌, ℕ, is_err, is_ok, take, OnOk, OnErr, IfErr};
 ghost use Rattle.std.specs.Io.KnownBytes.{Appends, Keeps};
-ghost use Rattle.sel_lines.specs.Counted.{inner_of, failures_of, flushes_of, counted_up};
+ghost use Rattle.sel_lines.specs.Counted.{inner_of, failures_of, has_flushed, counted_up};
 
 use crate::counted::Counted;
 use crate::run::RunError;
@@ -21,7 +21,6 @@ pub fn send<W: Write>(writer: &mut Counted<W>, text: &[u8]) -> Result<(), RunErr
     ensures fault { IfErr result (λ e. e ≡ RunError.Output) }
     ensures failures { failures_of writer.new ≡
         counted_up (is_err result) (failures_of writer.old) }
-    ensures flushes { flushes_of writer.new ≡ flushes_of writer.old }
 {
     let mut sent = 0;
     while sent < text.len() {
@@ -45,7 +44,7 @@ pub fn flush<W: Write>(writer: &mut Counted<W>) -> Result<(), RunError>
     ensures fault { IfErr result (λ e. e ≡ RunError.Output) }
     ensures failures { failures_of writer.new ≡
         counted_up (is_err result) (failures_of writer.old) }
-    ensures flushes { flushes_of writer.new ≡ counted_up true (flushes_of writer.old) }
+    ensures flushed { has_flushed writer.new ≡ is_ok result }
 {
     match writer.flush() {
         Ok(()) => Ok(()),

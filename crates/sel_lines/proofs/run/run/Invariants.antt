@@ -1,5 +1,5 @@
 use Rattle.std.proofs.Common.{◌≡◌, ◌-◌, ◌≤◌}
-use Rattle.sel_lines.{specs.Counted.failures_of, specs.Counted.flushes_of, proofs.Progress.SoFar}
+use Rattle.sel_lines.{specs.Counted.failures_of, proofs.Progress.SoFar}
 use Rattle.sel_lines.proofs.run.run.Given as goal
 
 abbrev pub invariant-lines : goal.invariant-lines
@@ -9,7 +9,6 @@ invariant-lines g l = record {
       (g.W.Write.contents l.initial.writer.inner) (g.W.Write.contents l.writer.inner);
   reader_whole : failures_of l.reader ≡ 0;
   writer_whole : failures_of l.writer ≡ 0;
-  unflushed : flushes_of l.writer ≡ flushes_of l.initial.writer;
 }
 
 abbrev pub decreases-lines : goal.decreases-lines

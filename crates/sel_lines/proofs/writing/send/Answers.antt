@@ -15,5 +15,4 @@ loop-sent-preserved g c = record {
   within = let bound = c.in-Ok.ensures.bound in omega (arith, length-take {A = ℕ}, length-drop {A = ℕ});
   sent = sent_more _ _ _ c.args.text.now c.loop-sent.sent c.in-Ok.count c.loop-sent.invariant.sent c.in-Ok.ensures.bytes;
   failures = c.write.ensures.failures ∙ ap (λ b. counted_up b (failures_of c.loop-sent.writer)) (some_taken c.write.result c.in-Ok.count _ c.in-Ok.is c.if-count-eq0.false) ∙ c.loop-sent.invariant.failures;
-  flushes = c.write.ensures.flushes ∙ c.loop-sent.invariant.flushes;
 }
