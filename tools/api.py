@@ -17,7 +17,7 @@ ROOT = pathlib.Path(__file__).resolve().parent.parent
 PAGE = ROOT / "docs" / "API.md"
 # the crates whose public functions the page lists; the other crates are the program and the tests. The functions of sel_c are those of
 # include/sel.h
-LIBRARIES = ["sel_bits", "sel_arrow", "sel_text", "sel_filter", "sel_gather", "sel_ternary", "sel_kernels", "polars_compute", "sel_ffi", "sel_c", "sel_lines"]
+LIBRARIES = ["sel_bits", "sel_arrow", "sel_text", "sel_filter", "sel_runs", "sel_gather", "sel_ternary", "sel_kernels", "polars_compute", "sel_ffi", "sel_c", "sel_lines"]
 ITEM = re.compile(r"^(?P<indent> *)(?P<pub>pub )?(?:const |extern \"C\" )?fn (?P<name>\w+)")
 OWNER = re.compile(r"^(?:pub )?(?P<kind>impl|trait)\b(?P<rest>.*?)\{?$")
 # a test file: its path, the words that it uses of each crate, and the names that it calls

@@ -2,7 +2,8 @@
 pub use Rattle.sel_arrow.specs.Columns.{binary_rows}
 pub use Rattle.sel_arrow.specs.DataType.{all_widths_fit, shape_of, shapes_of_each, widths_fit}
 pub use Rattle.sel_arrow.specs.Makers.{block_fault, list_fault, or_else, struct_length_fault, view_fault, views_fault}
-pub use Rattle.sel_arrow.specs.Masked.{Covers, bool_rows, bool_value, covers, hidden, is_few, masked, number_rows, number_value, part_of, too_many, valid_at, validity_differs}
+pub use Rattle.sel_bits.specs.Validity.{Covers, covers, valid_at, validity_differs}
+pub use Rattle.sel_arrow.specs.Masked.{bool_rows, bool_value, hidden, is_few, masked, number_rows, number_value, part_of, too_many}
 pub use Rattle.sel_arrow.specs.Nested.{block_rows, blocks, list_of, list_rows, struct_at, struct_rows}
 pub use Rattle.sel_arrow.specs.Nulls.{IsValidityOf}
 pub use Rattle.sel_arrow.specs.Pieces.{byte_rows, is_rising, last_offset, pieces, pieces_after, rises_from, rows_between}

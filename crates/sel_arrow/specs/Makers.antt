@@ -9,7 +9,8 @@ use Rattle.sel_bits.specs.declared.faults.Malformed.TheVariants.{TooManyRows, To
 use Rattle.sel_bits.specs.declared.faults.Malformed.TheVariants.{OffsetRange, ChildLength}
 use Rattle.sel_bits.specs.declared.faults.Malformed.TheVariants.{FieldLength, ValidityLength}
 use Rattle.sel_bits.specs.declared.faults.Malformed.TheVariants.{ViewRange, ViewPrefix, Utf8}
-use Rattle.sel_arrow.specs.Masked.{too_many, validity_differs}
+use Rattle.sel_arrow.specs.Masked.{too_many}
+use Rattle.sel_bits.specs.Validity.{validity_differs}
 use Rattle.sel_arrow.specs.Pieces.{rows_between, last_offset}
 use Rattle.sel_arrow.specs.Texts.{all_text}
 use Rattle.sel_arrow.specs.Views.{is_in_range, has_prefix, view_rows}

@@ -1,8 +1,6 @@
 -- Rows under a validity.
-use Rattle.std.specs.Prelude.{◌≡◌, ℕ, ℤ, ◌+◌, Bool, true, false, List, [], ◌∷◌, map, length, take}
-use Rattle.std.specs.Prelude.{drop, slice_index_or, Option, Some, None, if◌then◌else◌, ◌==◌, not}
-use Rattle.std.specs.Prelude.{nat_lt, nat_le}
-use Rattle.std.specs.Option.{ForSome}
+use Rattle.std.specs.Prelude.{ℕ, ℤ, ◌+◌, Bool, List, [], ◌∷◌, map, take, drop, Option, Some, None}
+use Rattle.std.specs.Prelude.{if◌then◌else◌, nat_lt, nat_le}
 use Rattle.sel_bits.specs.Limits.{max_rows}
 use Rattle.sel_bits.specs.Bits.{Bits}
 use Rattle.sel_arrow.specs.Value.{Value, Null, Truth, Number, Bytes}
@@ -42,24 +40,6 @@ bool_value (Some b) = Truth b
 abbrev pub bytes_value : Option (List ℕ) → Value
 bytes_value None = Null
 bytes_value (Some bytes) = Bytes bytes
-
--- The validity, if there is one, has this length (Arrow columnar format: validity bitmaps).
-abbrev pub Covers : Option Bits → ℕ → Type 0
-Covers validity n = ForSome validity (λ v. length v.bits ≡ n)
-
--- Whether there is a validity, and it has a different length.
-abbrev pub validity_differs : Option Bits → ℕ → Bool
-validity_differs None n = false
-validity_differs (Some validity) n = not (length validity.bits == n)
-
--- Whether the validity, if there is one, has this length (Arrow columnar format: validity bitmaps).
-abbrev pub covers : Option Bits → ℕ → Bool
-covers validity n = not (validity_differs validity n)
-
--- Whether row i is valid; true without a validity (Arrow columnar format: validity bitmaps).
-abbrev pub valid_at : Option Bits → ℕ → Bool
-valid_at None i = true
-valid_at (Some validity) i = slice_index_or validity.bits i false
 
 -- The `len` bits of a bitmap from bit `off` on.
 abbrev pub part_of : ℕ → ℕ → Bits → Bits

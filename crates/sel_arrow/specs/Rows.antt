@@ -2,7 +2,8 @@
 use Rattle.std.specs.Prelude.{◌≡◌, ℕ, ◌*◌, Bool, true, ◌&&◌, nat_le, ◌==◌, List, [], ◌∷◌, ◌++◌}
 use Rattle.std.specs.Prelude.{length, IsTrue}
 use Rattle.sel_arrow.specs.Value.{Value}
-use Rattle.sel_arrow.specs.Masked.{covers, is_few}
+use Rattle.sel_bits.specs.Validity.{covers}
+use Rattle.sel_arrow.specs.Masked.{is_few}
 use Rattle.sel_arrow.specs.Nested.{list_rows, block_rows, struct_rows}
 use Rattle.sel_arrow.specs.Shape.{Shape, Shapes, no_shapes, next_shape, of_large_list}
 use Rattle.sel_arrow.specs.Shape.{of_fixed_size_list, of_struct, of_null, of_boolean, of_int8}

@@ -4,7 +4,7 @@ ghost use Rattle.std.specs.Prelude.{◌≡◌, ◌*◌, ◌+◌, ◌≤◌, ◌�
 ghost use Rattle.sel_bits.specs.Limits.{max_rows};
 ghost use Rattle.sel_bits.specs.Faults.{IsFaultOrMemory, IsOutOfMemory};
 ghost use Rattle.sel_arrow.specs.Makers.{block_fault};
-ghost use Rattle.sel_arrow.specs.Masked.{Covers};
+ghost use Rattle.sel_bits.specs.Validity.{Covers};
 ghost use Rattle.sel_arrow.specs.Nested.{block_rows};
 ghost use Rattle.sel_arrow.specs.Rows.{rows, row_count, type_of, IsWellFormed, buffers_held};
 ghost use Rattle.sel_arrow.specs.declared.column.Column.{FixedSizeList};

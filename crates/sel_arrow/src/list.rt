@@ -3,7 +3,7 @@
 ghost use Rattle.std.specs.Prelude.{◌≡◌, ◌+◌, ◌≤◌, ◌↔◌, length, take, drop, None, IfOk, IfErr, IsTrue};
 ghost use Rattle.sel_bits.specs.Faults.{IsFaultOrMemory, IsOutOfMemory};
 ghost use Rattle.sel_arrow.specs.Makers.{list_fault};
-ghost use Rattle.sel_arrow.specs.Masked.{Covers};
+ghost use Rattle.sel_bits.specs.Validity.{Covers};
 ghost use Rattle.sel_arrow.specs.Nested.{list_rows};
 ghost use Rattle.sel_arrow.specs.Rows.{rows, row_count, type_of, IsWellFormed, buffers_held};
 ghost use Rattle.sel_arrow.specs.declared.column.Column.{LargeList};

@@ -2,7 +2,8 @@
 
 ghost use Rattle.std.specs.Prelude.{◌≡◌, ◌≤◌, [], length, pos};
 ghost use Rattle.sel_bits.specs.Limits.{max_rows};
-ghost use Rattle.sel_arrow.specs.Masked.{Covers, number_rows};
+ghost use Rattle.sel_bits.specs.Validity.{Covers};
+ghost use Rattle.sel_arrow.specs.Masked.{number_rows};
 
 use crate::column::Column;
 use crate::datatype::ArrowDataType;

@@ -5,7 +5,8 @@ ghost use Rattle.std.specs.Option.{option_copied};
 ghost use Rattle.sel_bits.specs.Limits.{max_rows};
 ghost use Rattle.sel_bits.specs.Faults.{IsFault, IsFaultOrMemory};
 ghost use Rattle.sel_arrow.specs.Makers.{flat_fault, null_fault};
-ghost use Rattle.sel_arrow.specs.Masked.{Covers, number_rows, number_value};
+ghost use Rattle.sel_bits.specs.Validity.{Covers};
+ghost use Rattle.sel_arrow.specs.Masked.{number_rows, number_value};
 ghost use Rattle.sel_arrow.specs.Shape.{Shape, of_null};
 ghost use Rattle.sel_arrow.specs.Value.{Null};
 

@@ -4,7 +4,8 @@
 ghost use Rattle.std.specs.Prelude.{◌≡◌, ◌≤◌, ◌<◌, ◌+◌, length, IfOk, IfErr};
 ghost use Rattle.std.specs.Option.{ForSome, option_map};
 ghost use Rattle.sel_bits.specs.Faults.{IsOutOfMemory};
-ghost use Rattle.sel_arrow.specs.Masked.{Covers, valid_at, validity_differs, part_of};
+ghost use Rattle.sel_bits.specs.Validity.{Covers, valid_at, validity_differs};
+ghost use Rattle.sel_arrow.specs.Masked.{part_of};
 
 use sel_bits::bitmap::Bitmap;
 use sel_bits::faults::PolarsResult;

@@ -14,4 +14,5 @@ pub mod Reading
 pub mod Signs
 pub mod Storage
 pub mod TwoLists
+pub mod Validity
 pub mod Words

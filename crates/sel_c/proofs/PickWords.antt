@@ -3,7 +3,7 @@ use Rattle.std.proofs.lemmas.Grind.{common_steps}
 use Rattle.std.proofs.Common.{◌≡◌, ℕ, zero, suc, ◌+◌, ◌<◌, All, List, [], ◌∷◌, length, map, get_or, refl, ap, ◌∙◌, arith, false, Option, Some, None}
 use Rattle.std.specs.Option.{is_some, ForSome}
 use Rattle.sel_c.proofs.Common.{All-nil, All-cons, Bits, Covers, valid_at, rows, ArrayRef, PickFits, HasRow, pick_in, picks_from}
-use Rattle.sel_gather.specs.Plans.{IsPicked}
+use Rattle.sel_runs.specs.Plans.{IsPicked}
 use Rattle.sel_c.specs.declared.calls.several.PickWords.{PickWords}
 
 at : (i k : ℕ) (validity : Option Bits) (words : List PickWords) (w : PickWords) (d : Option (ℕ × ℕ)) → k < length words → get_or (picks_from i validity words) k d ≡ pick_in (get_or words k w) (valid_at validity (i + k))

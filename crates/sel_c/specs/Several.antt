@@ -4,7 +4,7 @@ use Rattle.std.specs.Prelude.{Option, Some, None, IsTrue, if◌then◌else◌}
 use Rattle.sel_bits.specs.Bits.{Bits}
 use Rattle.sel_bits.specs.Limits.{max_rows}
 use Rattle.sel_bits.specs.declared.faults.Malformed.TheVariants.{TooManyRows, ValidityLength}
-use Rattle.sel_arrow.specs.Masked.{valid_at}
+use Rattle.sel_bits.specs.Validity.{valid_at}
 use Rattle.sel_arrow.specs.Shape.{Shape, of_null}
 use Rattle.sel_arrow.specs.Value.{Value, Null}
 use Rattle.sel_arrow.specs.declared.column.Column.{Column}
@@ -14,7 +14,7 @@ use Rattle.sel_ffi.specs.Held.{Held}
 use Rattle.sel_ffi.specs.Inputs.{lacks_bits, validity_in}
 use Rattle.sel_ffi.specs.Status.{type_mismatch, length_mismatch, index_out_of_bounds, rule_status}
 use Rattle.sel_gather.specs.Need.{exceeded_taken}
-use Rattle.sel_gather.specs.Picks.{pick, PickFits}
+use Rattle.sel_runs.specs.Picks.{pick, PickFits}
 use Rattle.sel_kernels.specs.Flatten.{flatten, parts_fit, exceeded_flattened}
 
 -- The first of several types; the null type if there is none.

@@ -1,7 +1,8 @@
 -- The values with a validity give the rows.
 use Rattle.std.proofs.Common.{◌≡◌, ℤ, Bool, true, List, [], ◌∷◌, length, map, Option, Some, None, refl, ap, sym}
 use Rattle.sel_bits.specs.Bits.{Bits}
-use Rattle.sel_arrow.specs.{Value.Value, Value.Number, Value.Truth, Value.is_valid, Value.validities, Masked.hidden, Masked.masked, Masked.Covers}
+use Rattle.sel_arrow.specs.{Value.Value, Value.Number, Value.Truth, Value.is_valid, Value.validities, Masked.hidden, Masked.masked}
+use Rattle.sel_bits.specs.Validity.{Covers}
 use Rattle.sel_arrow.{specs.Masked.number_rows, specs.Masked.bool_rows, proofs.Rows.tells-mapped, proofs.Rows.length-number_rows, proofs.Rows.length-truth_rows}
 use Rattle.sel_ffi.{proofs.Common.of_int8, specs.Outputs.Shows, specs.Outputs.numbers, specs.Outputs.bools}
 

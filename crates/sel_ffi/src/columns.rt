@@ -3,7 +3,8 @@
 ghost use Rattle.std.specs.Prelude.{◌≡◌, ◌≢◌, ◌≤◌, ◌<◌, ◌+◌, [], ◌∷◌, All, true, length, IfOk, IfErr, IfSome, None, map, take, drop};
 ghost use Rattle.sel_bits.specs.Offsets.{offsets_fault};
 ghost use Rattle.sel_arrow.specs.Depth.{depth, deepest};
-ghost use Rattle.sel_arrow.specs.Masked.{Covers, number_rows, bool_rows};
+ghost use Rattle.sel_bits.specs.Validity.{Covers};
+ghost use Rattle.sel_arrow.specs.Masked.{number_rows, bool_rows};
 ghost use Rattle.sel_arrow.specs.Nested.{block_rows, list_rows, struct_rows};
 ghost use Rattle.sel_arrow.specs.Pieces.{byte_rows, rows_between};
 ghost use Rattle.sel_arrow.specs.Rows.{rows, row_count, type_of};

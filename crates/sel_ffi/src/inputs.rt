@@ -2,7 +2,8 @@
 
 ghost use Rattle.std.specs.Prelude.{◌≡◌, ◌≤◌, ◌*◌, IfOk, IfErr, length, None, Some, false, [], ◌∷◌};
 ghost use Rattle.sel_bits.specs.Faults.{first_broken, IsFaultOrMemory};
-ghost use Rattle.sel_arrow.specs.Masked.{Covers, number_rows, bool_rows};
+ghost use Rattle.sel_bits.specs.Validity.{Covers};
+ghost use Rattle.sel_arrow.specs.Masked.{number_rows, bool_rows};
 ghost use Rattle.sel_bits.specs.Bits.{bits_from, unsliced};
 ghost use Rattle.sel_arrow.specs.Shape.{of_boolean};
 ghost use Rattle.sel_arrow.specs.Rows.{rows, type_of};

@@ -4,7 +4,8 @@ pub use Rattle.sel_arrow.proofs.Lists.{all_part, and_first, and_second, both}
 pub use Rattle.sel_arrow.proofs.NestedRows.{blocks_formed, has_blocks, has_lists, HasBlocks, HasLists, length-blocks, length-rows, lists_formed, struct_covered}
 pub use Rattle.sel_arrow.proofs.Rows.{length-mapped, length-part, null_mapped, part-mapped, valid_mapped}
 pub use Rattle.sel_arrow.specs.Columns.{binary_rows, binview_rows, boolean_rows}
-pub use Rattle.sel_arrow.specs.Masked.{bool_rows, Covers, hidden, masked, number_rows, valid_at}
+pub use Rattle.sel_arrow.specs.Masked.{bool_rows, hidden, masked, number_rows}
+pub use Rattle.sel_bits.specs.Validity.{Covers, valid_at, bits_for, part_bits}
 pub use Rattle.sel_arrow.specs.Nested.{block_rows, blocks, list_of, list_rows, struct_at, struct_rows}
 pub use Rattle.sel_arrow.specs.Nulls.{IsValidityOf}
 pub use Rattle.sel_arrow.specs.Pieces.{byte_rows, last_offset, pieces, pieces_after, rows_between}
@@ -34,14 +35,13 @@ pub use Rattle.sel_gather.specs.JoinedBytes.{ends_from, IsBytesRow}
 pub use Rattle.sel_gather.specs.KeptPicks.{kept_by}
 pub use Rattle.sel_gather.specs.Need.{buffer_count, buffers_joined, byte_count, bytes_needed, exceeded_in_fields, exceeded_in_parts, exceeded_limits}
 pub use Rattle.sel_gather.specs.Need.{exceeded_taken, ExceedsBuffers, ExceedsBytes, ExceedsNone, ExceedsRows, IsLimitOrMemory}
-pub use Rattle.sel_gather.specs.Picks.{found, pick, PickFits}
-pub use Rattle.sel_gather.specs.Plans.{bit_found, bits_found, HasBit, IsNear, IsPicked}
+pub use Rattle.sel_runs.specs.Picks.{found, pick, PickFits}
+pub use Rattle.sel_runs.specs.Plans.{bit_found, bits_found, HasBit, IsNear, IsPicked}
 pub use Rattle.sel_gather.specs.Raised.{IsBufferLimitOrMemory, raised, starts_of}
-pub use Rattle.sel_gather.specs.Runs.{expand, picks_of, unrolled, unrolled_from}
+pub use Rattle.sel_runs.specs.Runs.{expand, picks_of, unrolled, unrolled_from}
 pub use Rattle.sel_gather.specs.Sources.{columns_of, first_type, picked}
 pub use Rattle.sel_gather.specs.Steps.{AreValidities, parts_of}
-pub use Rattle.sel_gather.specs.Validity.{bits_for, part_bits}
-pub use Rattle.sel_gather.specs.declared.runs.Run.{Run}
+pub use Rattle.sel_runs.specs.declared.runs.Run.{Run}
 pub use Rattle.std.proofs.Common.{[], add_assoc, All, ap, append_assoc, arith, Bool, Bor, Box, cond, drop, false, get_or, Global, inl, inr, is_none, length}
 pub use Rattle.std.proofs.Common.{length-append, length-take, List, map, nat_le, None, OnOk, Option, pos, refl, replicate, rules, slice_set, Some, subst, suc}
 pub use Rattle.std.proofs.Common.{sym, take, true, true≢false, Vec, vec_capacity, vec_len, w64, zero, zero-add, add-zero, ℕ, ℤ, ◌%◌, ◌&&◌, ◌*◌, ◌++◌, ◌+◌, ◌-◌, ◌<◌, ◌==◌}

@@ -4,11 +4,7 @@ use Rattle.sel_gather.proofs.Common.{◌∷◌, map, length, get_or, take, refl,
 use Rattle.sel_gather.proofs.Common.{take_all, length-map, get_or-map, leb-true, le-leb, slice_get, rows, type_of, Column, Run, PickFits, expand, unrolled}
 use Rattle.sel_gather.proofs.Common.{picks_of, unrolled_from, first_type}
 use Rattle.std.proofs.{Common.IsTrue, lemmas.Option.get_or_from_slice_get}
-use Rattle.sel_gather.proofs.RunLists.{length_more, run_at, expand_more, all_at, run_there}
-
--- The number of rows after one more run.
-pub counted_more : (rs : List Run) (i count : ℕ) → i < length rs → count ≡ length (expand (take i rs)) → count + (run_at rs i).len ≡ length (expand (take (i + 1) rs))
-counted_more rs i count inside is = omega (arith, length_more rs i inside, is)
+use Rattle.sel_runs.proofs.RunLists.{run_at, expand_more, all_at, run_there}
 
 -- A property of the row references so far and of those of the next run.
 pub all_more : (P : Option (ℕ × ℕ) → Type 0) (rs : List Run) (i : ℕ) → i < length rs → All P (expand (take i rs)) → All P (unrolled (run_at rs i)) → All P (expand (take (i + 1) rs))

@@ -2,7 +2,8 @@
 use Rattle.sel_gather.proofs.Common.{◌≡◌, ◌∙◌, ◌*◌, All, Bor, ℕ, List, Option, ap, sym, subst, length, map, true, Result, PolarsError, type_of, IsWellFormed}
 use Rattle.sel_gather.proofs.Common.{Shape, of_fixed_size_list, Null, Column, child, is_listing, joined_items, CollectsSome, items_at, pick, PickFits, columns_of}
 use Rattle.sel_gather.proofs.{Below.mapped_now, ItemPicks.items_fit, ItemPicks.items_long, ItemPicks.items_picked, ItemRuns.rows_of, Layouts.picked_blocks}
-use Rattle.sel_gather.proofs.{Rebuilt.blocks_length, RunLists.length-pick, Walks.children_recurse}
+use Rattle.sel_gather.proofs.{Rebuilt.blocks_length, Walks.children_recurse}
+use Rattle.sel_runs.proofs.RunLists.{length-pick}
 
 module _ (s : Shape) (cs : List (Bor Column)) (lists : All (λ c. is_listing (type_of c.now) ≡ true) cs) (alike : All (λ c. type_of (child c.now) ≡ s) cs) (formed : All (λ c. IsWellFormed c.now) cs)
     (w : ℕ) (ps qs : List (Option (ℕ × ℕ))) (again : qs ≡ ps) (fits : All (PickFits (rows_of cs)) ps) where

@@ -1,6 +1,6 @@
 -- Rows under a validity, to which parts of other rows are appended.
-use Rattle.sel_gather.proofs.Common.{common_steps, ◌≡◌, ℕ, zero, suc, ◌+◌, ◌≤◌, ◌<◌, get_or, Bool, true, false, List, [], ◌∷◌, ◌++◌, length, take, drop, map}
-use Rattle.sel_gather.proofs.Common.{replicate, Option, Some, None, refl, ap, sym, ◌∙◌, arith, length-append, map-append, get_or-map, length-map}
+use Rattle.sel_gather.proofs.Common.{common_steps, ◌≡◌, ℕ, zero, suc, ◌+◌, ◌≤◌, Bool, true, false, List, [], ◌∷◌, ◌++◌, length, take, drop, map}
+use Rattle.sel_gather.proofs.Common.{replicate, Option, Some, None, refl, ap, sym, ◌∙◌, arith, length-append, map-append, length-map}
 use Rattle.sel_gather.proofs.Common.{length-replicate, Bits, Value, Null, hidden, masked, Covers, length-part, part-mapped, pick, part_bits, bits_for}
 
 pub hidden-append : (bs cs : List Bool) (vs ws : List Value) → length bs ≡ length vs → hidden (bs ++ cs) (vs ++ ws) ≡ hidden bs vs ++ hidden cs ws
@@ -40,10 +40,6 @@ length-part_bits a n (Some validity) count covers h = length-part validity.bits 
 pub finished : {A : Type 0} (f : A → Value) (xs : List A) (validity : Option Bits) (bits : List Bool) (n : ℕ) → bits_for n validity ≡ bits → length xs ≡ n → masked validity (map f xs) ≡ hidden bits (map f xs)
 finished f xs None bits n is long = sym (hidden_all n (map f xs) (length-map xs f ∙ long)) ∙ ap (λ l. hidden l (map f xs)) is
 finished f xs (Some validity) bits n is long = ap (λ l. hidden l (map f xs)) is
-
--- The rows of the source at a position.
-pub source_rows : {S A : Type 0} (f : S → List A) (ss : List S) (i : ℕ) (s : S) → i < length (map f ss) → s ≡ get_or ss i s → get_or (map f ss) i [] ≡ f s
-source_rows f ss i s h is = get_or-map f ss i s [] (simp length-map at h) ∙ ap f (sym is)
 
 length-hidden : (bs : List Bool) (vs : List Value) → length (hidden bs vs) ≡ length vs
 length-hidden [] vs = refl

@@ -1,7 +1,8 @@
 -- Rows gathered as values and validities.
 use Rattle.sel_gather.proofs.Common.{◌≡◌, ℕ, ◌<◌, All, Bool, true, false, List, [], ◌∷◌, length, map, get_or, Option, Some, None, zero, suc, refl, ap, sym, ◌∙◌}
-use Rattle.sel_gather.proofs.Common.{arith, if◌then◌else◌, All-head, All-tail, Bits, hidden, masked, Covers, valid_at, Value, Null, Truth, length-mapped}
+use Rattle.sel_gather.proofs.Common.{arith, if◌then◌else◌, All-head, All-tail, Bits, hidden, masked, Covers, valid_at, Value, Null, length-mapped}
 use Rattle.sel_gather.proofs.Common.{null_mapped, valid_mapped, pick, PickFits, HasBit, bits_found}
+use Rattle.sel_runs.proofs.BitPicks.{bits_fit}
 
 module _ {S A : Type 0} (values : S → List A) (valid : S → Option Bits) (covers : (s : S) → Covers (valid s) (length (values s))) (f : A → Value) (d : A) where
   abbrev pub rows_in : S → List Value
@@ -43,26 +44,6 @@ module _ {S A : Type 0} (values : S → List A) (valid : S → Option Bits) (cov
       let rest = rows_picked ss ps (All-tail (PickFits (map values ss)) (Some p) ps fits) in
       (λ i. sym here i ∷ rest i)
 
-  -- ---- the bits of validities
-
-  bit_below : (ss : List S) (s i : ℕ) → i < length (get_or (map values ss) s []) → s < length (map valid ss)
-  bit_below [] s i h = absurd (omega (arith, h))
-  bit_below (x ∷ ss) zero i h = omega arith
-  bit_below (x ∷ ss) (suc s) i h = omega (arith, bit_below ss s i h)
-
-  bit_inside : (ss : List S) (s i : ℕ) → i < length (get_or (map values ss) s []) → (v : Bits) → get_or (map valid ss) s None ≡ Some v → i < length v.bits
-  bit_inside [] s i h v e = absurd (omega (arith, h))
-  bit_inside (x ∷ ss) zero i h v e = omega (arith, h, covers x v e)
-  bit_inside (x ∷ ss) (suc s) i h v e = bit_inside ss s i h v e
-
-  bit_fits : (ss : List S) (p : Option (ℕ × ℕ)) → PickFits (map values ss) p → HasBit (map valid ss) p
-  bit_fits ss None h = h
-  bit_fits ss (Some p) h = (bit_below ss p.0 p.1 h, bit_inside ss p.0 p.1 h)
-
-  -- Row references that fit the values refer to bits of their validities.
-  pub bits_fit : (ss : List S) (ps : List (Option (ℕ × ℕ))) → All (PickFits (map values ss)) ps → All (HasBit (map valid ss)) ps
-  bits_fit ss ps fits k e h = bit_fits ss (get_or ps k e) (fits k e h)
-
 -- ---- bitmaps that are always present
 
 module _ {S : Type 0} (bits : S → Bits) where
@@ -71,7 +52,7 @@ module _ {S : Type 0} (bits : S → Bits) where
 
   -- Row references that fit the booleans refer to bits of the bitmaps.
   pub truths_fit : (ss : List S) (ps : List (Option (ℕ × ℕ))) → All (PickFits (map (λ s. (bits s).bits) ss)) ps → All (HasBit (map (λ s. Some (bits s)) ss)) ps
-  truths_fit ss ps fits = bits_fit (λ s. (bits s).bits) (λ s. Some (bits s)) same_bits Truth false ss ps fits
+  truths_fit ss ps fits = bits_fit (λ s. (bits s).bits) (λ s. Some (bits s)) same_bits ss ps fits
 
   truth_found : (ss : List S) (s i : ℕ) → i < length (get_or (map (λ s. (bits s).bits) ss) s []) →
       valid_at (get_or (map (λ s. Some (bits s)) ss) s None) i ≡ get_or (get_or (map (λ s. (bits s).bits) ss) s []) i false

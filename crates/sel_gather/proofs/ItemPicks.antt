@@ -4,11 +4,12 @@ use Rattle.sel_gather.proofs.Common.{map, Option, Some, None, refl, ap, sym, sub
 use Rattle.sel_gather.proofs.Common.{get_or-replicate, get_or-map-range_with_len, All-append, All-head, All-nil, All-tail, IsValidityOf, rows, type_of}
 use Rattle.sel_gather.proofs.Common.{IsWellFormed, Shape, of_null, Value, Null, is_valid, Column, child, is_listing, items_in, joined_items, item_ends, part_of}
 use Rattle.sel_gather.proofs.Common.{part_picks, item_picks, items_at, IsRow, found, pick, PickFits, IsNear, IsPicked, unrolled, Run, All-get_or, unrolled_from}
-use Rattle.sel_gather.proofs.Gathers.{next_all, next_below, next_is, pick_next}
+use Rattle.sel_runs.proofs.Gathers.{next_all, next_below, next_is, pick_next}
 use Rattle.sel_gather.proofs.ItemRuns.{rows_of, below_of, listed_values, null_items, nulls_fit}
-use Rattle.sel_gather.proofs.RunLists.{below_length, length-pick, length-unrolled, none_unrolled, pick_rows, picked_rows}
+use Rattle.sel_runs.proofs.RunLists.{below_length, length-pick, length-unrolled, none_unrolled, pick_rows, picked_rows}
 use Rattle.sel_gather.proofs.Walks.{told_row, counts_behind, ends_behind, joined_first}
-use Rattle.sel_gather.proofs.{ListParts.few_below, ListParts.IsPart, ListParts.part_is, EachRow.source_all, PlanRuns.first_of, Fits.rows_fit}
+use Rattle.sel_gather.proofs.{ListParts.few_below, ListParts.IsPart, ListParts.part_is, EachRow.source_all, Fits.rows_fit}
+use Rattle.sel_runs.proofs.PlanRuns.{first_of}
 
 -- ---- the items of the list that a row reference refers to
 

@@ -3,7 +3,7 @@ use Rattle.sel_gather.proofs.Common.{common_steps, All-replicate, ◌≡◌, All
 use Rattle.sel_gather.proofs.Common.{Some, None, refl, ap, sym, subst, ◌∙◌, arith, get_or, length-append, append_assoc, length-map, take_more, take_all}
 use Rattle.sel_gather.proofs.Common.{take-append-drop, map-append, append-nil, flat_map-append, All-append, rows, Value, Null, values_of, listed, Column, child}
 use Rattle.sel_gather.proofs.Common.{items_in, joined_items, item_ends, pick, PickFits, expand, unrolled, Run}
-use Rattle.sel_gather.proofs.RunLists.{pick_split, run_there, map_nulls, pick_more, run_at, length-pick}
+use Rattle.sel_runs.proofs.RunLists.{pick_split, run_there, map_nulls, pick_more, run_at, length-pick}
 use Rattle.sel_gather.proofs.{EndsBy.ends_by-append, EndsBy.list_ends, JoinedRows.run_length}
 
 -- The rows of each source, and those of its child.

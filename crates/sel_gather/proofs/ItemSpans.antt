@@ -7,7 +7,9 @@ use Rattle.sel_gather.proofs.Common.{expand, picks_of, unrolled, Run}
 use Rattle.std.proofs.{Common.negsuc, Common.of_z, Common.rules, Common.to_z, Common.w64, lemmas.Int.to_z-of_z}
 use Rattle.sel_bits.specs.Signs.{is_negative, magnitude}
 use Rattle.sel_gather.specs.Spans.{AreStarts, are_ends, spans}
-use Rattle.sel_gather.proofs.{Gathers.next_below, Gathers.next_is, ItemPicks.list_long, ItemRuns.rows_of, RunLists.length-unrolled, RunLists.picked_rows}
+use Rattle.sel_runs.proofs.Gathers.{next_below, next_is}
+use Rattle.sel_gather.proofs.{ItemPicks.list_long, ItemRuns.rows_of}
+use Rattle.sel_runs.proofs.RunLists.{length-unrolled, picked_rows}
 
 -- ---- starts
 

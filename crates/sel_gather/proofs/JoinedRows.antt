@@ -5,7 +5,8 @@ use Rattle.sel_gather.proofs.Common.{Bits, IsOffsets, IsRising, magnitudes, Valu
 use Rattle.sel_gather.proofs.Common.{rows_between, last_offset, length-pieces, Run, ends_from, IsBytesRow, bytes_of, joined_bytes, AllBytesRows, GrewBy}
 use Rattle.sel_gather.proofs.Common.{bytes_needed, pick, unrolled, bits_for}
 use Rattle.sel_bits.specs.Signs.{magnitude}
-use Rattle.sel_gather.{specs.declared.binary.Joined.Joined, proofs.RunLists.length-pick, proofs.RunLists.length-unrolled, proofs.Grown.finished}
+use Rattle.sel_gather.{specs.declared.binary.Joined.Joined, proofs.Grown.finished}
+use Rattle.sel_runs.proofs.RunLists.{length-pick, length-unrolled}
 use Rattle.sel_gather.proofs.EachRow.{mapped_all, masked_all, picked_all, sources_all}
 use Rattle.sel_gather.proofs.EndsBy.{byte_ends, ends_by-append, ends_by_between, ends_by_last, ends_by_rise, length-bytes_of, pieces_by}
 

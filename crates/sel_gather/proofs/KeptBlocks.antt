@@ -1,7 +1,8 @@
 -- The row references of a run under bits, split after bits that are equal.
 use Rattle.sel_gather.proofs.Common.{◌≡◌, ℕ, zero, suc, ◌+◌, ◌-◌, ◌≤◌, ◌<◌, Bool, true, false, List, ◌∷◌, ◌++◌, map, replicate, Option, Some, None, refl, ap}
 use Rattle.sel_gather.proofs.Common.{sym, ◌∙◌, arith, get_or, if◌then◌else◌, map-append, kept_by, picks_of, unrolled_from}
-use Rattle.sel_gather.{specs.KeptPicks.AreEqualBits, proofs.RunLists.unrolled_from-append}
+use Rattle.sel_gather.{specs.KeptPicks.AreEqualBits}
+use Rattle.sel_runs.proofs.RunLists.{unrolled_from-append}
 
 -- ---- row references under equal bits
 

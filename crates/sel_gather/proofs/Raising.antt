@@ -8,7 +8,8 @@ use Rattle.std.specs.Prelude.{◌==◌}
 use Rattle.std.proofs.lemmas.Grind.{flat_map-append}
 use Rattle.std.proofs.lemmas.List.Folds.{length-flat_map-take, list_all-append}
 use Rattle.sel_arrow.specs.declared.view.View.{View}
-use Rattle.sel_gather.proofs.{Grown.grown_lengths, Grown.hidden-append, Grown.part_hidden, Windows.window_more}
+use Rattle.sel_gather.proofs.{Grown.grown_lengths, Grown.hidden-append, Grown.part_hidden}
+use Rattle.sel_runs.proofs.Windows.{window_more}
 
 -- ---- concatenated parts
 

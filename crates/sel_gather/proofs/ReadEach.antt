@@ -1,14 +1,7 @@
 -- What a function returns for each item of a list.
 use Rattle.sel_gather.proofs.Common.{All, All-nil, All-cons, AreValidities, Bits, Bor, Column, IsValidityOf, Option, columns_of, option_copied, rows, type_of}
-use Rattle.sel_gather.proofs.Common.{◌≡◌, ℕ, ◌+◌, ◌<◌, List, [], ◌∷◌, ◌++◌, length, take, map, get_or, refl, ap, sym, subst, ◌∙◌, take_more}
+use Rattle.sel_gather.proofs.Common.{◌≡◌, List, [], ◌∷◌, map, refl, ap}
 use Rattle.std.specs.List.{AllZip}
-use Rattle.std.proofs.lemmas.Slice.Zip.{all_zipped_more}
-
--- One more result.
-pub each_more : {S T : Type 0} (R : S → T → Type 0) (xs : List S) (ys new : List T) (i : ℕ) (x : S) (y : T) → i < length xs → x ≡ get_or xs i x → AllZip R (take i xs) ys → R x y → new ≡ ys ++ y ∷ [] → AllZip R (take (i + 1) xs) new
-each_more R xs ys new i x y h is each here more =
-    let items = take_more xs i x h ∙ ap (λ z. take i xs ++ z ∷ []) (sym is) in
-    subst (λ l. AllZip R l new) (sym items) (subst (AllZip R (take i xs ++ x ∷ [])) (sym more) (all_zipped_more R (take i xs) ys x y each here))
 
 -- Where what is seen of a result is what is seen of its item, it is so of all.
 pub each_seen : {S T C : Type 0} (R : S → T → Type 0) (f : S → C) (g : T → C) → ((x : S) (y : T) → R x y → g y ≡ f x) → (xs : List S) (ys : List T) → AllZip R xs ys → map g ys ≡ map f xs

@@ -3,7 +3,9 @@ use Rattle.sel_gather.proofs.Common.{common_steps, ◌≡◌, ◌≢◌, All, Bo
 use Rattle.sel_gather.proofs.Common.{None, refl, ap, sym, ◌∙◌, arith, get_or, length-map, get_or-map, Bits, IsValidityOf, rows, Shape, of_null}
 use Rattle.sel_gather.proofs.Common.{Value, Null, is_valid, validities, Column, cleared, kept_by, found, pick, PickFits, unrolled, picks_of, Run, subst}
 use Rattle.sel_gather.proofs.Common.{All-get_or, get_or-replicate, type_of}
-use Rattle.sel_gather.proofs.{Gathers.map-replicate, KeptBlocks.all_kept, ItemRuns.rows_of, ItemRuns.source_there, RunLists.run_there, RunLists.pick_nulls}
+use Rattle.sel_runs.proofs.Gathers.{map-replicate}
+use Rattle.sel_gather.proofs.{KeptBlocks.all_kept, ItemRuns.rows_of, ItemRuns.source_there}
+use Rattle.sel_runs.proofs.RunLists.{run_there, pick_nulls}
 
 -- ---- the validity of the rows
 

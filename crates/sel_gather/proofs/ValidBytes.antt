@@ -10,7 +10,10 @@ use Rattle.std.specs.Prelude.{IfErr}
 use Rattle.sel_arrow.specs.{Shape.of_large_binary, declared.binary.BinaryArray.BinaryArray}
 use Rattle.sel_bits.specs.declared.native.NativeType.{Ghosts}
 use Rattle.sel_gather.proofs.JoinedRows.{ends-append, length-joined, needed-append, needed_part}
-use Rattle.sel_gather.proofs.{SplitRuns.bit_at, SplitRuns.null_bits, RunLists.run_there, RunLists.pick_run, Gathers.map-replicate, Grown.source_rows}
+use Rattle.sel_gather.proofs.{SplitRuns.bit_at, SplitRuns.null_bits}
+use Rattle.sel_runs.proofs.RunLists.{run_there, pick_run}
+use Rattle.sel_runs.proofs.Gathers.{map-replicate}
+use Rattle.sel_runs.proofs.Mapped.{source_rows}
 
 -- ---- contiguous parts of a list
 

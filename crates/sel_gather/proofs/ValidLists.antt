@@ -7,7 +7,7 @@ use Rattle.sel_gather.specs.ItemPicks.{HasOffsets, item_count, moved_end}
 use Rattle.sel_gather.proofs.ItemPicks.{items_fit, items_long, items_picked, list_long}
 use Rattle.sel_gather.proofs.ItemRuns.{below_of, rows_of, source_there}
 use Rattle.sel_gather.proofs.ListParts.{ListPlace, of_list}
-use Rattle.sel_gather.proofs.RunLists.{length-unrolled_from, picks_of-append, run_there}
+use Rattle.sel_runs.proofs.RunLists.{length-unrolled_from, picks_of-append, run_there}
 
 -- ---- the offsets of the source of a run
 

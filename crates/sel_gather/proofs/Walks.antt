@@ -1,42 +1,15 @@
 -- Gathered lists that are read once.
-use Rattle.sel_gather.proofs.Common.{common_steps, take-map, ◌≡◌, ◌≢◌, All, Bor, ℤ, pos, ℕ, zero, suc, ◌+◌, ◌≤◌, ◌<◌, true, false, List, [], ◌∷◌, ◌++◌, length, take, drop}
-use Rattle.sel_gather.proofs.Common.{map, get_or, Option, Some, None, refl, ap, sym, subst, ◌∙◌, arith, length-append, ForSome, Result, take-add, get_or-map}
-use Rattle.sel_gather.proofs.Common.{map-append, take-append-le, drop-append-le, take_all, drop_all, length-drop, get_or-replicate, Bits, max_rows, Limit}
+use Rattle.sel_gather.proofs.Common.{common_steps, take-map, ◌≡◌, ◌≢◌, All, Bor, ℤ, pos, ℕ, zero, suc, ◌+◌, ◌≤◌, ◌<◌, true, false, List, [], ◌∷◌, ◌++◌, length, take}
+use Rattle.sel_gather.proofs.Common.{map, get_or, Option, Some, None, refl, ap, sym, subst, ◌∙◌, arith, length-append, ForSome, Result, get_or-map}
+use Rattle.sel_gather.proofs.Common.{map-append, get_or-replicate, Bits, max_rows, Limit}
 use Rattle.sel_gather.proofs.Common.{RowLimit, PolarsError, valid_at, IsValidityOf, rows, type_of, IsWellFormed, Shape, of_null, of_fixed_size_list}
 use Rattle.sel_gather.proofs.Common.{of_large_list, Value, Null, is_valid, validities, Column, child, is_listing, joined_items, item_ends, Collects, MayGather}
-use Rattle.sel_gather.proofs.Common.{ExceedsRows, found, pick, PickFits, HasBit, bits_found, AreValidities, unrolled, columns_of, Run}
+use Rattle.sel_gather.proofs.Common.{ExceedsRows, found, pick, PickFits, HasBit, bits_found, AreValidities, columns_of}
 use Rattle.sel_gather.proofs.ItemRuns.{joined_part, rows_of, below_of, joined-append, ends-append}
 use Rattle.sel_gather.proofs.Below.{Recurses, child_type, items_recurse, mapped_now}
-use Rattle.sel_gather.proofs.{Gathers.left_behind, RunLists.All-left, RunLists.length-unrolled, SplitRuns.told_bits, SplitRuns.told_length}
+use Rattle.sel_runs.proofs.Mapped.{one_mapped, two_mapped}
+use Rattle.sel_gather.proofs.{SplitRuns.told_bits, SplitRuns.told_length}
 use Rattle.sel_gather.proofs.{SplitRuns.told_valid}
-
--- ---- the row references of the next run
-
-module _ (ps left rest : List (Option (ℕ × ℕ))) (run : Run) (at : ℕ) (behind : left ≡ drop at ps) (next : left ≡ unrolled run ++ rest) where
-  first_picks : take run.len left ≡ unrolled run
-  first_picks = grind (arith, common_steps, length-unrolled, take-append-le, take_all)
-
-  other_picks : rest ≡ drop run.len left
-  other_picks = grind (arith, common_steps, length-unrolled, drop-append-le, drop_all)
-
-  pub run_behind : rest ≡ drop (at + run.len) ps
-  run_behind = left_behind ps left rest at run.len behind other_picks
-
-  pub taken_run : take (at + run.len) ps ≡ take at ps ++ unrolled run
-  taken_run = take-add at run.len ps ∙ ap (λ l. take at ps ++ take run.len l) (sym behind) ∙ ap (λ l. take at ps ++ l) first_picks
-
-  pub picked_run : (xss : List (List Value)) → pick Null xss (take (at + run.len) ps) ≡ pick Null xss (take at ps) ++ pick Null xss (unrolled run)
-  picked_run xss = ap (pick Null xss) taken_run ∙ map-append (found Null xss) (take at ps) (unrolled run)
-
-  pub run_within : at ≤ length ps → at + run.len ≤ length ps
-  run_within inside =
-      let long = ap length (sym behind ∙ next) ∙ length-append (unrolled run) rest in
-      let some = length-unrolled run in
-      omega (arith, long, some, length-drop at ps)
-
--- A property of all row references is a property of those of the next run.
-pub run_all : (P : Option (ℕ × ℕ) → Type 0) (left rest : List (Option (ℕ × ℕ))) (run : Run) → left ≡ unrolled run ++ rest → All P left → All P (unrolled run)
-run_all P left rest run next all = All-left P (unrolled run) rest (subst (All P) next all)
 
 -- ---- the child rows of its lists
 
@@ -135,18 +108,6 @@ lists_child s cs alike = λ k d h. child_type (get_or cs k d).now s (alike k d h
 
 pub lists_listing : (s : Shape) (cs : List (Bor Column)) → All (λ c. type_of c.now ≡ of_large_list s) cs → All (λ c. is_listing (type_of c.now) ≡ true) cs
 lists_listing s cs alike = λ k d h. ap is_listing (alike k d h)
-
--- A property of each of one or two columns.
-pub one_mapped : {A B : Type 0} (f : A → B) (cs : List A) (c : A) (x : B) → 1 ≤ length cs → length cs < 2 → c ≡ get_or cs 0 c → x ≡ f c → x ∷ [] ≡ map f cs
-one_mapped f [] c x some one is e = absurd (omega (arith, some))
-one_mapped f (y ∷ []) c x some one is e = ap (λ z. z ∷ []) (e ∙ ap f is)
-one_mapped f (y ∷ z ∷ cs) c x some one is e = absurd (omega (arith, one))
-
-pub two_mapped : {A B : Type 0} (f : A → B) (cs : List A) (c d : A) (x y : B) → 2 ≤ length cs → length cs < 3 → c ≡ get_or cs 0 c → d ≡ get_or cs 1 d → x ≡ f c → y ≡ f d → x ∷ y ∷ [] ≡ map f cs
-two_mapped f [] c d x y some two is other e h = absurd (omega (arith, some))
-two_mapped f (a ∷ []) c d x y some two is other e h = absurd (omega (arith, some))
-two_mapped f (a ∷ b ∷ []) c d x y some two is other e h = (λ i. (e ∙ ap f is) i ∷ (h ∙ ap f other) i ∷ [])
-two_mapped f (a ∷ b ∷ z ∷ cs) c d x y some two is other e h = absurd (omega (arith, two))
 
 -- The child of a single column.
 pub one_child : (cs : List (Bor Column)) (c x : Bor Column) → 1 ≤ length cs → length cs < 2 → c ≡ get_or cs 0 c → x.now ≡ child c.now → x.now ∷ [] ≡ map (λ c. child c.now) cs

@@ -1,7 +1,7 @@
 -- Row references to struct rows, as row references to rows of their fields.
 use Rattle.std.specs.Prelude.{◌≡◌, ℕ, true, ⊤, List, Option, Some, None, if◌then◌else◌}
 use Rattle.sel_arrow.specs.Value.{Value, Null, is_valid}
-use Rattle.sel_gather.specs.Picks.{found}
+use Rattle.sel_runs.specs.Picks.{found}
 
 -- The row reference, or none if its row is null (Arrow columnar format: a null row of a struct
 -- hides those of its fields).

@@ -11,7 +11,7 @@ use Rattle.sel_arrow.specs.Value.{Value}
 use Rattle.sel_arrow.specs.declared.array_ref.ArrayRef.{ArrayRef}
 use Rattle.sel_arrow.specs.declared.column.Column.{Column}
 use Rattle.sel_gather.specs.Need.{ExceedsNone, IsLimitOrMemory, exceeded_limits, exceeded_taken}
-use Rattle.sel_gather.specs.Picks.{PickFits}
+use Rattle.sel_runs.specs.Picks.{PickFits}
 use Rattle.sel_gather.specs.Sources.{first_type, rows_of}
 
 -- The sources are well-formed, each reference is null or refers to a row of a source, and there are

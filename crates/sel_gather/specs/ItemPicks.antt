@@ -5,12 +5,12 @@ use Rattle.std.specs.Option.{ForSome}
 use Rattle.std.specs.Prelude.{if◌then◌else◌}
 use Rattle.std.specs.Borrow.{Bor}
 use Rattle.std.specs.List.{flat_map}
-use Rattle.sel_arrow.specs.Masked.{valid_at}
+use Rattle.sel_bits.specs.Validity.{valid_at}
 use Rattle.sel_arrow.specs.Value.{Value}
 use Rattle.sel_arrow.specs.declared.column.Column.{Column}
 use Rattle.sel_arrow.specs.declared.column.Column.TheVariants.{LargeList', FixedSizeList'}
-use Rattle.sel_gather.specs.Runs.{picks_of}
-use Rattle.sel_gather.specs.declared.runs.Run.{Run}
+use Rattle.sel_runs.specs.Runs.{picks_of}
+use Rattle.sel_runs.specs.declared.runs.Run.{Run}
 
 -- The row reference is none or refers to a row, as `PickFits` says by cases.
 abbrev pub IsRow : List (List Value) → Option (ℕ × ℕ) → Type 0

@@ -7,12 +7,8 @@ pub mod ItemPicks
 pub mod JoinedBytes
 pub mod KeptPicks
 pub mod Need
-pub mod Picks
-pub mod Plans
 pub mod Raised
 pub mod RunRows
-pub mod Runs
 pub mod Sources
 pub mod Spans
 pub mod Steps
-pub mod Validity

@@ -5,9 +5,9 @@ use Rattle.sel_bits.specs.declared.native.NativeType.{Ghosts}
 use Rattle.sel_arrow.specs.Value.{Value, Null}
 use Rattle.sel_arrow.specs.declared.binary.BinaryArray.{BinaryArray}
 use Rattle.sel_arrow.specs.declared.column.Column.{Column}
-use Rattle.sel_gather.specs.Picks.{pick}
-use Rattle.sel_gather.specs.Runs.{unrolled}
-use Rattle.sel_gather.specs.declared.runs.Run.{Run}
+use Rattle.sel_runs.specs.Picks.{pick}
+use Rattle.sel_runs.specs.Runs.{unrolled}
+use Rattle.sel_runs.specs.declared.runs.Run.{Run}
 use Rattle.sel_gather.specs.Sources.{rows_of}
 use Rattle.sel_gather.specs.Steps.{binaries}
 

@@ -7,9 +7,9 @@ use Rattle.sel_arrow.specs.Shape.{Shape, of_null}
 use Rattle.sel_arrow.specs.Value.{Value, Null}
 use Rattle.sel_arrow.specs.declared.binview.BinaryViewArray.{BinaryViewArray}
 use Rattle.sel_arrow.specs.declared.column.Column.{Column}
-use Rattle.sel_gather.specs.Picks.{pick}
-use Rattle.sel_gather.specs.Runs.{expand}
-use Rattle.sel_gather.specs.declared.runs.Run.{Run}
+use Rattle.sel_runs.specs.Picks.{pick}
+use Rattle.sel_runs.specs.Runs.{expand}
+use Rattle.sel_runs.specs.declared.runs.Run.{Run}
 
 -- The type of the first column; the type of null columns if there is no column.
 abbrev pub first_type : List Column → Shape

@@ -1,12 +1,13 @@
 -- The items of the lists of one column, by the start of each list and the ends of all.
-use Rattle.std.specs.Prelude.{◌≡◌, ℕ, ◌-◌, ℤ, List, [], ◌∷◌, length, Option, Some, ⊤, Bool, true, not, ◌&&◌, nat_le}
+use Rattle.std.specs.Prelude.{◌≡◌, ℕ, ◌-◌, ℤ, List, [], ◌∷◌, length, Option, Some, ⊤, Bool, true}
+use Rattle.std.specs.Prelude.{not, ◌&&◌, nat_le}
 use Rattle.std.specs.Borrow.{Bor}
 use Rattle.sel_bits.specs.Limits.{max_rows}
 use Rattle.sel_bits.specs.Signs.{is_negative, magnitude}
 use Rattle.sel_arrow.specs.declared.column.Column.{Column}
 use Rattle.sel_gather.specs.ItemPicks.{item_picks}
-use Rattle.sel_gather.specs.Runs.{picks_of}
-use Rattle.sel_gather.specs.declared.runs.Run.{Run}
+use Rattle.sel_runs.specs.Runs.{picks_of}
+use Rattle.sel_runs.specs.declared.runs.Run.{Run}
 
 -- The run of the items of each list: it begins at the list's start, and is as long as the list's
 -- end is behind the end before, the first of which is `at`.

@@ -11,7 +11,7 @@ use Rattle.sel_arrow.specs.declared.binary.BinaryArray.{BinaryArray}
 use Rattle.sel_arrow.specs.declared.column.Column.{Column}
 use Rattle.sel_arrow.specs.Nulls.{IsValidityOf}
 use Rattle.sel_gather.specs.Children.{part_at, child}
-use Rattle.sel_gather.specs.Picks.{pick}
+use Rattle.sel_runs.specs.Picks.{pick}
 
 -- The first n values of struct values, field by field.
 abbrev pub parts_of : ℕ → List Value → List (List Value)

@@ -12,17 +12,13 @@ ghost use Rattle.sel_gather.specs.JoinedBytes.{ends_from};
 ghost use Rattle.sel_gather.specs.GrownBytes.{joined_bytes, GrewBy};
 ghost use Rattle.sel_gather.specs.Need.{ExceedsBytes, IsLimitOrMemory, ExceedsNone, bytes_needed};
 ghost use Rattle.sel_gather.specs.Gathers.{Collects};
-ghost use Rattle.sel_gather.specs.Picks.{pick, PickFits};
-ghost use Rattle.sel_gather.specs.Runs.{unrolled};
+ghost use Rattle.sel_runs.specs.Picks.{pick, PickFits};
+ghost use Rattle.sel_runs.specs.Runs.{unrolled};
 ghost use Rattle.sel_gather.specs.Sources.{columns_of, rows_of};
 ghost use Rattle.sel_gather.specs.Steps.{binaries, picked_bytes};
 ghost use Rattle.sel_gather.specs.RunRows.{run_bytes};
 
-use crate::bits::validity_from;
 use crate::live_runs::LiveRuns;
-use crate::row_refs::Plan;
-use crate::run_refs::Runs;
-use crate::runs::{NO_ROWS, Run};
 use crate::typed_arrays::{binaries_of, binary_of};
 use sel_arrow::binary::BinaryArray;
 use sel_arrow::column::Column;
@@ -30,6 +26,10 @@ use sel_bits::buffer::Buffer;
 use sel_bits::faults::{Limit, PolarsError, PolarsResult};
 use sel_bits::offsets::OffsetsBuffer;
 use sel_bits::packer::BitPacker;
+use sel_runs::bits::validity_from;
+use sel_runs::row_refs::Plan;
+use sel_runs::run_refs::Runs;
+use sel_runs::runs::{NO_ROWS, Run};
 use std::alloc::Global;
 
 /// The rows so far: a leading 0 and the end offset of each row, the value bytes, and one validity

@@ -4,23 +4,22 @@ ghost use Rattle.std.specs.Prelude.{◌≡◌, ◌↔◌, Some, None, All, false
 ghost use Rattle.std.specs.Option.{option_copied};
 ghost use Rattle.sel_bits.specs.Faults.{IsOutOfMemory};
 ghost use Rattle.sel_arrow.specs.Columns.{boolean_rows};
-ghost use Rattle.sel_arrow.specs.Masked.{Covers};
+ghost use Rattle.sel_bits.specs.Validity.{Covers, bits_for};
 ghost use Rattle.sel_arrow.specs.Rows.{rows, type_of, IsWellFormed};
 ghost use Rattle.sel_arrow.specs.Shape.{of_boolean};
 ghost use Rattle.sel_arrow.specs.Value.{Null};
-ghost use Rattle.sel_gather.specs.Picks.{pick, PickFits};
-ghost use Rattle.sel_gather.specs.Plans.{HasBit, bits_found};
-ghost use Rattle.sel_gather.specs.Validity.{bits_for};
+ghost use Rattle.sel_runs.specs.Picks.{pick, PickFits};
+ghost use Rattle.sel_runs.specs.Plans.{HasBit, bits_found};
 ghost use Rattle.sel_gather.specs.Sources.{rows_of};
 
-use crate::each::read_each;
-use crate::gather_values::{gather_bits, validity_at};
-use crate::row_refs::Plan;
 use sel_arrow::boolean::BooleanArray;
 use sel_arrow::column::Column;
 use sel_bits::bitmap::Bitmap;
 use sel_bits::faults::PolarsResult;
 use sel_bits::packer::BitPacker;
+use sel_runs::each::read_each;
+use sel_runs::gather_values::{gather_bits, validity_at};
+use sel_runs::row_refs::Plan;
 use std::alloc::Global;
 
 /// Returns the boolean arrays of the columns. Errors: `OutOfMemory`.

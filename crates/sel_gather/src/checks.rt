@@ -3,13 +3,13 @@
 ghost use Rattle.std.specs.Prelude.{◌≡◌, ◌≤◌, ◌↔◌, All, length, IsTrue};
 ghost use Rattle.sel_bits.specs.Limits.{max_rows};
 ghost use Rattle.sel_arrow.specs.Rows.{type_of, IsWellFormed};
-ghost use Rattle.sel_gather.specs.Picks.{PickFits};
-ghost use Rattle.sel_gather.specs.Runs.{expand, unrolled};
+ghost use Rattle.sel_runs.specs.Picks.{PickFits};
+ghost use Rattle.sel_runs.specs.Runs.{expand, unrolled};
 ghost use Rattle.sel_gather.specs.Sources.{columns_of, first_type, rows_of};
 
-use crate::row_refs::Plan;
-use crate::runs::Run;
 use sel_arrow::column::Column;
+use sel_runs::row_refs::Plan;
+use sel_runs::runs::Run;
 
 /// Returns whether all columns have the type of the first.
 pub fn are_alike(sources: &[&Column]) -> bool
@@ -65,19 +65,6 @@ fn run_fits(sources: &[&Column], run: Run) -> bool
             Some(column) => run.start as u64 + run.len as u64 <= column.len() as u64,
         },
     }
-}
-
-/// Returns the total number of rows of the runs.
-pub fn picked_rows(runs: &[Run]) -> u128
-    ensures { result ≡ length (expand runs.now) }
-{
-    // (there are no more runs than an index can address)
-    let _len = runs.len();
-    let mut count = 0;
-    for run in runs {
-        count += run.len as u128;
-    }
-    count
 }
 
 /// Returns whether every non-null row reference refers to a row of a source, and there are at most

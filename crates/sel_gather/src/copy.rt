@@ -8,8 +8,8 @@ ghost use Rattle.sel_arrow.specs.Value.{Null};
 ghost use Rattle.sel_gather.specs.Children.{child, has_children, is_listing, joined_items};
 ghost use Rattle.sel_gather.specs.Steps.{child_rows, parts_of};
 ghost use Rattle.sel_gather.specs.Need.{IsLimitOrMemory, ExceedsNone, exceeded_in_fields};
-ghost use Rattle.sel_gather.specs.Picks.{pick, PickFits};
-ghost use Rattle.sel_gather.specs.Runs.{expand};
+ghost use Rattle.sel_runs.specs.Picks.{pick, PickFits};
+ghost use Rattle.sel_runs.specs.Runs.{expand};
 ghost use Rattle.sel_gather.specs.Gathers.{Collects, MayGather};
 ghost use Rattle.sel_gather.specs.Sources.{columns_of, first_type, picked, rows_of};
 
@@ -21,8 +21,6 @@ use crate::match_number_types;
 use crate::nested::{blocks_over, lists_over, struct_over};
 use crate::null::collect_null;
 use crate::primitive::gather_primitive;
-use crate::run_refs::{ListedRuns, RunRefs};
-use crate::runs::{NO_ROWS, Run};
 use crate::structs::{fields_at, split_runs};
 use crate::typed_arrays::{texts_of, views_of};
 use crate::view::collect_views;
@@ -30,6 +28,8 @@ use sel_arrow::column::Column;
 use sel_arrow::null::NullArray;
 use sel_arrow::utf8view::Utf8ViewArray;
 use sel_bits::faults::{Limit, PolarsError, PolarsResult};
+use sel_runs::run_refs::{ListedRuns, RunRefs};
+use sel_runs::runs::{NO_ROWS, Run};
 use std::alloc::Global;
 
 /// Returns the rows of `sources` that `runs` refer to, in order; a run without a source gives null

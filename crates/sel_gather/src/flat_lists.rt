@@ -9,7 +9,7 @@ ghost use Rattle.sel_gather.specs.Children.{child, is_listing, joined_items};
 ghost use Rattle.sel_gather.specs.Ends.{item_ends};
 ghost use Rattle.sel_gather.specs.Gathers.{MayGatherAs, CollectsSome};
 ghost use Rattle.sel_gather.specs.Need.{ExceedsRows, IsLimitOrMemory};
-ghost use Rattle.sel_gather.specs.Picks.{pick, PickFits};
+ghost use Rattle.sel_runs.specs.Picks.{pick, PickFits};
 ghost use Rattle.sel_gather.specs.Sources.{columns_of, rows_of};
 ghost use Rattle.sel_gather.specs.Spans.{AreStarts};
 
@@ -19,14 +19,14 @@ use crate::lists::{child_of, children_of, run_of_list};
 use crate::match_number_types;
 use crate::nested::{blocks_over, lists_over};
 use crate::primitive::gather_primitive;
-use crate::row_refs::Plan;
-use crate::run_refs::RunRefs;
-use crate::runs::NO_ROWS;
 use crate::spans::{SpanRuns, list_spans};
 use crate::validity::room_for_validity;
 use sel_arrow::column::Column;
 use sel_arrow::match_numbers;
 use sel_bits::faults::{Limit, PolarsError, PolarsResult};
+use sel_runs::row_refs::Plan;
+use sel_runs::run_refs::RunRefs;
+use sel_runs::runs::NO_ROWS;
 use std::alloc::Global;
 
 /// Returns the lists at the row references of a plan, if their items are integers or booleans.

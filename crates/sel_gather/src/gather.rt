@@ -11,7 +11,7 @@ ghost use Rattle.sel_arrow.specs.Rows.{type_of, IsWellFormed};
 ghost use Rattle.sel_arrow.specs.Shape.{of_fixed_size_list, of_large_list};
 ghost use Rattle.sel_arrow.specs.Value.{Null};
 ghost use Rattle.sel_gather.specs.Gathers.{MayGatherAs, Collects, GathersFrom, MayGather};
-ghost use Rattle.sel_gather.specs.Picks.{pick, PickFits};
+ghost use Rattle.sel_runs.specs.Picks.{pick, PickFits};
 ghost use Rattle.sel_gather.specs.Sources.{columns_of, first_type, rows_of};
 
 use crate::binary::gather_binary;
@@ -22,10 +22,10 @@ use crate::list_walk::walk_lists;
 use crate::match_number_types;
 use crate::nested::lists_over;
 use crate::primitive::gather_primitive;
-use crate::row_refs::{Listed, Plan, runs_of_plan};
 use sel_arrow::array_ref::ArrayRef;
 use sel_arrow::column::Column;
 use sel_bits::faults::PolarsResult;
+use sel_runs::row_refs::{Listed, Plan, runs_of_plan};
 use std::alloc::Global;
 
 /// Returns the rows of `sources` at the row references `picks`, in order; a null reference gives a

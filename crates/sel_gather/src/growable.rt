@@ -4,11 +4,11 @@ ghost use Rattle.std.specs.Prelude.{◌≡◌, ◌≤◌, ◌<◌, ◌+◌, ◌+
 ghost use Rattle.sel_bits.specs.Faults.{IsOutOfMemory};
 ghost use Rattle.sel_bits.specs.Limits.{max_rows};
 ghost use Rattle.sel_arrow.specs.Value.{Value, Null};
-ghost use Rattle.sel_gather.specs.Picks.{pick, PickFits};
-ghost use Rattle.sel_gather.specs.Runs.{expand, unrolled};
+ghost use Rattle.sel_runs.specs.Picks.{pick, PickFits};
+ghost use Rattle.sel_runs.specs.Runs.{expand, unrolled};
 
-use crate::runs::Run;
 use sel_bits::faults::PolarsResult;
+use sel_runs::runs::Run;
 
 /// A column to which rows of given sources and nulls can be appended.
 pub trait Growable: Sized {

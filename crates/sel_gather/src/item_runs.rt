@@ -7,11 +7,11 @@ ghost use Rattle.sel_gather.specs.ItemPicks.{items_at, IsRow};
 ghost use Rattle.sel_gather.specs.Sources.{rows_of};
 
 use crate::lists::run_of_list;
-use crate::row_refs::Plan;
-use crate::run_refs::Runs;
-use crate::runs::{NO_ROWS, Run};
 use crate::validity::has_validity;
 use sel_arrow::column::Column;
+use sel_runs::row_refs::Plan;
+use sel_runs::run_refs::Runs;
+use sel_runs::runs::{NO_ROWS, Run};
 
 /// An iterator over the runs of the items of the lists at the row references `lists`; a null list
 /// has `width` nulls.

@@ -10,19 +10,19 @@ ghost use Rattle.sel_gather.specs.Children.{is_listing, joined_items};
 ghost use Rattle.sel_gather.specs.Ends.{item_ends};
 ghost use Rattle.sel_gather.specs.ItemPicks.{item_count, moved_end, HasOffsets};
 ghost use Rattle.sel_gather.specs.Need.{ExceedsRows, IsLimitOrMemory};
-ghost use Rattle.sel_gather.specs.Picks.{pick, PickFits};
-ghost use Rattle.sel_gather.specs.Runs.{expand, unrolled, unrolled_from};
+ghost use Rattle.sel_runs.specs.Picks.{pick, PickFits};
+ghost use Rattle.sel_runs.specs.Runs.{expand, unrolled, unrolled_from};
 ghost use Rattle.sel_gather.specs.Sources.{rows_of};
 ghost use Rattle.sel_gather.specs.Steps.{child_rows};
 ghost use Rattle.sel_gather.specs.RunRows.{run_rows};
 
 use crate::lists::run_of_row;
-use crate::row_refs::Plan;
-use crate::runs::{Run, nulls_of, push_run, put_run};
 use crate::validity::room_for_validity;
 use sel_arrow::column::Column;
 use sel_bits::faults::{Limit, PolarsError, PolarsResult};
 use sel_bits::offsets::OffsetsBuffer;
+use sel_runs::row_refs::Plan;
+use sel_runs::runs::{Run, nulls_of, push_run, put_run};
 use std::alloc::Global;
 
 // Returns the offsets of the lists at the row references of a plan, the runs of their items, and

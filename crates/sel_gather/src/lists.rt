@@ -7,17 +7,17 @@ ghost use Rattle.sel_arrow.specs.Rows.{rows, type_of, IsWellFormed};
 ghost use Rattle.sel_arrow.specs.Value.{Null};
 ghost use Rattle.sel_gather.specs.Children.{child, is_listing, items_in, joined_items};
 ghost use Rattle.sel_gather.specs.ItemPicks.{item_picks, part_of};
-ghost use Rattle.sel_gather.specs.Picks.{pick, PickFits};
-ghost use Rattle.sel_gather.specs.Runs.{expand, picks_of, unrolled};
+ghost use Rattle.sel_runs.specs.Picks.{pick, PickFits};
+ghost use Rattle.sel_runs.specs.Runs.{expand, picks_of, unrolled};
 ghost use Rattle.sel_gather.specs.Sources.{picked, rows_of};
 ghost use Rattle.sel_gather.specs.Steps.{child_rows};
 ghost use Rattle.sel_gather.specs.RunRows.{run_rows};
 
-use crate::each::read_each;
-use crate::runs::{Run, nulls_of, push_run};
 use sel_arrow::column::Column;
 use sel_arrow::validity::is_valid_at;
 use sel_bits::faults::PolarsResult;
+use sel_runs::each::read_each;
+use sel_runs::runs::{Run, nulls_of, push_run};
 use std::alloc::Global;
 
 /// Returns the child of each list column.

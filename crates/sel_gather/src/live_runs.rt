@@ -8,17 +8,17 @@ ghost use Rattle.sel_arrow.specs.Shape.{of_null};
 ghost use Rattle.sel_gather.specs.Cleared.{cleared};
 ghost use Rattle.sel_gather.specs.ItemPicks.{IsRow};
 ghost use Rattle.sel_gather.specs.KeptPicks.{kept_by, AreEqualBits};
-ghost use Rattle.sel_gather.specs.Picks.{PickFits};
-ghost use Rattle.sel_gather.specs.Runs.{unrolled};
+ghost use Rattle.sel_runs.specs.Picks.{PickFits};
+ghost use Rattle.sel_runs.specs.Runs.{unrolled};
 ghost use Rattle.sel_gather.specs.Sources.{rows_of};
 
-use crate::row_refs::Plan;
-use crate::run_refs::Runs;
-use crate::runs::{NO_ROWS, Run, nulls_of};
 use sel_arrow::column::Column;
 use sel_bits::bitmap::Bitmap;
 use sel_bits::packer::MOST_BITS;
 use sel_bits::words::first_word;
+use sel_runs::row_refs::Plan;
+use sel_runs::run_refs::Runs;
+use sel_runs::runs::{NO_ROWS, Run, nulls_of};
 
 /// An iterator over the runs of the row references that are left of `run`, and those of `rest`,
 /// with a run of nulls in place of null rows.

@@ -4,28 +4,27 @@ ghost use Rattle.std.specs.Prelude.{◌≡◌, ◌≢◌, ◌≤◌, ◌∷◌, 
 ghost use Rattle.sel_bits.specs.Faults.{IsOutOfMemory};
 ghost use Rattle.sel_bits.specs.Limits.{max_rows};
 ghost use Rattle.sel_bits.specs.Offsets.{IsOffsets};
-ghost use Rattle.sel_arrow.specs.Masked.{Covers};
+ghost use Rattle.sel_bits.specs.Validity.{Covers, bits_for};
 ghost use Rattle.sel_arrow.specs.Rows.{rows, type_of, IsField, IsWellFormed};
 ghost use Rattle.sel_arrow.specs.Shape.{of_large_list, of_fixed_size_list, of_null, of_struct, shapes_of};
 ghost use Rattle.sel_gather.specs.Children.{joined_items};
 ghost use Rattle.sel_gather.specs.Steps.{parts_of};
 ghost use Rattle.sel_gather.specs.Ends.{item_ends};
-ghost use Rattle.sel_gather.specs.Runs.{expand};
+ghost use Rattle.sel_runs.specs.Runs.{expand};
 ghost use Rattle.sel_arrow.specs.Value.{Null, validities};
 ghost use Rattle.sel_gather.specs.Gathers.{MayGather};
-ghost use Rattle.sel_gather.specs.Picks.{pick, PickFits};
+ghost use Rattle.sel_runs.specs.Picks.{pick, PickFits};
 ghost use Rattle.sel_gather.specs.Sources.{picked, rows_of};
-ghost use Rattle.sel_gather.specs.Validity.{bits_for};
 
-use crate::bits::unless_all_true;
-use crate::row_refs::Plan;
-use crate::runs::Run;
 use crate::validity::{append_validity, collect_validity, gather_validity, room_for_validity};
 use sel_arrow::column::Column;
 use sel_bits::bitmap::Bitmap;
 use sel_bits::bits_behind::BitsBehind;
 use sel_bits::faults::PolarsResult;
 use sel_bits::offsets::OffsetsBuffer;
+use sel_runs::bits::unless_all_true;
+use sel_runs::row_refs::Plan;
+use sel_runs::runs::Run;
 use std::alloc::Global;
 
 /// Returns the lists at the row references of a plan, over their offsets `ends` and their

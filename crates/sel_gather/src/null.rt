@@ -5,12 +5,12 @@ ghost use Rattle.sel_bits.specs.Limits.{max_rows};
 ghost use Rattle.sel_arrow.specs.Rows.{rows, type_of, IsWellFormed};
 ghost use Rattle.sel_arrow.specs.Shape.{of_null};
 ghost use Rattle.sel_arrow.specs.Value.{Null};
-ghost use Rattle.sel_gather.specs.Runs.{expand};
+ghost use Rattle.sel_runs.specs.Runs.{expand};
 ghost use Rattle.sel_gather.specs.Sources.{picked};
 
-use crate::runs::Run;
 use sel_arrow::column::Column;
 use sel_arrow::null::NullArray;
+use sel_runs::runs::Run;
 
 /// Returns the rows of null columns that runs refer to: `len` nulls.
 ///

@@ -5,16 +5,16 @@ ghost use Rattle.sel_bits.specs.Limits.{max_rows};
 ghost use Rattle.sel_arrow.specs.Rows.{rows, type_of, IsWellFormed};
 ghost use Rattle.sel_arrow.specs.Value.{Null};
 ghost use Rattle.sel_gather.specs.Gathers.{SelectsFrom};
-ghost use Rattle.sel_gather.specs.Picks.{pick, PickFits};
-ghost use Rattle.sel_gather.specs.Runs.{expand};
+ghost use Rattle.sel_runs.specs.Picks.{pick, PickFits};
+ghost use Rattle.sel_runs.specs.Runs.{expand};
 
 use crate::copy::collect_runs;
 use crate::gather::collect_plan;
-use crate::row_refs::Plan;
-use crate::runs::Run;
 use sel_arrow::array_ref::ArrayRef;
 use sel_arrow::column::Column;
 use sel_bits::faults::PolarsResult;
+use sel_runs::row_refs::Plan;
+use sel_runs::runs::Run;
 use std::alloc::Global;
 
 /// Returns the rows of `column` that `runs` refer to, in order; a run without a source gives null

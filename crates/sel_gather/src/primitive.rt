@@ -6,16 +6,16 @@ ghost use Rattle.sel_bits.specs.Faults.{IsOutOfMemory};
 ghost use Rattle.sel_arrow.specs.Masked.{number_rows};
 ghost use Rattle.sel_arrow.specs.Rows.{rows, type_of, IsWellFormed};
 ghost use Rattle.sel_arrow.specs.Value.{Null};
-ghost use Rattle.sel_gather.specs.Picks.{pick, PickFits};
+ghost use Rattle.sel_runs.specs.Picks.{pick, PickFits};
 ghost use Rattle.sel_gather.specs.Sources.{rows_of};
 
-use crate::gather_values::gather_parts;
-use crate::part::Part;
-use crate::row_refs::Plan;
 use sel_arrow::column::Column;
 use sel_arrow::primitive::ArrowPrimitive;
 use sel_bits::buffer::Buffer;
 use sel_bits::faults::PolarsResult;
+use sel_runs::gather_values::gather_parts;
+use sel_runs::part::Part;
+use sel_runs::row_refs::Plan;
 use std::alloc::Global;
 
 /// Matches a column: `$each!(i8)` for 8-bit integers, the same with the type of the integers for

@@ -7,19 +7,19 @@ ghost use Rattle.sel_arrow.specs.Value.{Null};
 ghost use Rattle.sel_gather.specs.Children.{is_listing, joined_items};
 ghost use Rattle.sel_gather.specs.Ends.{item_ends};
 ghost use Rattle.sel_gather.specs.Need.{ExceedsRows, IsLimitOrMemory};
-ghost use Rattle.sel_gather.specs.Picks.{pick, PickFits};
-ghost use Rattle.sel_gather.specs.Runs.{expand};
+ghost use Rattle.sel_runs.specs.Picks.{pick, PickFits};
+ghost use Rattle.sel_runs.specs.Runs.{expand};
 ghost use Rattle.sel_gather.specs.Sources.{rows_of};
 ghost use Rattle.sel_gather.specs.Spans.{spans, are_ends, AreStarts};
 
 use crate::lists::span_of_list;
-use crate::row_refs::Plan;
-use crate::run_refs::Runs;
-use crate::runs::{NO_ROWS, Run};
 use crate::validity::room_for_validity;
 use sel_arrow::column::Column;
 use sel_bits::faults::{Limit, PolarsError, PolarsResult};
 use sel_bits::native::Offset;
+use sel_runs::row_refs::Plan;
+use sel_runs::run_refs::Runs;
+use sel_runs::runs::{NO_ROWS, Run};
 use std::alloc::Global;
 
 /// Returns the offsets of the lists at the row references of a plan, the first item of each list in

@@ -7,16 +7,16 @@ ghost use Rattle.sel_arrow.specs.Shape.{of_null};
 ghost use Rattle.sel_gather.specs.Children.{field};
 ghost use Rattle.sel_gather.specs.Cleared.{cleared};
 ghost use Rattle.sel_gather.specs.Gathers.{MayGather};
-ghost use Rattle.sel_gather.specs.Runs.{expand};
+ghost use Rattle.sel_runs.specs.Runs.{expand};
 ghost use Rattle.sel_gather.specs.Sources.{rows_of};
 
-use crate::each::read_each;
 use crate::live_runs::LiveRuns;
-use crate::row_refs::runs_of_plan;
-use crate::run_refs::{ListedRuns, RunRefs};
-use crate::runs::{NO_ROWS, Run};
 use sel_arrow::column::Column;
 use sel_bits::faults::PolarsResult;
+use sel_runs::each::read_each;
+use sel_runs::row_refs::runs_of_plan;
+use sel_runs::run_refs::{ListedRuns, RunRefs};
+use sel_runs::runs::{NO_ROWS, Run};
 use std::alloc::Global;
 
 /// Returns field `j` of each column; for a column without it, the column itself.

@@ -9,11 +9,11 @@ ghost use Rattle.sel_arrow.specs.Texts.{all_text};
 ghost use Rattle.sel_gather.specs.Need.{buffer_count};
 ghost use Rattle.sel_gather.specs.Sources.{rows_of};
 
-use crate::each::read_each;
 use sel_arrow::binary::BinaryArray;
 use sel_arrow::binview::BinaryViewArray;
 use sel_arrow::column::Column;
 use sel_bits::faults::PolarsResult;
+use sel_runs::each::read_each;
 use std::alloc::Global;
 
 /// Returns the binary array of each column.

@@ -4,27 +4,26 @@ ghost use Rattle.std.specs.Prelude.{◌≡◌, ◌≢◌, ◌≤◌, ◌++◌, N
 ghost use Rattle.std.specs.Option.{option_copied};
 ghost use Rattle.sel_bits.specs.Faults.{IsOutOfMemory};
 ghost use Rattle.sel_bits.specs.Limits.{max_rows};
-ghost use Rattle.sel_arrow.specs.Masked.{Covers};
+ghost use Rattle.sel_bits.specs.Validity.{Covers, bits_for};
 ghost use Rattle.sel_arrow.specs.Nulls.{IsValidityOf};
 ghost use Rattle.sel_arrow.specs.Rows.{rows, type_of, IsWellFormed};
 ghost use Rattle.sel_arrow.specs.Shape.{of_null};
 ghost use Rattle.sel_arrow.specs.Value.{Null, validities};
 ghost use Rattle.sel_gather.specs.Gathers.{MayGather};
-ghost use Rattle.sel_gather.specs.Picks.{pick, PickFits};
+ghost use Rattle.sel_runs.specs.Picks.{pick, PickFits};
 ghost use Rattle.sel_gather.specs.Steps.{AreValidities};
-ghost use Rattle.sel_gather.specs.Runs.{expand};
-ghost use Rattle.sel_gather.specs.Validity.{bits_for};
+ghost use Rattle.sel_runs.specs.Runs.{expand};
 ghost use Rattle.sel_gather.specs.Sources.{columns_of, picked, rows_of};
 
-use crate::each::read_each;
-use crate::gather_values::{append_bits, validity_at};
-use crate::row_refs::Plan;
-use crate::run_refs::{ListedRuns, RunRefs};
-use crate::runs::{NO_ROWS, Run};
 use sel_arrow::column::Column;
 use sel_bits::bit_sink::BitSink;
 use sel_bits::bitmap::Bitmap;
 use sel_bits::faults::PolarsResult;
+use sel_runs::each::read_each;
+use sel_runs::gather_values::{append_bits, validity_at};
+use sel_runs::row_refs::Plan;
+use sel_runs::run_refs::{ListedRuns, RunRefs};
+use sel_runs::runs::{NO_ROWS, Run};
 use std::alloc::Global;
 
 /// Returns the validity of the rows that runs refer to; none if all rows are valid.

@@ -9,21 +9,21 @@ ghost use Rattle.sel_arrow.specs.Columns.{binview_rows};
 ghost use Rattle.sel_arrow.specs.Masked.{hidden};
 ghost use Rattle.sel_arrow.specs.Value.{Null};
 ghost use Rattle.sel_arrow.specs.Views.{all_placed, view_value};
-ghost use Rattle.sel_gather.specs.Picks.{pick, PickFits};
+ghost use Rattle.sel_runs.specs.Picks.{pick, PickFits};
 ghost use Rattle.sel_gather.specs.Raised.{raised, starts_of, IsBufferLimitOrMemory};
-ghost use Rattle.sel_gather.specs.Runs.{expand};
-ghost use Rattle.sel_gather.specs.Validity.{part_bits};
+ghost use Rattle.sel_runs.specs.Runs.{expand};
+ghost use Rattle.sel_bits.specs.Validity.{part_bits};
 ghost use Rattle.sel_gather.specs.Sources.{binviews};
 
-use crate::bits::{push_validity, validity_from};
 use crate::growable::{Growable, extend_runs};
-use crate::repeat::push_values;
-use crate::runs::Run;
 use sel_arrow::binview::{BinaryViewArray, MOST_BUFFERS};
 use sel_arrow::view::{INLINE_BYTES, View};
 use sel_bits::buffer::Buffer;
 use sel_bits::faults::{Limit, PolarsError, PolarsResult};
 use sel_bits::packer::BitPacker;
+use sel_runs::bits::{push_validity, validity_from};
+use sel_runs::repeat::push_values;
+use sel_runs::runs::Run;
 use std::alloc::Global;
 use std::marker::{Brand, PhantomData};
 

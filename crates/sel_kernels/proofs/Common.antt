@@ -27,7 +27,8 @@ pub use Rattle.sel_arrow.proofs.Trees.{fields_make, has_fields, rows-Struct}
 pub use Rattle.sel_arrow.proofs.Types.{type_of-Struct}
 pub use Rattle.sel_arrow.proofs.ViewRows.{length-view_rows}
 pub use Rattle.sel_arrow.specs.Columns.{boolean_rows, primitive_rows, utf8view_rows}
-pub use Rattle.sel_arrow.specs.Masked.{Covers, hidden, masked, number_rows, number_value, valid_at}
+pub use Rattle.sel_bits.specs.Validity.{Covers, valid_at, bits_for}
+pub use Rattle.sel_arrow.specs.Masked.{hidden, masked, number_rows, number_value}
 pub use Rattle.sel_arrow.specs.Nested.{block_rows, blocks, list_of, struct_at}
 pub use Rattle.sel_arrow.specs.Pieces.{last_offset, pieces, rows_between}
 pub use Rattle.sel_arrow.specs.Rows.{IsField, row_count, rows, type_of, well_formed}
@@ -55,16 +56,15 @@ pub use Rattle.sel_gather.proofs.Grown.{finished}
 pub use Rattle.sel_gather.proofs.ItemRuns.{listed_values}
 pub use Rattle.sel_gather.proofs.JoinedRows.{offsets_of, same_numbers}
 pub use Rattle.sel_gather.proofs.ListParts.{few_rows}
-pub use Rattle.sel_gather.proofs.RunLists.{length-unrolled_from}
+pub use Rattle.sel_runs.proofs.RunLists.{length-unrolled_from}
 pub use Rattle.sel_gather.proofs.Thinned.{memory_alone}
 pub use Rattle.sel_gather.proofs.Within.{few_rows_pass, rows_pass}
 pub use Rattle.sel_gather.specs.Children.{items_in, joined_items, part_at}
 pub use Rattle.sel_gather.specs.Need.{ExceedsRows, IsLimitOrMemory, exceeded_taken}
-pub use Rattle.sel_gather.specs.Picks.{PickFits}
-pub use Rattle.sel_gather.specs.Plans.{IsNear, IsPicked}
-pub use Rattle.sel_gather.specs.Runs.{picks_of}
+pub use Rattle.sel_runs.specs.Picks.{PickFits}
+pub use Rattle.sel_runs.specs.Plans.{IsNear, IsPicked}
+pub use Rattle.sel_runs.specs.Runs.{picks_of}
 pub use Rattle.sel_gather.specs.Sources.{first_type}
-pub use Rattle.sel_gather.specs.Validity.{bits_for}
 pub use Rattle.std.proofs.Common.{All, Bool, Bor, Box, Global, IfNone, IfOk, IfSome, IsTrue, List, None, Option, SFits, Some, Vec, [], add-one, ap, append-nil}
 pub use Rattle.std.proofs.Common.{append_assoc, arith, cond, count_by, drop, drop-cons, drop-drop, eq-eqb, eqb-true, ext_get_or, false, flat_map, get_or}
 pub use Rattle.std.proofs.Common.{get_or-drop, get_or-take, if◌then◌else◌, inl, inr, is_none, is_some, le-leb, leb-true, length, length-append, length-drop}

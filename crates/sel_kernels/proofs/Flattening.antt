@@ -9,7 +9,7 @@ use Rattle.sel_kernels.proofs.Common.{length-map-range_with_len, max_rows, Value
 use Rattle.sel_kernels.proofs.Common.{lanes_of, rows_picks, length-unrolled_from, HasLeft}
 use Rattle.sel_arrow.specs.Rows.{IsWellFormed}
 use Rattle.std.proofs.lemmas.{Bool.false_from_ne_true, List.drop_more}
-use Rattle.sel_gather.proofs.RunLists.{length-pick, All-left, All-right, below_length, pick_rows}
+use Rattle.sel_runs.proofs.RunLists.{length-pick, All-left, All-right, below_length, pick_rows}
 use Rattle.sel_kernels.specs.{Lanes.left_picks, Lanes.row_picks, Lanes.picks_from, Lanes.IsReference, declared.lanes.Lane.Lane}
 use Rattle.sel_kernels.proofs.Selects.{first_dropped, rest_dropped}
 

@@ -3,7 +3,7 @@ use Rattle.std.specs.Prelude.{◌≡◌, ℕ, zero, suc, ◌+◌, ◌-◌, ◌*�
 use Rattle.std.specs.Prelude.{length, drop, Option, IsSome, if◌then◌else◌}
 use Rattle.std.specs.Option.{ForSome}
 use Rattle.sel_bits.specs.Limits.{max_rows}
-use Rattle.sel_gather.specs.Runs.{picks_of}
+use Rattle.sel_runs.specs.Runs.{picks_of}
 use Rattle.sel_kernels.specs.declared.lanes.Lane.{Lane}
 
 -- The entries that each row has of a list with n entries: w of them, which are the next w for each

@@ -5,7 +5,7 @@ use Rattle.std.specs.List.{list_any, range_with_len}
 use Rattle.std.specs.Option.{option_map, is_none}
 use Rattle.sel_bits.specs.Bits.{Bits}
 use Rattle.sel_bits.specs.Place.{place}
-use Rattle.sel_arrow.specs.Masked.{valid_at}
+use Rattle.sel_bits.specs.Validity.{valid_at}
 use Rattle.sel_arrow.specs.Nested.{list_of}
 use Rattle.sel_arrow.specs.Pieces.{rows_between}
 use Rattle.sel_arrow.specs.Value.{Value, Null, Items, listed}

@@ -3,7 +3,7 @@ use Rattle.std.specs.Prelude.{ℕ, pos, negsuc, Bool, true, false, List, [], ◌
 use Rattle.std.specs.Prelude.{None, nat_lt}
 use Rattle.std.specs.List.{list_all}
 use Rattle.sel_arrow.specs.Value.{Value, Null, Number}
-pub use Rattle.sel_gather.specs.Picks.{found, pick}
+pub use Rattle.sel_runs.specs.Picks.{found, pick}
 
 -- The row reference of an index into a single list; none for a null or negative index.
 abbrev pub pick_of : Value → Option (ℕ × ℕ)

@@ -1,5 +1,6 @@
 -- What functions of this crate state of each other; no public contract has these words.
-use Rattle.std.specs.Prelude.{ℕ, ℤ, pos, negsuc, ◌+◌, ◌++◌, ◌*◌, List, length, map, Option, None, slice_index_or}
+use Rattle.std.specs.Prelude.{ℕ, ℤ, pos, negsuc, ◌+◌, ◌++◌, ◌*◌, List, length, map, Option, None}
+use Rattle.std.specs.Prelude.{slice_index_or}
 use Rattle.std.specs.Prelude.{if◌then◌else◌, nat_le, nat_lt}
 use Rattle.std.specs.List.{range_with_len}
 use Rattle.std.specs.Option.{option_map}
@@ -7,7 +8,7 @@ use Rattle.sel_bits.specs.Copying.{Copying}
 use Rattle.sel_bits.specs.Limits.{max_rows}
 use Rattle.sel_bits.specs.Place.{place}
 use Rattle.sel_arrow.specs.Value.{Value, Null}
-use Rattle.sel_arrow.specs.Masked.{valid_at}
+use Rattle.sel_bits.specs.Validity.{valid_at}
 use Rattle.sel_arrow.specs.declared.fixed_size_list.FixedSizeListArray.{FixedSizeListArray}
 use Rattle.sel_kernels.specs.Blocks.{block_at}
 use Rattle.sel_kernels.specs.Entries.{place_of}

@@ -2,7 +2,7 @@
 use Rattle.std.specs.Prelude.{ℕ, Bool, true, false, List, Option, Some, None, slice_index_or}
 use Rattle.std.specs.Prelude.{if◌then◌else◌}
 use Rattle.sel_bits.specs.Bits.{Bits}
-use Rattle.sel_arrow.specs.Masked.{valid_at}
+use Rattle.sel_bits.specs.Validity.{valid_at}
 use Rattle.sel_arrow.specs.Value.{Value, Null}
 use Rattle.sel_kernels.specs.Pick.{pick_of}
 

@@ -11,9 +11,9 @@ use sel_arrow::array::Array;
 use sel_arrow::primitive::IdxArr;
 use sel_bits::bitmap::Bitmap;
 use sel_bits::words::{first_word, whole_word};
-use sel_gather::row_refs::Places;
-use sel_gather::run_refs::Runs;
-use sel_gather::runs::Run;
+use sel_runs::row_refs::Places;
+use sel_runs::run_refs::Runs;
+use sel_runs::runs::Run;
 
 /// An iterator over the maximal runs of true bits in `mask`, as rows of source 0, from bit `at` on.
 ///

@@ -5,8 +5,8 @@ ghost use Rattle.sel_kernels.specs.FlattenPicks.{woven_picks};
 ghost use Rattle.sel_kernels.specs.Lanes.{HasLeft, picks_from, rows_picks};
 
 use crate::lanes::{Lane, Woven};
-use sel_gather::row_refs::Plan;
-use sel_gather::runs::Run;
+use sel_runs::row_refs::Plan;
+use sel_runs::runs::Run;
 
 impl<'a> Woven<'a> {
     /// Returns an iterator over the row references of `rows` rows.

@@ -3,7 +3,8 @@ use Rattle.sel_ternary.proofs.Common.{common_steps, ◌≡◌, ℕ, zero, suc, �
 use Rattle.sel_ternary.proofs.Common.{arith, Option, get_or-replicate, rows, Value, Null, pick, chosen_rows, first_row, choose}
 use Rattle.sel_ternary.specs.{ChosenPicks.chosen_picks, ChosenPicks.bit_pick, ChosenPicks.place_on, Chosen.SideFits, Chosen.spread_rows}
 use Rattle.std.proofs.lemmas.List.Elements.{All-nil, All-cons}
-use Rattle.sel_gather.specs.{Picks.PickFits, Plans.IsPicked}
+use Rattle.sel_runs.specs.Picks.{PickFits}
+use Rattle.sel_runs.specs.Plans.{IsPicked}
 use Rattle.sel_ternary.proofs.Chosen.{chosen_spread, length-spread, two_equal}
 
 at : (t f : Bool) (i k : ℕ) (bits : List Bool) (b : Bool) (d : Option (ℕ × ℕ)) → k < length bits → get_or (chosen_picks t f i bits) k d ≡ bit_pick t f (get_or bits k b) (i + k)

@@ -1,6 +1,7 @@
 -- The names that most proofs cite, passed on from one place. Declares nothing.
 pub use Rattle.sel_arrow.proofs.NestedRows.{length-rows}
-pub use Rattle.sel_arrow.specs.Masked.{Covers, hidden, masked}
+pub use Rattle.sel_bits.specs.Validity.{Covers}
+pub use Rattle.sel_arrow.specs.Masked.{hidden, masked}
 pub use Rattle.sel_arrow.specs.Rows.{rows, type_of, well_formed}
 pub use Rattle.sel_arrow.specs.Shape.{Shape, of_null, of_struct, shape_list}
 pub use Rattle.sel_arrow.specs.Value.{Bytes, Null, Number, Truth, Value}
@@ -18,7 +19,7 @@ pub use Rattle.sel_gather.proofs.Depths.{size_of}
 pub use Rattle.sel_gather.proofs.Within.{few_rows_pass, passes_neither}
 pub use Rattle.sel_gather.specs.Children.{field, joined_items, part_at}
 pub use Rattle.sel_gather.specs.Need.{ExceedsNone, IsLimitOrMemory, exceeded_taken}
-pub use Rattle.sel_gather.specs.Picks.{pick}
+pub use Rattle.sel_runs.specs.Picks.{pick}
 pub use Rattle.sel_ternary.specs.Choose.{broadcast_both, broadcast_false, broadcast_true, choose}
 pub use Rattle.sel_ternary.specs.Chosen.{chosen_rows, first_row}
 pub use Rattle.sel_ternary.specs.Lanes.{all_ones}

@@ -3,7 +3,8 @@ use Rattle.sel_ternary.proofs.Common.{◌≡◌, ℕ, zero, suc, ◌+◌, ◌≤
 use Rattle.sel_ternary.proofs.Common.{append-nil, rows, well_formed, Value, Null, Column, joined_items}
 use Rattle.std.specs.Prelude.{nat_le}
 use Rattle.sel_bits.specs.Limits.{max_rows}
-use Rattle.sel_arrow.specs.{Masked.covers, Masked.is_few, Value.listed, Value.values_of}
+use Rattle.sel_bits.specs.Validity.{covers}
+use Rattle.sel_arrow.specs.{Masked.is_few, Value.listed, Value.values_of}
 use Rattle.sel_arrow.specs.{Nested.list_of, Rows.row_count, Pieces.rows_between, Pieces.last_offset, Pieces.is_rising}
 use Rattle.sel_arrow.proofs.NestedRows.{lists_formed, blocks_formed}
 use Rattle.sel_gather.{specs.Ends.item_ends, proofs.ItemRuns.listed_values, proofs.Rebuilt.IsBlock, proofs.Rebuilt.lists_fit, proofs.Rebuilt.blocks_fit}

@@ -8,8 +8,11 @@ use Rattle.sel_ternary.specs.{ChosenPicks.chosen_picks, Chosen.SideFits, Structs
 use Rattle.sel_arrow.specs.{Rows.buffers_held, Rows.rows_of_each, Rows.types_of_each, Nested.struct_at, Value.is_valid, Value.validities}
 use Rattle.sel_arrow.specs.{declared.column.Column.TheVariants.Struct', Shape.Shapes, Shape.no_shapes, Shape.next_shape}
 use Rattle.std.{specs.List.range_with_len, proofs.lemmas.List.Elements.All-head, proofs.lemmas.List.Elements.All-tail}
-use Rattle.sel_gather.specs.{Children.fields_of, Plans.IsPicked, Picks.found, Picks.PickFits}
-use Rattle.sel_gather.proofs.{Depths.sizes_of, Layouts.rows_tuples, Rebuilt.IsTuple, Rebuilt.picked_all, RunLists.length-pick}
+use Rattle.sel_gather.specs.{Children.fields_of}
+use Rattle.sel_runs.specs.Plans.{IsPicked}
+use Rattle.sel_runs.specs.Picks.{found, PickFits}
+use Rattle.sel_gather.proofs.{Depths.sizes_of, Layouts.rows_tuples, Rebuilt.IsTuple, Rebuilt.picked_all}
+use Rattle.sel_runs.proofs.RunLists.{length-pick}
 use Rattle.sel_gather.proofs.TupleRows.{field_row, field_type, field_formed}
 use Rattle.sel_ternary.proofs.ChosenPicks.{choice_fits, choice_picked, chosen_long, chosen_picked}
 use Rattle.sel_ternary.proofs.SameNeeds.{AllLike, fields_long, same_needs, turned}

@@ -3,10 +3,12 @@ use Rattle.sel_ternary.proofs.Common.{common_steps, ◌≡◌, ℕ, suc, ◌<◌
 use Rattle.sel_ternary.proofs.Common.{subst, arith, replicate, Option, None, if◌then◌else◌, list_all, append-nil, Bits, zip_with, hidden, Covers, Value, Null}
 use Rattle.sel_ternary.proofs.Common.{Bytes, View, pick, choose, first_row}
 use Rattle.sel_ternary.specs.Chosen.{chosen_rows, spread_rows, SideFits}
-use Rattle.sel_arrow.specs.{Texts.is_text, Value.is_null, Masked.valid_at, Views.view_bytes, Views.view_rows}
+use Rattle.sel_arrow.specs.{Texts.is_text, Value.is_null, Views.view_bytes, Views.view_rows}
+use Rattle.sel_bits.specs.Validity.{valid_at}
 use Rattle.std.{proofs.Common.◌≢◌, proofs.Common.⊎_elim, proofs.lemmas.Bool.cases_Bool, specs.Prelude.count_by}
 use Rattle.sel_arrow.proofs.{Lists.and_first, Lists.and_second, ViewRows.length-view_rows, ViewRows.null_view, ViewRows.valid_view}
-use Rattle.sel_gather.{specs.Runs.expand, specs.Runs.unrolled, proofs.RunLists.map_nulls}
+use Rattle.sel_runs.specs.Runs.{expand, unrolled}
+use Rattle.sel_runs.proofs.RunLists.{map_nulls}
 use Rattle.sel_ternary.proofs.{SameNeeds.held_count, Placed.texts, Chosen.chosen_spread, Chosen.length-spread, Chosen.two_equal}
 
 -- ---- the only row of a column

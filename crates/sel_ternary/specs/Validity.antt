@@ -1,7 +1,7 @@
 -- The validity of an if-then-else.
 use Rattle.std.specs.Prelude.{Bool, List, length, Option, Some, None}
 use Rattle.sel_bits.specs.Bits.{Bits}
-use Rattle.sel_gather.specs.Validity.{bits_for}
+use Rattle.sel_bits.specs.Validity.{bits_for}
 use Rattle.sel_ternary.specs.Choose.{choose}
 
 -- The validity of each row: that of the true or the false value. Values without a validity are

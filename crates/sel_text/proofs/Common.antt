@@ -4,7 +4,8 @@ pub use Rattle.sel_arrow.specs.Columns.{binview_rows, utf8view_rows}
 pub use Rattle.sel_arrow.specs.DataType.{shape_of}
 pub use Rattle.sel_arrow.specs.Depth.{deepest, depth}
 pub use Rattle.sel_arrow.specs.Makers.{binary_fault, binview_fault, block_fault, flat_fault, list_fault, or_else, struct_fault, utf8view_fault, view_fault, views_fault}
-pub use Rattle.sel_arrow.specs.Masked.{Covers, covers, hidden, is_few, masked, number_rows, too_many, valid_at, validity_differs}
+pub use Rattle.sel_bits.specs.Validity.{Covers, covers, valid_at, validity_differs}
+pub use Rattle.sel_arrow.specs.Masked.{hidden, is_few, masked, number_rows, too_many}
 pub use Rattle.sel_arrow.specs.Nested.{block_rows, blocks, list_of, list_rows, struct_at, struct_rows}
 pub use Rattle.sel_arrow.specs.Pieces.{byte_rows, is_rising, last_offset, pieces, pieces_after, rows_between}
 pub use Rattle.sel_arrow.specs.Rows.{IsField, IsWellFormed, all_well_formed, row_count, rows, type_of, types_of_each, well_formed}

@@ -1,7 +1,7 @@
 //! Shared by several files and crates: columns built from rows, and columns compared with rows.
 
 ghost use Rattle.std.specs.Prelude.{length, IfOk};
-ghost use Rattle.sel_arrow.specs.Masked.{Covers};
+ghost use Rattle.sel_bits.specs.Validity.{Covers};
 
 use crate::fixtures::{both, buffer};
 use sel_arrow::array::Array;

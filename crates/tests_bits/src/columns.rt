@@ -1,6 +1,6 @@
 //! Each public function once, against rows that are worked out by hand.
 
-ghost use Rattle.sel_arrow.specs.Masked.{Covers};
+ghost use Rattle.sel_bits.specs.Validity.{Covers};
 ghost use Rattle.sel_arrow.specs.Rows.{IsWellFormed};
 
 use crate::column_fixtures::{

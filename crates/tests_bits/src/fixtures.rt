@@ -2,7 +2,7 @@
 
 use sel_bits::bitmap::Bitmap;
 use sel_bits::buffer::Buffer;
-use sel_bits::faults::PolarsResult;
+use sel_bits::faults::{PolarsError, PolarsResult};
 use std::alloc::Global;
 
 /// Returns the values as a buffer.
@@ -41,4 +41,28 @@ pub fn begins_with(bitmap: &Bitmap, bits: &[bool]) -> bool {
 /// Returns whether the bitmap has exactly these bits.
 pub fn has_bits(bitmap: &Bitmap, bits: &[bool]) -> bool {
     bitmap.len() == bits.len() && begins_with(bitmap, bits)
+}
+
+/// Returns whether these bits are the validity.
+pub fn has_validity(validity: &Option<Bitmap>, bits: &[bool]) -> bool {
+    match validity {
+        Some(validity) => has_bits(validity, bits),
+        None => false,
+    }
+}
+
+/// Returns whether a call succeeded, or is out of memory.
+pub fn is_done(answer: &PolarsResult<()>) -> bool {
+    match answer {
+        Ok(()) => true,
+        Err(fault) => *fault == PolarsError::OutOfMemory,
+    }
+}
+
+/// Returns whether a call returned these bits as a validity, or is out of memory.
+pub fn is_validity(answer: PolarsResult<Option<Bitmap>>, bits: &[bool]) -> bool {
+    match answer {
+        Ok(validity) => has_validity(&validity, bits),
+        Err(fault) => fault == PolarsError::OutOfMemory,
+    }
 }

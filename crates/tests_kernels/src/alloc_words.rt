@@ -1,6 +1,5 @@
 //! Functions on words, views, runs and validities that must not allocate: each allocation fails.
 
-use crate::masks::has_validity;
 use crate::words::ends_and_middle;
 use polars_compute::if_then_else::scalar::{
     if_then_else_broadcast_both_scalar_64, if_then_else_broadcast_both_scalar_rest,
@@ -14,10 +13,11 @@ use polars_compute::if_then_else::view::{
 use sel_arrow::validity::{clone_validity, has_other_length, is_valid_at, sliced_validity};
 use sel_arrow::view::View;
 use sel_bits::bitmap::Bitmap;
-use sel_gather::runs::{nulls_of, run_of_pick};
 use sel_gather::view::raised_view;
+use sel_runs::runs::{nulls_of, run_of_pick};
 use std::alloc::Global;
 use std::test::Fail;
+use tests_bits::fixtures::has_validity;
 use tests_bits::marks::{begins_free, ends_answered};
 
 /// Returns whether if-then-else by a few bits of a word has the right values.

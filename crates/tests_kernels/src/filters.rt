@@ -1,13 +1,12 @@
 //! Filters of bits and values with their validity.
 
-use crate::masks::has_validity;
 use polars_compute::filter::boolean::filter_bitmap_and_validity;
 use polars_compute::filter::primitive::filter_values_and_validity;
 use sel_bits::bitmap::Bitmap;
 use sel_bits::faults::PolarsResult;
 use std::alloc::Global;
 use std::test::Fail;
-use tests_bits::fixtures::{both, has_bits, same};
+use tests_bits::fixtures::{both, has_bits, has_validity, same};
 
 const KEPT: [bool; 3] = [false, true, false];
 

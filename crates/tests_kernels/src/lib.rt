@@ -29,7 +29,7 @@ mod parsed;
 #[cfg(test)]
 mod round_trips;
 #[cfg(test)]
-mod runs;
+mod row_refs;
 #[cfg(test)]
 mod select;
 #[cfg(test)]

@@ -1,11 +1,10 @@
-//! Shared by several files: results of constructors, validities, and columns as long as a mask.
+//! Shared by several files: results of constructors, and columns as long as a mask.
 
 ghost use Rattle.std.specs.Prelude.{◌≡◌, ◌==◌, length};
 
 use sel_arrow::array::Array;
 use sel_bits::bitmap::Bitmap;
 use sel_bits::faults::{MakeError, PolarsError, PolarsResult};
-use tests_bits::fixtures::has_bits;
 
 /// Returns what a constructor returned, with `ComputeError` for parts that break a rule.
 pub fn made<A>(found: Result<A, MakeError>) -> PolarsResult<A> {
@@ -13,14 +12,6 @@ pub fn made<A>(found: Result<A, MakeError>) -> PolarsResult<A> {
         Ok(found) => Ok(found),
         Err(MakeError::OutOfMemory) => Err(PolarsError::OutOfMemory),
         Err(MakeError::Malformed(_)) => Err(PolarsError::ComputeError),
-    }
-}
-
-/// Returns whether these bits are the validity.
-pub fn has_validity(validity: &Option<Bitmap>, bits: &[bool]) -> bool {
-    match validity {
-        Some(validity) => has_bits(validity, bits),
-        None => false,
     }
 }
 

@@ -3,7 +3,7 @@
 ghost use Rattle.std.specs.Prelude.{◌≡◌, ◌≤◌, ◌<◌, ◌↔◌, All, length, map, slice_index_or, IsTrue, IfOk, IfErr};
 ghost use Rattle.sel_bits.specs.Faults.{IsOutOfMemory};
 ghost use Rattle.sel_bits.specs.Limits.{max_rows};
-ghost use Rattle.sel_arrow.specs.Masked.{Covers};
+ghost use Rattle.sel_bits.specs.Validity.{Covers};
 ghost use Rattle.sel_arrow.specs.Rows.{rows};
 ghost use Rattle.sel_c.specs.Several.{pick_in, picks_from};
 ghost use Rattle.sel_c.specs.PickLengths.{HasRow};
@@ -14,7 +14,7 @@ use sel_arrow::array_ref::ArrayRef;
 use sel_arrow::validity::is_valid_at;
 use sel_bits::bitmap::Bitmap;
 use sel_bits::faults::PolarsResult;
-use sel_gather::row_refs::Places;
+use sel_runs::row_refs::Places;
 use std::alloc::Global;
 
 /// Row references read from `words` on access, without a copy; null where the validity is false.

@@ -4,7 +4,7 @@ ghost use Rattle.std.specs.Prelude.{◌≡◌, ◌≤◌, ◌↔◌, [], All, le
 ghost use Rattle.sel_bits.specs.Faults.{IsOutOfMemory};
 ghost use Rattle.sel_bits.specs.Limits.{max_rows};
 ghost use Rattle.sel_arrow.specs.Depth.{depth};
-ghost use Rattle.sel_arrow.specs.Masked.{Covers};
+ghost use Rattle.sel_bits.specs.Validity.{Covers};
 ghost use Rattle.sel_arrow.specs.Rows.{rows, type_of};
 ghost use Rattle.sel_c.specs.Several.{picks_conditions, picks_from, picks_in, AreAlike, CollectsRows, FlattensColumns};
 ghost use Rattle.sel_kernels.specs.Flatten.{array_columns};
@@ -23,8 +23,8 @@ use sel_ffi::status::{
     VALIDITY_LENGTH, put, status_of,
 };
 use sel_gather::gather::collect_plan;
-use sel_gather::row_refs::Walk;
 use sel_kernels::horizontal_flatten::{flatten_is_safe, horizontal_flatten_unchecked};
+use sel_runs::row_refs::Walk;
 use std::alloc::Global;
 
 /// A row reference: a row of one of several columns, both counted from 0.

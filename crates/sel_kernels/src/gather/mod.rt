@@ -44,7 +44,7 @@ pub use sel_gather::checks::picks_in_bounds;
 pub use sel_gather::gather::collect_rows;
 use sel_gather::gather::gather_lists;
 use sel_gather::one_source::collect_one_plan;
-use sel_gather::row_refs::Walk;
+use sel_runs::row_refs::Walk;
 use std::alloc::Global;
 use validity::live_indices;
 

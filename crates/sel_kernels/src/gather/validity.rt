@@ -4,7 +4,7 @@ ghost use Rattle.std.specs.Prelude.{◌≡◌, IsTrue, length, map, IfOk, IfErr}
 ghost use Rattle.std.specs.Option.{ForSome};
 ghost use Rattle.sel_bits.specs.Faults.{IsOutOfMemory};
 ghost use Rattle.sel_arrow.specs.Columns.{primitive_rows};
-ghost use Rattle.sel_gather.specs.Validity.{bits_for};
+ghost use Rattle.sel_bits.specs.Validity.{bits_for};
 ghost use Rattle.sel_kernels.specs.Pick.{all_within, pick_of};
 ghost use Rattle.sel_kernels.specs.ValidPicks.{live_index, valid_pick};
 

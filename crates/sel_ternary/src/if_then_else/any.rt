@@ -29,8 +29,8 @@ use sel_bits::faults::{Limit, PolarsError, PolarsResult};
 use sel_gather::copy::collect_runs;
 use sel_gather::gather::collect_rising;
 use sel_gather::match_number_types;
-use sel_gather::row_refs::{Places, Walk};
-use sel_gather::runs::Run;
+use sel_runs::row_refs::{Places, Walk};
+use sel_runs::runs::Run;
 use std::alloc::Global;
 
 /// Returns a column with row k of `if_true` where bit k of `mask` is set, else row k of `if_false`.

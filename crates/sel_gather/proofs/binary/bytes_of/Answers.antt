@@ -1,4 +1,5 @@
-use Rattle.sel_gather.proofs.{Common.◌∙◌, Common.ap, Common.sym, Common.map, Common.binary_rows, Common.Null, Common.joined_bytes, RunLists.pick_nulls}
+use Rattle.sel_gather.proofs.{Common.◌∙◌, Common.ap, Common.sym, Common.map, Common.binary_rows, Common.Null, Common.joined_bytes}
+use Rattle.sel_runs.proofs.RunLists.{pick_nulls}
 use Rattle.sel_gather.proofs.ValidBytes.{nulls_bytes, source_below, source_inside, source_live, source_picked}
 use Rattle.sel_gather.proofs.binary.bytes_of.Goals as goal
 

@@ -2,7 +2,7 @@ use Rattle.sel_gather.proofs.Common.{◌≡◌, ◌∷◌, ℕ, ℤ, List, ap, s
 use Rattle.sel_gather.proofs.Common.{Null, ends_from, joined_bytes, bytes_needed, pick}
 use Rattle.sel_gather.proofs.JoinedRows.{all_bits, all_bytes, all_ends, built_ends, built_rows, column_bytes, ends_shown, length-joined, offsets_of}
 use Rattle.sel_gather.proofs.JoinedRows.{picked_bytes, rebuilt, rising-ends}
-use Rattle.sel_gather.proofs.RunLists.{length-pick}
+use Rattle.sel_runs.proofs.RunLists.{length-pick}
 use Rattle.sel_gather.proofs.Common.{is_valid, length-map}
 use Rattle.sel_gather.proofs.binary.collect_binary.Goals as goal
 

@@ -1,5 +1,7 @@
 use Rattle.sel_gather.proofs.Common.{◌∙◌, ap, arith, map, take, take_all, unrolled, binary_rows, Null, IsLive, bytes_needed, pick, PickFits}
-use Rattle.sel_gather.proofs.{Walks.picked_run, Walks.run_all, Walks.run_behind, Walks.run_within, Gathers.left_all, JoinedRows.needed-append}
+use Rattle.sel_runs.proofs.Walks.{picked_run, run_all, run_behind, run_within}
+use Rattle.sel_runs.proofs.Gathers.{left_all}
+use Rattle.sel_gather.proofs.{JoinedRows.needed-append}
 use Rattle.sel_gather.proofs.binary.count_bytes.Goals as goal
 
 pub count_run-total-requires : goal.count_run-total-requires
@@ -21,7 +23,7 @@ loop-at-preserved g c =
     let run = c.next_run-run.result in
     let at = c.loop-at.at in
     let inside = run_within ps left _ run at c.loop-at.invariant.rest c.next_run-run.ensures.picks (omega (arith, c.loop-at.invariant.within, c.requires.len)) in
-    let more = ap bytes_needed (picked_run ps left _ run at c.loop-at.invariant.rest c.next_run-run.ensures.picks xss) ∙ needed-append (pick Null xss (take at ps)) (pick Null xss (unrolled run)) in
+    let more = ap bytes_needed (picked_run ps left _ run at c.loop-at.invariant.rest c.next_run-run.ensures.picks Null xss) ∙ needed-append (pick Null xss (take at ps)) (pick Null xss (unrolled run)) in
     record {
       rest = run_behind ps left _ run at c.loop-at.invariant.rest c.next_run-run.ensures.picks;
       within = omega (arith, inside, c.requires.len);

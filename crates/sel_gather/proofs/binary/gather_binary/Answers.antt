@@ -1,5 +1,6 @@
 use Rattle.sel_gather.proofs.Common.{◌∙◌, ap, arith, binary_rows, columns_of, map, rows}
-use Rattle.sel_gather.proofs.{ItemRuns.rows_of, Walks.one_mapped, Walks.two_mapped}
+use Rattle.sel_gather.proofs.{ItemRuns.rows_of}
+use Rattle.sel_runs.proofs.Mapped.{one_mapped, two_mapped}
 use Rattle.sel_gather.proofs.ValidBytes.{binary_collected, shown_fits, shown_live, shown_rows}
 use Rattle.sel_gather.proofs.Common.{All, PickFits, cleared, length, length-map, subst, sym}
 use Rattle.sel_gather.proofs.ItemPicks.{fits_rows}

@@ -1,6 +1,6 @@
 use Rattle.sel_gather.proofs.Common.{◌≡◌, ◌++◌, ◌∙◌, ap, sym, arith, subst, map, pos, ℤ, List, OnOk, binary_rows, Null, ends_from, bytes_needed}
 use Rattle.sel_gather.proofs.ValidBytes.{nulls_ends, same_ends, source_below, source_inside, source_live, source_picked}
-use Rattle.sel_gather.proofs.RunLists.{pick_nulls}
+use Rattle.sel_runs.proofs.RunLists.{pick_nulls}
 use Rattle.sel_gather.proofs.binary.push_ends.Goals as goal
 
 pub bounds-sources-source : goal.bounds-sources-source

@@ -1,7 +1,7 @@
 use Rattle.sel_gather.proofs.Common.{◌∙◌, ◌≤◌, ◌+◌, ap, arith, sym, subst, map, take, take_all, take-map, unrolled, binary_rows, Null, IsLive, GrewBy, bytes_needed, pick, PickFits}
-use Rattle.sel_gather.proofs.Walks.{picked_run, run_all, run_behind, run_within}
+use Rattle.sel_runs.proofs.Walks.{picked_run, run_all, run_behind, run_within}
 use Rattle.sel_gather.proofs.JoinedRows.{grew_length, grew_more, grew_none, needed-append, needed_part}
-use Rattle.sel_gather.proofs.{Gathers.left_all}
+use Rattle.sel_runs.proofs.Gathers.{left_all}
 use Rattle.sel_gather.proofs.binary.push_runs.Goals as goal
 
 pub loop-at-init : goal.loop-at-init
@@ -15,7 +15,7 @@ push_run-requires g c =
     let run = c.next_run-run.result in
     let at = c.loop-at.at in
     let before = pick Null xss (take at ps) in
-    let more = picked_run ps left _ run at c.loop-at.invariant.rest c.next_run-run.ensures.picks xss in
+    let more = picked_run ps left _ run at c.loop-at.invariant.rest c.next_run-run.ensures.picks Null xss in
     let need = ap bytes_needed more ∙ needed-append before (pick Null xss (unrolled run)) in
     let most : bytes_needed (pick Null xss (take (at + run.len) ps)) ≤ bytes_needed (pick Null xss ps) = rw (← take-map) (needed_part (pick Null xss ps) (at + run.len)) in
     record {
@@ -32,7 +32,7 @@ loop-at-preserved g c =
     let run = c.next_run-run.result in
     let at = c.loop-at.at in
     let inside = run_within ps left _ run at c.loop-at.invariant.rest c.next_run-run.ensures.picks (omega (arith, c.loop-at.invariant.within, c.requires.len)) in
-    let more = picked_run ps left _ run at c.loop-at.invariant.rest c.next_run-run.ensures.picks xss in
+    let more = picked_run ps left _ run at c.loop-at.invariant.rest c.next_run-run.ensures.picks Null xss in
     record {
       rest = run_behind ps left _ run at c.loop-at.invariant.rest c.next_run-run.ensures.picks;
       within = omega (arith, inside, c.requires.len);

@@ -1,5 +1,5 @@
 use Rattle.sel_gather.proofs.Common.{◌++◌, ◌∷◌, [], ◌∙◌, ap, arith, pos, w64, to_z_pos}
-use Rattle.sel_gather.proofs.Windows.{repeated_more}
+use Rattle.sel_runs.proofs.Windows.{repeated_more}
 use Rattle.sel_gather.proofs.binary.push_same_ends.Goals as goal
 
 pub loop-preserved : goal.loop-preserved

@@ -1,5 +1,5 @@
 use Rattle.sel_gather.proofs.Common.{All, IfOk-weaker, Null, PickFits, ap, arith, boolean_rows, map, pick, rows, rules, subst, sym, ◌∙◌}
-use Rattle.sel_gather.proofs.Walks.{one_mapped, two_mapped}
+use Rattle.sel_runs.proofs.Mapped.{one_mapped, two_mapped}
 use Rattle.sel_gather.proofs.boolean.gather_boolean.Goals as goal
 
 pub gather_truths-requires : goal.gather_truths-requires

@@ -1,6 +1,8 @@
 use Rattle.sel_gather.proofs.Common.{Some, ◌≡◌, ◌∙◌, length, map, ap, sym, subst, arith, false, length-map, Bits, Covers, hidden, bool_rows, Truth, bit_found}
 use Rattle.sel_gather.proofs.Common.{bits_found}
-use Rattle.sel_gather.proofs.{Hiding.values_fit, Hiding.bits_fit, Hiding.rows_picked, Hiding.truths_fit, Hiding.truths_found, Grown.finished}
+use Rattle.sel_gather.proofs.Hiding.{values_fit, rows_picked}
+use Rattle.sel_runs.proofs.BitPicks.{bits_fit}
+use Rattle.sel_gather.proofs.{Hiding.truths_fit, Hiding.truths_found, Grown.finished}
 use Rattle.sel_gather.proofs.boolean.gather_truths.Goals as goal
 
 pub truths_of-requires : goal.truths_of-requires
@@ -15,7 +17,7 @@ validity_of-requires g c =
     let ps = g.P.Plan.picks c.args.plan.now in
     let arrays = c.args.arrays.now in
     let fits = values_fit (λ s. s.now.values.bits) (λ s. s.now.validity) (λ s. s.now.validity_fits) Truth false arrays ps c.requires in
-    bits_fit (λ s. s.now.values.bits) (λ s. s.now.validity) (λ s. s.now.validity_fits) Truth false arrays ps fits
+    bits_fit (λ s. s.now.values.bits) (λ s. s.now.validity) (λ s. s.now.validity_fits) arrays ps fits
 
 pub into_bitmap-requires : goal.into_bitmap-requires
 into_bitmap-requires g c =

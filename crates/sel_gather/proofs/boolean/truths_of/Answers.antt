@@ -1,5 +1,5 @@
 use Rattle.sel_gather.proofs.Common.{All, HasBit, IfOk-weaker, Some, ap, arith, bits_found, map, option_copied, rules, subst, sym, ◌∙◌}
-use Rattle.sel_gather.proofs.Walks.{one_mapped, two_mapped}
+use Rattle.sel_runs.proofs.Mapped.{one_mapped, two_mapped}
 use Rattle.sel_gather.proofs.boolean.truths_of.Goals as goal
 
 pub gather_bits-requires : goal.gather_bits-requires

@@ -1,5 +1,6 @@
 use Rattle.sel_gather.proofs.Common.{All, HasBit, IfOk-weaker, ap, arith, bits_found, map, option_copied, rules, subst, sym, ◌∙◌}
-use Rattle.sel_gather.proofs.{Gathers.all_none, Gathers.all_there, Walks.one_mapped, Walks.two_mapped}
+use Rattle.sel_runs.proofs.Gathers.{all_none, all_there}
+use Rattle.sel_runs.proofs.Mapped.{one_mapped, two_mapped}
 use Rattle.sel_gather.proofs.boolean.validity_of.Goals as goal
 
 pub returns-then-not-has_validity-clause-bits : goal.returns-then-not-has_validity-clause-bits

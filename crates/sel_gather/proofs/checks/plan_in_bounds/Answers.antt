@@ -1,5 +1,5 @@
 use Rattle.sel_gather.proofs.Common.{◌≡◌, ◌-◌, suc, map, refl, sym, subst, ◌∙◌, arith, rows, PickFits}
-use Rattle.sel_gather.proofs.PlanTests.{IsTested, tested_none, tested_next, tested_here, tested_all}
+use Rattle.sel_runs.proofs.PlanTests.{IsTested, tested_none, tested_next, tested_here, tested_all}
 use Rattle.sel_gather.proofs.checks.plan_in_bounds.Goals as goal
 
 pub loop-left-init : goal.loop-left-init

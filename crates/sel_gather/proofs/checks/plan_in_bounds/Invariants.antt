@@ -1,5 +1,6 @@
 -- The row references so far pass the test.
-use Rattle.sel_gather.proofs.{Common.map, Common.rows, Common.PickFits, PlanTests.IsTested}
+use Rattle.sel_gather.proofs.{Common.map, Common.rows, Common.PickFits}
+use Rattle.sel_runs.proofs.PlanTests.{IsTested}
 use Rattle.sel_gather.proofs.checks.plan_in_bounds.Given as goal
 
 abbrev pub invariant-loop-left : goal.invariant-loop-left

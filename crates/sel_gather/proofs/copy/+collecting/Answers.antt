@@ -7,8 +7,10 @@ use Rattle.sel_arrow.proofs.Types.{type_of-Struct}
 use Rattle.sel_gather.proofs.Below.{block_child_type, found_all, found_map, mapped_now, listed_shapes, refused_more, past_at, parts_more, field_kind}
 use Rattle.sel_gather.proofs.TupleRows.{field_rows, field_type, field_formed, picked_parts, parts_fit}
 use Rattle.sel_gather.proofs.Walks.{children_collected, children_may, children_recurse, lists_child, lists_listing, one_child, two_children}
-use Rattle.sel_gather.proofs.{Depths.size_of, Depths.one_size, ItemRuns.rows_of, ItemRuns.below_of, NullItems.null_items_in, PlanRuns.near_may}
-use Rattle.sel_gather.proofs.{RunLists.length-pick, Within.fields_pass, Within.one_more_passes}
+use Rattle.sel_gather.proofs.{Depths.size_of, Depths.one_size, ItemRuns.rows_of, ItemRuns.below_of, NullItems.null_items_in}
+use Rattle.sel_gather.proofs.NearRows.{near_may}
+use Rattle.sel_runs.proofs.RunLists.{length-pick}
+use Rattle.sel_gather.proofs.{Within.fields_pass, Within.one_more_passes}
 use Rattle.sel_gather.proofs.Common.{◌≤◌, ExceedsRows, joined_items, max_rows}
 use Rattle.sel_gather.proofs.Within.{few_rows_pass, passes_neither}
 use Rattle.sel_gather.proofs.Common.{of_fixed_size_list, of_large_list}

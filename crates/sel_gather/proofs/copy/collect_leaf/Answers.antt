@@ -1,4 +1,5 @@
-use Rattle.sel_gather.proofs.{Common.expand, PlanRuns.near_may}
+use Rattle.sel_gather.proofs.{Common.expand}
+use Rattle.sel_gather.proofs.NearRows.{near_may}
 use Rattle.sel_gather.proofs.Common.{ap, columns_of, type_of, picked}
 use Rattle.sel_gather.proofs.Collected.{plainly}
 use Rattle.sel_gather.proofs.copy.collect_leaf.Goals as goal

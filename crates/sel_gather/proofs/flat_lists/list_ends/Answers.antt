@@ -1,5 +1,6 @@
 use Rattle.sel_gather.proofs.Common.{◌∙◌, ◌<◌, ◌+◌, ◌++◌, ◌∷◌, [], ap, arith, refl, sym, w64, to_z_pos, PickFits, Null, item_ends, joined_items, length, map, pick, pos, take_all}
-use Rattle.sel_gather.proofs.{Gathers.next_all, Gathers.rest_is, ItemPicks.counted_below, ItemPicks.counted_more, ItemPicks.ended_more, ItemRuns.rows_of}
+use Rattle.sel_runs.proofs.Gathers.{next_all, rest_is}
+use Rattle.sel_gather.proofs.{ItemPicks.counted_below, ItemPicks.counted_more, ItemPicks.ended_more, ItemRuns.rows_of}
 use Rattle.sel_gather.proofs.flat_lists.list_ends.Goals as goal
 
 pub run_of_list-list-requires-clause-fits : goal.run_of_list-list-requires-clause-fits

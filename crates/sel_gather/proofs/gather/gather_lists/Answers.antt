@@ -1,6 +1,7 @@
 use Rattle.sel_gather.proofs.{Common.type_of, Walks.lists_child, Walks.lists_listing}
 use Rattle.sel_gather.proofs.Common.{◌≡◌, ◌≤◌, ◌∙◌, ExceedsNone, ExceedsRows, Null, ap, arith, child, columns_of, exceeded_taken, expand, joined_items, length, map, max_rows, pick, rules, subst}
-use Rattle.sel_gather.proofs.{ItemRuns.below_of, ItemRuns.rows_of, RunLists.length-pick, Within.few_rows_pass, Within.passes_neither}
+use Rattle.sel_gather.proofs.{ItemRuns.below_of, ItemRuns.rows_of, Within.few_rows_pass, Within.passes_neither}
+use Rattle.sel_runs.proofs.RunLists.{length-pick}
 use Rattle.sel_gather.proofs.Common.{of_large_list, sym}
 use Rattle.sel_gather.proofs.gather.gather_lists.Goals as goal
 

@@ -1,5 +1,5 @@
 use Rattle.sel_gather.proofs.Common.{◌++◌, ap, sym, ◌∙◌, IfOk-weaker, Null}
-use Rattle.sel_gather.proofs.RunLists.{run_there, pick_run, pick_nulls}
+use Rattle.sel_runs.proofs.RunLists.{run_there, pick_run, pick_nulls}
 use Rattle.sel_gather.proofs.growable.extend_run.Goals as goal
 
 pub extend-requires-clause-source : goal.extend-requires-clause-source

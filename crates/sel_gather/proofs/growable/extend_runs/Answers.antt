@@ -1,6 +1,6 @@
 use Rattle.sel_gather.proofs.Common.{◌++◌, All, List, length, take, ap, sym, subst, ◌∙◌, arith, refl, append_assoc, length-append, append-nil, take_all, Value}
 use Rattle.sel_gather.proofs.Common.{Null, pick, PickFits, expand, unrolled}
-use Rattle.sel_gather.proofs.RunLists.{all_at, room_at, pick_more, length-pick, run_at}
+use Rattle.sel_runs.proofs.RunLists.{all_at, room_at, pick_more, length-pick, run_at}
 use Rattle.sel_gather.proofs.growable.extend_runs.Goals as goal
 
 pub loop-run-init : goal.loop-run-init

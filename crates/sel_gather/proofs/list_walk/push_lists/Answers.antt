@@ -1,7 +1,8 @@
 use Rattle.sel_gather.proofs.Common.{◌≡◌, ◌∙◌, ◌++◌, ◌∷◌, [], ◌+◌, ◌<◌, arith, ap, sym, map, pos, w64, length, length-append, take, refl, to_z_pos, Null, All}
 use Rattle.sel_gather.proofs.Common.{All-append, err_from_is_err_and, found, map-append, subst, PickFits, joined_items, item_ends, pick, expand, unrolled}
 use Rattle.sel_gather.proofs.ItemRuns.{rows_of, below_of, counted_row, joined_part, ends_more, items_more, pushed_fit, all_rows}
-use Rattle.sel_gather.proofs.{RunLists.length-pick, ValidLists.valid_count, ValidLists.valid_ends, ValidLists.valid_fit, ValidLists.valid_items}
+use Rattle.sel_runs.proofs.RunLists.{length-pick}
+use Rattle.sel_gather.proofs.{ValidLists.valid_count, ValidLists.valid_ends, ValidLists.valid_fit, ValidLists.valid_items}
 use Rattle.sel_gather.proofs.list_walk.push_lists.Goals as goal
 
 -- ---- lists of which none is null

@@ -1,8 +1,10 @@
 use Rattle.sel_gather.proofs.Common.{◌≤◌, ◌∙◌, ◌++◌, ◌∷◌, [], ◌+◌, arith, ap, sym, subst, All, length-append, length, take, err_from_is_err_and, Null}
 use Rattle.sel_gather.proofs.Common.{item_ends, map, pos, refl, rules, joined_items, ExceedsRows, pick, PickFits, expand, unrolled, take_all}
-use Rattle.sel_gather.proofs.Walks.{picked_run, run_behind, run_within, run_all, items_behind, counts_behind, ends_behind, joined_first, past_more}
-use Rattle.sel_gather.proofs.{Below.refused_more, Gathers.left_all, ItemRuns.rows_of, ItemRuns.below_of, RunLists.length-unrolled, RunLists.expand-push}
-use Rattle.sel_gather.proofs.{RunLists.length-pick}
+use Rattle.sel_runs.proofs.Walks.{picked_run, run_behind, run_within, run_all}
+use Rattle.sel_gather.proofs.Walks.{items_behind, counts_behind, ends_behind, joined_first, past_more}
+use Rattle.sel_gather.proofs.{Below.refused_more, ItemRuns.rows_of, ItemRuns.below_of}
+use Rattle.sel_runs.proofs.Gathers.{left_all}
+use Rattle.sel_runs.proofs.RunLists.{length-unrolled, expand-push, length-pick}
 use Rattle.sel_gather.proofs.list_walk.walk_lists.Goals as goal
 
 pub push_lists-requires-clause-fits : goal.push_lists-requires-clause-fits
@@ -24,7 +26,7 @@ loop-at-preserved g c =
     let before = pick Null xss (take c.loop-at.at ps) in
     let more = pick Null xss (unrolled run) in
     let now = pick Null xss (take (c.loop-at.at + run.len) ps) in
-    let is = picked_run ps left _ run c.loop-at.at c.loop-at.invariant.rest c.next_run-run.ensures.picks xss in
+    let is = picked_run ps left _ run c.loop-at.at c.loop-at.invariant.rest c.next_run-run.ensures.picks Null xss in
     let inside = run_within ps left _ run c.loop-at.at c.loop-at.invariant.rest c.next_run-run.ensures.picks (omega (arith, c.loop-at.invariant.within, c.len-len.ensures.len)) in
     record {
       rest = run_behind ps left _ run c.loop-at.at c.loop-at.invariant.rest c.next_run-run.ensures.picks;
@@ -43,7 +45,7 @@ returns-in_err-end-clause-refusal g c =
     let before = pick Null xss (take c.loop-at.at ps) in
     let more = pick Null xss (unrolled run) in
     let now = pick Null xss (take (c.loop-at.at + run.len) ps) in
-    let is = picked_run ps (g.P.Plan.picks c.loop-at.rest) _ run c.loop-at.at c.loop-at.invariant.rest c.next_run-run.ensures.picks xss in
+    let is = picked_run ps (g.P.Plan.picks c.loop-at.rest) _ run c.loop-at.at c.loop-at.invariant.rest c.next_run-run.ensures.picks Null xss in
     let so_far = c.loop-at.end + length (joined_items 0 more) in
     let counted = counts_behind 0 now before more c.loop-at.end so_far is c.loop-at.invariant.count (omega arith) in
     let below : so_far ≤ length (joined_items 0 (pick Null xss ps)) = omega (arith, counted, joined_first 0 xss ps (c.loop-at.at + run.len)) in

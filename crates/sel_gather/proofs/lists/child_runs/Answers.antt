@@ -1,6 +1,6 @@
 use Rattle.sel_gather.proofs.Common.{◌∙◌, ap, sym, length, max_rows, Null, joined_items, pick, PickFits, expand}
 use Rattle.sel_gather.proofs.ItemRuns.{rows_of, below_of, items_of_run, run_items_room, all_runs}
-use Rattle.sel_gather.proofs.RunLists.{all_at, length-pick}
+use Rattle.sel_runs.proofs.RunLists.{all_at, length-pick}
 use Rattle.sel_gather.proofs.lists.child_runs.Goals as goal
 
 pub push_items-requires-clause-fits : goal.push_items-requires-clause-fits

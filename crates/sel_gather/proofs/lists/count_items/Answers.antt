@@ -1,5 +1,5 @@
 use Rattle.sel_gather.proofs.Common.{◌∙◌, arith, length, ap, length-append, take, Null, joined_items, pick, PickFits, expand, unrolled}
-use Rattle.sel_gather.proofs.RunLists.{all_at, room_at, length_more, run_at}
+use Rattle.sel_runs.proofs.RunLists.{all_at, room_at, length_more, run_at}
 use Rattle.sel_gather.proofs.ItemRuns.{rows_of, joined_run, all_runs}
 use Rattle.sel_gather.proofs.lists.count_items.Goals as goal
 

@@ -1,5 +1,7 @@
 use Rattle.sel_gather.proofs.Common.{◌≡◌, ◌+◌, ap, sym, subst, rules, item_picks, unrolled}
-use Rattle.sel_gather.proofs.{ItemPicks.row_inside, ItemPicks.row_items, PlanRuns.first_of, PlanRuns.near_at}
+use Rattle.sel_gather.proofs.{ItemPicks.row_inside, ItemPicks.row_items}
+use Rattle.sel_gather.proofs.NearRows.{near_at}
+use Rattle.sel_runs.proofs.PlanRuns.{first_of}
 use Rattle.sel_gather.proofs.lists.run_of_row.Goals as goal
 
 pub returns-in_default : goal.returns-in_default

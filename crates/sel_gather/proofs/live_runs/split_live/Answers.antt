@@ -1,6 +1,7 @@
 use Rattle.sel_gather.proofs.Common.{◌≡◌, ◌∙◌, All, append-nil, arith, IsWellFormed, length-rows, option_copied, ap, PickFits, subst, sym, unrolled}
 use Rattle.sel_gather.proofs.SplitRuns.{split_all, split_inside, bits_long, kept_first, whole_run, null_picks}
-use Rattle.sel_gather.proofs.{ItemRuns.rows_of, ItemRuns.source_there, ListParts.few_rows, RunLists.All-right}
+use Rattle.sel_gather.proofs.{ItemRuns.rows_of, ItemRuns.source_there, ListParts.few_rows}
+use Rattle.sel_runs.proofs.RunLists.{All-right}
 use Rattle.sel_gather.proofs.live_runs.split_live.Goals as goal
 
 pub returns-in_default-clause-picks : goal.returns-in_default-clause-picks

@@ -1,5 +1,6 @@
 use Rattle.sel_gather.proofs.Common.{◌≡◌, ◌∙◌, true, ap, arith, length, rows, type_of, well_formed, Null, pick, joined_items, blocks_formed}
-use Rattle.sel_gather.proofs.{ItemRuns.rows_of, Layouts.picked_blocks, Rebuilt.blocks_rebuilt, Rebuilt.blocks_fit, RunLists.length-pick, Walks.blocks_known}
+use Rattle.sel_gather.proofs.{ItemRuns.rows_of, Layouts.picked_blocks, Rebuilt.blocks_rebuilt, Rebuilt.blocks_fit, Walks.blocks_known}
+use Rattle.sel_runs.proofs.RunLists.{length-pick}
 use Rattle.sel_gather.proofs.Common.{of_fixed_size_list}
 use Rattle.sel_gather.proofs.nested.blocks_over.Goals as goal
 

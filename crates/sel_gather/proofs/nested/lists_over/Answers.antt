@@ -1,7 +1,8 @@
 use Rattle.sel_gather.proofs.Common.{◌≡◌, ◌∙◌, ◌∷◌, true, ap, sym, length, arith, rows, type_of, well_formed, Null, lists_formed, joined_items, item_ends, pick}
 use Rattle.std.specs.Prelude.{ℤ}
 use Rattle.sel_gather.proofs.{ItemRuns.rows_of, JoinedRows.offsets_of, JoinedRows.same_numbers, JoinedRows.map_same, Layouts.picked_lists, Rebuilt.rising_ends}
-use Rattle.sel_gather.proofs.{Rebuilt.lists_rebuilt, Rebuilt.lists_fit, RunLists.length-pick, Walks.lists_known}
+use Rattle.sel_gather.proofs.{Rebuilt.lists_rebuilt, Rebuilt.lists_fit, Walks.lists_known}
+use Rattle.sel_runs.proofs.RunLists.{length-pick}
 use Rattle.sel_gather.proofs.Common.{of_large_list}
 use Rattle.sel_gather.proofs.nested.lists_over.Goals as goal
 

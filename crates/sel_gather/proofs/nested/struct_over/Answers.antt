@@ -1,6 +1,7 @@
 use Rattle.sel_gather.proofs.Common.{◌≡◌, ◌∙◌, ap, subst, length, map, get_or, length-map, rows, type_of, shapes_of, shape_list, Null, pick, expand}
 use Rattle.sel_arrow.proofs.{Trees.rows-Struct, Trees.fields_make, Types.type_of-Struct}
-use Rattle.sel_gather.proofs.{Below.listed_shapes, ItemRuns.rows_of, Rebuilt.IsTuple, Rebuilt.tuples_rebuilt, Layouts.picked_tuples, RunLists.length-pick}
+use Rattle.sel_gather.proofs.{Below.listed_shapes, ItemRuns.rows_of, Rebuilt.IsTuple, Rebuilt.tuples_rebuilt, Layouts.picked_tuples}
+use Rattle.sel_runs.proofs.RunLists.{length-pick}
 use Rattle.sel_gather.proofs.nested.struct_over.Goals as goal
 
 pub returns-clause-rows : goal.returns-clause-rows

@@ -1,5 +1,7 @@
 use Rattle.sel_gather.proofs.Common.{◌≡◌, length, map, ap, sym, ◌∙◌, arith, option_copied, hidden, number_rows, Value, Number, bits_found}
-use Rattle.sel_gather.proofs.{Grown.finished, RunLists.length-pick, Hiding.values_fit, Hiding.rows_picked}
+use Rattle.sel_gather.proofs.{Grown.finished}
+use Rattle.sel_runs.proofs.RunLists.{length-pick}
+use Rattle.sel_gather.proofs.Hiding.{values_fit, rows_picked}
 use Rattle.sel_gather.proofs.primitive.gather_numbers.Goals as goal
 
 pub gather_parts-requires : goal.gather_parts-requires

@@ -1,5 +1,5 @@
 use Rattle.sel_gather.proofs.Common.{All, IfOk-weaker, Null, PickFits, ap, arith, map, number_rows, option_copied, pick, rows, rules, subst, sym, ◌∙◌}
-use Rattle.sel_gather.proofs.Walks.{one_mapped, two_mapped}
+use Rattle.sel_runs.proofs.Mapped.{one_mapped, two_mapped}
 use Rattle.sel_gather.proofs.primitive.gather_primitive.Goals as goal
 
 pub gather_numbers-requires : goal.gather_numbers-requires

@@ -1,6 +1,7 @@
 use Rattle.sel_gather.proofs.Common.{◌∙◌, ◌<◌, ◌+◌, ◌∷◌, ap, arith, subst, sym, w64, to_z_pos, PickFits, Run, Some, Null, item_ends, joined_items, length, map, pick, pos, take_all}
 use Rattle.sel_gather.specs.Spans.{AreStarts}
-use Rattle.sel_gather.proofs.{Gathers.next_all, Gathers.rest_is, ItemRuns.rows_of, ItemSpans.started_more}
+use Rattle.sel_runs.proofs.Gathers.{next_all, rest_is}
+use Rattle.sel_gather.proofs.{ItemRuns.rows_of, ItemSpans.started_more}
 use Rattle.sel_gather.proofs.ItemPicks.{counted_below, counted_more, ended_more}
 use Rattle.sel_gather.proofs.spans.list_spans.Goals as goal
 

@@ -1,4 +1,5 @@
-use Rattle.sel_gather.proofs.{Common.◌∙◌, Common.cleared, Common.expand, Common.length-map, ItemRuns.rows_of, PlanRuns.near_may, ValidBytes.cleared_near}
+use Rattle.sel_gather.proofs.{Common.◌∙◌, Common.cleared, Common.expand, Common.length-map, ItemRuns.rows_of, ValidBytes.cleared_near}
+use Rattle.sel_gather.proofs.NearRows.{near_may}
 use Rattle.sel_gather.proofs.structs.split_runs.Goals as goal
 
 pub invariant_of-rows : goal.invariant_of-rows

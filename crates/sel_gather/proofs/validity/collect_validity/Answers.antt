@@ -1,4 +1,5 @@
-use Rattle.sel_gather.proofs.{Common.expand, PlanRuns.near_may}
+use Rattle.sel_gather.proofs.{Common.expand}
+use Rattle.sel_gather.proofs.NearRows.{near_may}
 use Rattle.sel_gather.proofs.validity.collect_validity.Goals as goal
 
 pub invariant_of-plan : goal.invariant_of-plan

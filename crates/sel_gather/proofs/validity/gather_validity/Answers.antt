@@ -1,5 +1,6 @@
 use Rattle.sel_gather.proofs.Common.{◌≡◌, ◌∙◌, ◌∷◌, [], All, None, ap, sym, subst, map, refl, arith, option_copied, IfOk-weaker, HasBit, bits_found}
-use Rattle.sel_gather.proofs.{Walks.none_told, Walks.one_told, Walks.told_fits, Walks.told_picked, Walks.two_told, Gathers.all_none, Gathers.all_there}
+use Rattle.sel_gather.proofs.{Walks.none_told, Walks.one_told, Walks.told_fits, Walks.told_picked, Walks.two_told}
+use Rattle.sel_runs.proofs.Gathers.{all_none, all_there}
 use Rattle.sel_gather.proofs.validity.gather_validity.Goals as goal
 
 pub returns-in-len1-clause-bits : goal.returns-in-len1-clause-bits

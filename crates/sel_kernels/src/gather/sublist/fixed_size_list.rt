@@ -3,7 +3,8 @@
 ghost use Rattle.std.specs.Prelude.{◌≡◌, ◌≤◌, ◌<◌, false, map, length, IfOk, IfErr, IfSome};
 ghost use Rattle.std.specs.Option.{option_copied};
 ghost use Rattle.sel_arrow.specs.Columns.{primitive_rows};
-ghost use Rattle.sel_arrow.specs.Masked.{number_value, valid_at};
+ghost use Rattle.sel_arrow.specs.Masked.{number_value};
+ghost use Rattle.sel_bits.specs.Validity.{valid_at};
 ghost use Rattle.sel_arrow.specs.NestedArrays.{block_column};
 ghost use Rattle.sel_arrow.specs.Rows.{rows, type_of};
 ghost use Rattle.sel_arrow.specs.Value.{Number};
@@ -24,7 +25,7 @@ use sel_bits::bitmap::Bitmap;
 use sel_bits::faults::{PolarsError, PolarsResult};
 use sel_bits::number::negative_to_usize;
 use sel_gather::one_source::collect_one_plan;
-use sel_gather::row_refs::{Places, Walk};
+use sel_runs::row_refs::{Places, Walk};
 use std::alloc::Global;
 
 /// Returns a column whose row k is the element of list k at `index`.

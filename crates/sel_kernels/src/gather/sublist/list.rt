@@ -31,7 +31,7 @@ use sel_bits::number::negative_to_usize;
 use sel_bits::offsets::OffsetsBuffer;
 use sel_bits::packer::BitPacker;
 use sel_gather::one_source::collect_one_plan;
-use sel_gather::row_refs::{Places, Walk};
+use sel_runs::row_refs::{Places, Walk};
 use std::alloc::Global;
 
 /// The number of lists that are looked at before it is known whether the index is out of bounds for

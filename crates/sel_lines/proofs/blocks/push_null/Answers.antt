@@ -1,5 +1,6 @@
 use Rattle.std.proofs.Common.{◌+◌, ◌∙◌, pos, true, false, replicate, sym, refl, arith, vec_len}
-use Rattle.sel_gather.proofs.{Windows.resized, ItemRuns.listed_values}
+use Rattle.sel_runs.proofs.Windows.{resized}
+use Rattle.sel_gather.proofs.{ItemRuns.listed_values}
 use Rattle.sel_lines.proofs.{Common.length-replicate, ReadBlocks.block_more, ReadBlocks.plain_zeros}
 use Rattle.sel_lines.proofs.blocks.push_null.Goals as goal
 

@@ -1,5 +1,6 @@
 use Rattle.sel_gather.proofs.Common.{All-append, IsRow, unrolled}
-use Rattle.sel_gather.proofs.{ItemPicks.fits_rows, ItemPicks.rows_fit_all, ItemRuns.rows_of, RunLists.All-left, RunLists.All-right}
+use Rattle.sel_gather.proofs.{ItemPicks.fits_rows, ItemPicks.rows_fit_all, ItemRuns.rows_of}
+use Rattle.sel_runs.proofs.RunLists.{All-left, All-right}
 use Rattle.sel_gather.proofs.Common.{◌++◌, ◌∙◌, ap, append_assoc, cleared, map, map-append, sym}
 use Rattle.sel_gather.proofs.live_runs.LiveRunsRuns.next_run.Goals as goal
 

@@ -2,7 +2,7 @@ use Rattle.sel_gather.proofs.Common.{◌<◌, ◌+◌, ◌≤◌, ◌++◌, List
 use Rattle.sel_gather.proofs.Common.{hidden, Value, view_value}
 use Rattle.sel_arrow.proofs.ViewRows.{length-view_rows}
 use Rattle.sel_gather.proofs.Raising.{grown_views, source_behind, source_room, starts_long, views_lengths, views_placed}
-use Rattle.sel_gather.proofs.Grown.{source_rows}
+use Rattle.sel_runs.proofs.Mapped.{source_rows}
 use Rattle.sel_gather.proofs.view.GrowableViewsGrowable.extend.Goals as goal
 
 pub bounds-starts-source : goal.bounds-starts-source

@@ -1,5 +1,5 @@
 use Rattle.std.proofs.Common.{◌∙◌, All, sym, subst}
-use Rattle.sel_gather.specs.Plans.{IsPicked}
+use Rattle.sel_runs.specs.Plans.{IsPicked}
 use Rattle.sel_c.{specs.Several.picks_from, proofs.PickWords.is_gone, proofs.PickWords.words_picked}
 use Rattle.sel_c.proofs.calls.picks.WordPlacesPlaces.has_nulls.Goals as goal
 

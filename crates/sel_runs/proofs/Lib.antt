@@ -1,0 +1,10 @@
+pub mod BitPicks
+pub mod Common
+pub mod Gathers
+pub mod Mapped
+pub mod PlanRuns
+pub mod PlanTests
+pub mod ReadEach
+pub mod RunLists
+pub mod Walks
+pub mod Windows

@@ -1,0 +1,10 @@
+use Rattle.sel_runs.proofs.Common.{◌≡◌, ◌≤◌, take, drop, ◌∷◌, [], vec_len, vec_capacity, pick}
+use Rattle.sel_runs.proofs.gather_values.gather_one.Given as goal
+
+abbrev pub invariant-loop-k : goal.invariant-loop-k
+invariant-loop-k g l = record {
+  values : l.values.items ≡ pick l.zero (l.from ∷ []) (take l.k (g.P.Plan.picks l.plan));
+  rest : g.P.Plan.picks l.rest ≡ drop l.k (g.P.Plan.picks l.plan);
+  count : vec_len l.values ≡ l.k;
+  room : l.len ≤ vec_capacity l.values;
+}
