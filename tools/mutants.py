@@ -57,7 +57,8 @@ class Mutant:
                 self.pairs.append((old, line[len("new: "):]))
         text = (path.parent.parent / self.file).read_text()
         self.applied(text)
-        before = text[:text.index(self.pairs[0][0])]
+        # up to the end of the line in which the change begins, since that may be the function's first
+        before = text[:text.index("\n", text.index(self.pairs[0][0]))]
         self.names = names_at(self.file, before)
         # the place of the changed function: its file, and how many functions begin before it there
         self.place = self.file, len(HEAD.findall(before)) - 1
@@ -99,6 +100,8 @@ def names_at(file: str, before: str) -> list[str]:
     indent, _, name = HEAD.findall(before)[-1]
     module = [part for part in pathlib.Path(file).with_suffix("").parts[1:] if part not in ("mod", "lib", "main")]
     by_module = ["::".join([*module[-1:], name]), name]
+    # (the prover's name of `impl From<A> for B` is `BFromA`)
+    before = re.sub(r"(?m)^impl(?:<\w+: Drop>)? (\w+)<(\w+)(?:<\w+>)?> for ", r"impl \1\2 for ", before)
     heads = re.findall(r"(?m)^(?:impl(?:<.*>)? (?:([\w:]+)(?:<.*>)? for )?([\w:]+)(<.*>)?|(?:pub )?trait (\w+))", before)
     if not indent or not heads:
         return by_module
