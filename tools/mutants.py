@@ -106,9 +106,11 @@ def names_at(file: str, before: str) -> list[str]:
     if not indent or not heads:
         return by_module
     trait, kind, arguments, own = heads[-1]
-    numbers = "".join(name.capitalize() for name in re.findall(r"\b(?:[iu]\d+|[iu]size|bool)\b", arguments))
+    # (`impl T for A<i64>` is `AI64T`, `impl A<i64>` is `A+i64`)
+    numbers = re.findall(r"\b(?:[iu]\d+|[iu]size|bool)\b", arguments)
+    of_numbers = "".join(name.capitalize() if trait else f"+{name}" for name in numbers)
     name_of_kind = kind.split("::")[-1]
-    owner = own or f"{name_of_kind[:1].upper()}{name_of_kind[1:]}{numbers}{trait.split('::')[-1]}"
+    owner = own or f"{name_of_kind[:1].upper()}{name_of_kind[1:]}{of_numbers}{trait.split('::')[-1]}"
     return [f"{owner}::{name}", *by_module]
 
 
