@@ -35,6 +35,8 @@ from prover import crates_below, lines, words  # noqa: E402
 
 # the first line of a function: its indentation, what keeps it from calling other functions of the crate, and its name
 HEAD = re.compile(r'(?m)^([ \t]*)(?:pub(?:\([a-z]+\))? )?((?:const )?(?:extern "C" )?)fn (\w+)')
+# the line of a constant: its indentation and its name
+CONSTANT = re.compile(r"([ \t]*)(?:pub )?const (\w+): ")
 # a function: its file, and how many functions begin before it there
 Place = tuple[str, int]
 # errors about a name that the mutant has removed: with such an error the prover has not tried the contract itself
@@ -57,12 +59,11 @@ class Mutant:
                 self.pairs.append((old, line[len("new: "):]))
         text = (path.parent.parent / self.file).read_text()
         self.applied(text)
-        # up to the end of the line in which the change begins, since that may be the function's first
-        before = text[:text.index("\n", text.index(self.pairs[0][0]))]
+        before = self.up_to_change(text)
         self.names = names_at(self.file, before)
         # the place of the changed function: its file, and how many functions begin before it there
         self.place = self.file, len(HEAD.findall(before)) - 1
-        self.repeatable = is_repeatable(text, self.place[1], before)
+        self.repeatable = not constant_at(before) and is_repeatable(text, self.place[1], before)
         # what is appended to the function's name in the copy of the crate, if another mutant of the function has its own name there
         self.suffix = ""
 
@@ -73,6 +74,18 @@ class Mutant:
                 sys.exit(f"{self.path.relative_to(ROOT)}: this text occurs {text.count(old)} times in {self.file}: {old}")
             text = text.replace(old, new)
         return text
+
+    def up_to_change(self, text: str) -> str:
+        """Returns the text up to the end of the line in which the last change begins, since that line may be the first of its function.
+
+        The changes before it may only make its text unique. Those above all functions import a name, and do not count.
+        """
+        before = ""
+        for old, new in self.pairs:
+            head = text[:text.index("\n", text.index(old))]
+            before = head if HEAD.search(head) else before
+            text = text.replace(old, new)
+        return before
 
     def called(self) -> list[str]:
         """Returns the names that the prover may use for the changed function in the copy of the crate."""
@@ -95,9 +108,18 @@ class Mutant:
         return True
 
 
+def constant_at(before: str) -> tuple[str, str] | None:
+    """Returns the indentation and the name of the constant in the last line of the text, or None."""
+    found = CONSTANT.match(before.rsplit("\n", 1)[-1])
+    return (found[1], found[2]) if found else None
+
+
 def names_at(file: str, before: str) -> list[str]:
-    """Returns the names that the prover may use for the last function that begins in this text: by type and trait, by module, or alone."""
-    indent, _, name = HEAD.findall(before)[-1]
+    """Returns the names that the prover may use for the constant in the last line of this text, or the last function that begins in it.
+
+    They are by type and trait, by module, or alone.
+    """
+    indent, name = constant_at(before) or HEAD.findall(before)[-1][::2]
     module = [part for part in pathlib.Path(file).with_suffix("").parts[1:] if part not in ("mod", "lib", "main")]
     by_module = ["::".join([*module[-1:], name]), name]
     # (the prover's name of `impl From<A> for B` is `BFromA`)
