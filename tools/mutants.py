@@ -83,7 +83,7 @@ class Mutant:
         before = ""
         for old, new in self.pairs:
             head = text[:text.index("\n", text.index(old))]
-            before = head if HEAD.search(head) else before
+            before = head if HEAD.search(head) or constant_at(head) else before
             text = text.replace(old, new)
         return before
 

@@ -142,7 +142,8 @@ pub fn gather_parts<P: Plan, T: Copy + Drop>(
 
 /// Returns whether every non-null row reference of `plan` refers to a value of a source.
 pub fn plan_has_values<P: Plan, T: Copy>(parts: &[Part<T>], plan: &P) -> bool
-    ensures { IsTrue result ↔ All (PickFits (map (λ s. s.values.now) parts.now)) (P.picks plan.now) }
+    ensures { IsTrue result ↔
+        All (PickFits (map (λ s. s.values.now) parts.now)) (P.picks plan.now) }
 {
     let mut rest = plan.again();
     let mut left = plan.len();

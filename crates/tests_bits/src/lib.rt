@@ -1,5 +1,6 @@
 //! Tests of bitmaps, buffers, numbers and counted readers, of filters of bits and of values, of row
-//! references and runs, and of columns without children. And the bounds `Send` and `Sync` of every type of column.
+//! references and runs, and of columns without children. And the bounds `Send` and `Sync` of every
+//! type of column.
 //! The modules `alloc_*` mark where a call begins and ends, so that `tools/refuse` can make each of
 //! its allocations fail.
 #![tactic(auto)]
