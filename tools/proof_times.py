@@ -4,7 +4,7 @@
 tools/proof_times.py CRATE [COUNT]          the COUNT (30) functions and lemma files that take most
 tools/proof_times.py CRATE --tests [COUNT]  the same of the crate with its tests
 
-The libraries below the crate must be built, by `make lib` or `make test`. The crate is checked from nothing by one process, which writes each
+The libraries below the crate must be built, by `make lib` or `make test`. The crate is checked without cached proofs by one process, which writes each
 module of a proof as soon as it is checked; a module took the time since the one before. So nothing else should run meanwhile. The columns are
 seconds: all of it; the borrow check; the proof of the contract, with its lemmas by hand; and the rest, such as memory layouts.
 """
