@@ -4,9 +4,10 @@
 tools/proof_times.py CRATE [COUNT]          the COUNT (30) functions and lemma files that take most
 tools/proof_times.py CRATE --tests [COUNT]  the same of the crate with its tests
 
-The libraries below the crate must be built, by `make lib` or `make test`. The crate is checked without cached proofs by one process, which writes each
-module of a proof as soon as it is checked; a module took the time since the one before. So nothing else should run meanwhile. The columns are
-seconds: all of it; the borrow check; the proof of the contract, with its lemmas by hand; and the rest, such as memory layouts.
+The libraries below the crate must be built, by `make lib` or `make test`. The crate is checked without cached proofs by one process, which writes
+each module of a proof as soon as it is checked: the time of a module is counted from the one before. So nothing else should run meanwhile. The
+columns are seconds: all of it; the borrow check; the proof of the contract, with the lemmas that are written by hand; and the rest, such as
+memory layouts.
 """
 
 from __future__ import annotations
@@ -28,9 +29,9 @@ from prover import lines, words  # noqa: E402
 BORROWS, PROOF, REST = "borrows", "proof", "rest"
 # the parts of a function's proof, each in a module of its own: `proofs.FUNCTION.PART`
 PARTS = {
-    "Lts": BORROWS, "Proof": PROOF, "Answers": PROOF, "Invariants": PROOF, "Goals": PROOF, "Facts": PROOF, "Given": PROOF,
-    "Carried": REST, "Code": REST, "Key": REST, "Kinds": REST, "Layout": REST, "Met": REST, "Mir": REST, "Named": REST, "Reads": REST,
-    "Statement": REST, "Symbol": REST, "TheLink": REST, "Tie": REST, "View": REST,
+    "Lts": BORROWS, "Proof": PROOF, "Answers": PROOF, "Invariants": PROOF, "Goals": PROOF, "Given": PROOF,
+    "Carried": REST, "Code": REST, "Key": REST, "Kinds": REST, "Layout": REST, "Met": REST, "Named": REST, "Reads": REST, "Statement": REST,
+    "Symbol": REST, "TheLink": REST, "Tie": REST,
 }
 
 
@@ -68,7 +69,7 @@ def place(module: str) -> tuple[str, str]:
 
 def main() -> None:
     names = [word for word in sys.argv[1:] if word != "--tests"]
-    if not 1 <= len(names) <= 2 or names[0] not in lines() or not all(name.isdigit() for name in names[1:]):
+    if not 1 <= len(names) <= 2 or names[0] not in lines() or not all(name.isdecimal() for name in names[1:]):
         sys.exit(__doc__)
     columns = [BORROWS, PROOF, REST]
     spent: dict[str, dict[str, float]] = collections.defaultdict(lambda: dict.fromkeys(columns, 0.0))
